@@ -1,37 +1,7 @@
 -- Each given list of entries is in ascending order.
-use Rattle.std.proofs.Common.{◌≡◌, ℕ, ℤ, ◌≤◌, arith, Bool, true, false, cond, ◌&&◌, List, [], ◌∷◌, ◌++◌, map, Option, Some, None, Result, Ok, Err, is_none, refl, sym, subst}
-use Rattle.std.specs.Prelude.{Contains, filter, slice_get}
-use Rattle.std.specs.List.{find}
-use Rattle.tcap_parts.specs.declared.component.Component.{Component}
+use Rattle.tcap_grounds.proofs.Common.{◌≡◌, ℕ, ℤ, ◌≤◌, arith, Bool, true, false, cond, ◌&&◌, List, [], ◌∷◌, ◌++◌, map, Option, Some, None, Result, Ok, Err, is_none, refl, sym, subst, Contains, filter, slice_get, find, Component, Message, cause_in, dialogue_in, dtid_in, otid_in, Side, Entry, other, is_response, Table, Reason, Item, Sent, ended_by, item_of, Refutation, is_a, is_begin_with_request, has_not, goes_on_to, is_cause, is_sort, How, Accepted, Begun, Nowhere, Refused, Unanswered, Sort, What, grounds_of, mark_scene, Numbered, in_order, sent_before, invocations_at, Scene, has_request, heard_by, invoked_by, is_open_continue, is_that, own_begin, own_id, shown, since_first, there, to_half, told_there, went_elsewhere, with_sort, with_sort_in, IsAscending, invokes_listed, component_with, scene_at}
 use Rattle.tcap_msg.specs.declared.kind.Kind.TheVariants as forms
-use Rattle.tcap_msg.specs.declared.message.Message.{Message}
-use Rattle.tcap_msg.specs.Parts.{cause_in, dialogue_in, dtid_in, otid_in}
-use Rattle.tcap_record.specs.declared.entry.End.{End as Side}
-use Rattle.tcap_record.specs.declared.entry.Entry.{Entry}
-use Rattle.tcap_record.specs.Ends.{other}
-use Rattle.tcap_end.specs.Dialogue.{is_response}
-use Rattle.tcap_end.specs.Table.{Table}
-use Rattle.tcap_model.specs.declared.reason.Reason.{Reason}
-use Rattle.tcap_model.specs.World.{Item, Sent}
-use Rattle.tcap_model.specs.SinceMark.{ended_by}
-use Rattle.tcap_model.specs.Entries.{item_of}
-use Rattle.tcap_refute.specs.declared.kind.Refutation.{Refutation}
-use Rattle.tcap_refute.specs.EarlierMessages.{is_a}
-use Rattle.tcap_refute.specs.Kind.{is_begin_with_request}
-use Rattle.tcap_refute.proofs.Members.{has_not}
-use Rattle.tcap_faults.specs.SentToId.{goes_on_to, is_cause}
-use Rattle.tcap_faults.specs.InvokeCounts.{is_sort}
-use Rattle.tcap_faults.specs.declared.dialogue.half_origin.How.{How}
-use Rattle.tcap_faults.specs.declared.dialogue.half_origin.How.TheVariants.{Accepted, Begun, Nowhere, Refused, Unanswered}
-use Rattle.tcap_faults.specs.declared.component.component_sort.Sort.{Sort}
-use Rattle.tcap_evidence.specs.declared.shown_things.What.{What}
 use Rattle.tcap_evidence.specs.declared.shown_things.What.TheVariants as whats
-use Rattle.tcap_evidence.specs.Evidence.{grounds_of, mark_scene}
-use Rattle.tcap_evidence.specs.NumberedMessages.{Numbered, in_order, sent_before}
-use Rattle.tcap_evidence.specs.Operations.{invocations_at}
-use Rattle.tcap_evidence.specs.Scene.{Scene, has_request, heard_by, invoked_by, is_open_continue, is_that, own_begin, own_id, shown, since_first, there, to_half, told_there, went_elsewhere, with_sort, with_sort_in}
-use Rattle.tcap_grounds.specs.GivenLists.{IsAscending, invokes_listed}
-use Rattle.tcap_grounds.specs.ListedEntries.{component_with, scene_at}
 use Rattle.tcap_grounds.proofs.GroundLaws.{of_mark, of_message}
 use Rattle.tcap_grounds.proofs.InvocationLaws.{are_listed, none_given}
 use Rattle.tcap_grounds.proofs.OrderLaws.{Ascend, append_ascends, first_ascend, kept_ascend, repeated_ascends, sent_ascend, since_ascend, where_ascends, with_ascends}

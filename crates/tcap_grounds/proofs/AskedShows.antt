@@ -1,34 +1,15 @@
 -- The lists show F5: an answer or a Reject of something that was never sent.
-use Rattle.std.proofs.Common.{◌≡◌, ℕ, ℤ, Bool, true, false, cond, not, ◌||◌, List, [], Option, Some, None, refl, sym, ap, subst, ◌∙◌}
-use Rattle.std.specs.List.{list_any}
-use Rattle.std.proofs.lemmas.Bool.{not-true, or_left}
-use Rattle.tcap_parts.specs.declared.component.Component.{Component}
-use Rattle.tcap_parts.specs.declared.component.Component.TheVariants.{Invoke, ReturnResult, ReturnError, Reject}
-use Rattle.tcap_msg.specs.declared.message.Message.{Message}
-use Rattle.tcap_msg.specs.declared.message.Message.TheVariants.{Unidirectional, Begin, Continue, End as EndMessage, Abort}
-use Rattle.tcap_msg.specs.Parts.{components_in, dtid_in}
-use Rattle.tcap_record.specs.declared.entry.End.{End as Side}
-use Rattle.tcap_record.specs.declared.entry.Entry.{Entry}
-use Rattle.tcap_end.specs.Table.{Table}
-use Rattle.tcap_model.specs.World.{Item}
-use Rattle.tcap_refute.specs.EarlierMessages.{answers, asked, components_of, invokes, is_answer, is_reject}
+use Rattle.tcap_grounds.proofs.Common.{◌≡◌, ℕ, ℤ, Bool, true, false, cond, not, ◌||◌, List, [], Option, Some, None, refl, sym, ap, subst, ◌∙◌, list_any, not-true, or_left, Component, Invoke, ReturnResult, ReturnError, Reject, Message, Unidirectional, Begin, Continue, EndMessage, Abort, components_in, dtid_in, Side, Entry, Table, Item, asked, components_of, invokes, count, is_error, is_result, is_sort, Any, Sort, any_same, count_invokes, Scene, there, with_sort, shown, ListsNone, component_with, items_before, many, scene_at, other, invoke_id_of}
+use Rattle.tcap_refute.specs.EarlierMessages.{answers, is_answer, is_reject}
 use Rattle.tcap_refute.specs.FirstComponent.{answers_nothing_in}
 use Rattle.tcap_refute.specs.FirstKinds.{answers_none, answers_nothing_there}
 use Rattle.tcap_refute.specs.Kind.{answers_none_of, answers_nothing}
-use Rattle.tcap_faults.specs.Counts.{count, is_error, is_result}
-use Rattle.tcap_faults.specs.InvokeCounts.{is_sort}
-use Rattle.tcap_faults.specs.declared.component.component_sort.Class.TheVariants.{Any}
-use Rattle.tcap_faults.specs.declared.component.component_sort.Sort.{Sort}
-use Rattle.tcap_faults.proofs.component_laws.FewSums.{any_same, count_invokes}
 use Rattle.tcap_grounds.specs.ComponentEvidence.{ShowsUnasked}
-use Rattle.tcap_evidence.specs.Scene.{Scene, there, with_sort, shown}
-use Rattle.tcap_grounds.specs.ListedEntries.{ListsNone, component_with, has_kind_by, items_before, many, scene_at}
+use Rattle.tcap_grounds.specs.ListedEntries.{has_kind_by}
 use Rattle.tcap_grounds.proofs.CountedLaws.{components_counted}
 use Rattle.tcap_grounds.proofs.HasKindLaws.{first_so as blamed_so}
 use Rattle.tcap_grounds.proofs.ListsLaws.{nothing_there}
 use Rattle.tcap_grounds.proofs.SoLaws.{first_is, first_wins, none_so, scene_of_it}
-use Rattle.tcap_record.specs.Ends.{other}
-use Rattle.tcap_evidence.specs.Evidence.{invoke_id_of}
 use Rattle.tcap_parts.specs.declared.problem.Problem.TheVariants as problems
 use Rattle.tcap_refute.specs.declared.kind.Kind.TheVariants as kinds
 use Rattle.tcap_faults.specs.declared.component.component_sort.Sort.TheVariants as sorts
@@ -50,40 +31,28 @@ alone_lists s to sort = ap (with_sort s sort) (nothing_there s to) ∙ by s.id r
 asked_of : (of_one : Bool) (side : Side) (items : List Item) (m : Message)
     → cond of_one (answers_nothing_there side items m) (answers_nothing side items m)
     ≡ list_any (answers_nothing_in of_one side items m) (components_in m)
-asked_of true side items (Unidirectional dialogue components) = refl
-asked_of true side items (Begin otid dialogue components) = refl
-asked_of true side items (Continue otid dtid dialogue components) = refl
-asked_of true side items (EndMessage dtid dialogue components) = refl
 asked_of true side items (Abort dtid reason) = refl
-asked_of false side items (Unidirectional dialogue components) = refl
-asked_of false side items (Begin otid dialogue components) = refl
-asked_of false side items (Continue otid dtid dialogue components) = refl
-asked_of false side items (EndMessage dtid dialogue components) = refl
+asked_of true side items m = refl
 asked_of false side items (Abort dtid reason) = refl
+asked_of false side items m = refl
 
 -- A message without a destination ID.
 unasked_alone : (s : Scene) → s.to ≡ None → (c : Component) → (is_answer c || is_reject c) ≡ true → ShowsUnasked s (Some c)
 unasked_alone s to (Invoke id linked code parameter) is = cc
-unasked_alone s to (ReturnResult last id body) is = alone_lists s to (sorts.Invokes Any)
-unasked_alone s to (ReturnError id code parameter) is = alone_lists s to (sorts.Invokes Any)
 unasked_alone s to (Reject None problem) is = tt
 unasked_alone s to (Reject (Some id) (problems.General n)) is = tt
-unasked_alone s to (Reject (Some id) (problems.Invoke n)) is = alone_lists s to (sorts.Invokes Any)
 unasked_alone s to (Reject (Some id) (problems.ReturnResult n)) is = alone_lists s to sorts.Results
 unasked_alone s to (Reject (Some id) (problems.ReturnError n)) is = alone_lists s to sorts.Errors
+unasked_alone s to c is = alone_lists s to (sorts.Invokes Any)
 
 -- The tests for Return Results and Return Errors of an ID are those of the sorts.
 results_are : (id : ℤ) (c : Component) → answers true id c ≡ is_result id c
-results_are id (Invoke other linked code parameter) = refl
 results_are id (ReturnResult last other body) = refl
-results_are id (ReturnError other code parameter) = refl
-results_are id (Reject other problem) = refl
+results_are id c = refl
 
 errors_are : (id : ℤ) (c : Component) → answers false id c ≡ is_error id c
-errors_are id (Invoke other linked code parameter) = refl
-errors_are id (ReturnResult last other body) = refl
 errors_are id (ReturnError other code parameter) = refl
-errors_are id (Reject other problem) = refl
+errors_are id c = refl
 
 -- The lists of an invoke ID have as many entries as these components are counted.
 abbrev pub AreThere : Scene → ℤ → List Component → Type 0
@@ -118,15 +87,7 @@ module _ (s : Scene) (there : List Component) where
   unasked_one : (c : Component) → ((id : ℤ) → invoke_id_of kinds.AnswersNothing c ≡ Some id → AreThere s id there)
       → answers_none there c ≡ true → ShowsUnasked s (Some c)
   unasked_one (Reject (Some id) (problems.General n)) counts is = tt
-  unasked_one (Invoke id linked code parameter) counts is = cc
-  unasked_one (ReturnResult last id body) counts is = unasked_to (ReturnResult last id body) counts is
-  unasked_one (ReturnError id code parameter) counts is = unasked_to (ReturnError id code parameter) counts is
-  unasked_one (Reject None problem) counts is = tt
-  unasked_one (Reject (Some id) (problems.Invoke n)) counts is = unasked_to (Reject (Some id) (problems.Invoke n)) counts is
-  unasked_one (Reject (Some id) (problems.ReturnResult n)) counts is =
-      unasked_to (Reject (Some id) (problems.ReturnResult n)) counts is
-  unasked_one (Reject (Some id) (problems.ReturnError n)) counts is =
-      unasked_to (Reject (Some id) (problems.ReturnError n)) counts is
+  unasked_one c counts is = unasked_to c counts is
 
   unasked_by : (of_one : Bool) (c : Component)
       → ((id : ℤ) → invoke_id_of kinds.AnswersNothing c ≡ Some id → AreThere s id there)

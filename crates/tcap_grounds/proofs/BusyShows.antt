@@ -1,42 +1,14 @@
 -- The lists show F10 (an invoke ID in use) and F11 (a linked ID without an invocation).
-use Rattle.std.proofs.Common.{◌≡◌, ◌≢◌, ◌⊎◌, inl, inr, ℕ, ℤ, ◌+◌, ◌≤◌, ◌<◌, arith, Bool, true, not, List, [], ◌∷◌, ◌++◌, length, map, take, Option, Some, None, refl, sym, ap, subst, ◌∙◌}
-use Rattle.std.specs.Prelude.{filter, ◌==◌, nat_le, nat_lt, slice_get}
-use Rattle.std.specs.List.{list_any}
-use Rattle.std.proofs.lemmas.Bool.{and_from, and_parts, eq-eqb, leb-true, ltb-true, not-true, or_cases, or_left, or_right}
-use Rattle.std.proofs.lemmas.List.Elements.{Contains-append_right}
-use Rattle.tcap_parts.specs.declared.code.Code.{Code}
-use Rattle.tcap_parts.specs.declared.component.Component.{Component}
-use Rattle.tcap_parts.specs.declared.component.Component.TheVariants.{Invoke, ReturnResult, ReturnError, Reject}
-use Rattle.tcap_msg.specs.declared.message.Message.{Message}
-use Rattle.tcap_msg.specs.Parts.{components_in, dtid_in}
-use Rattle.tcap_record.specs.declared.entry.End.{End as Side}
-use Rattle.tcap_record.specs.declared.entry.Entry.{Entry}
+use Rattle.tcap_grounds.proofs.Common.{◌≡◌, ◌≢◌, ◌⊎◌, inl, inr, ℕ, ℤ, ◌+◌, ◌≤◌, ◌<◌, arith, Bool, true, List, [], ◌∷◌, ◌++◌, length, map, Option, Some, None, refl, sym, ap, subst, ◌∙◌, filter, ◌==◌, list_any, and_from, eq-eqb, leb-true, ltb-true, not-true, or_left, or_right, Contains-append_right, Code, Component, Invoke, Reject, Message, components_in, dtid_in, Side, Entry, Table, Item, invokes, is_invoke_id, any_problem, count, has_class, invokes_so, is_error, is_last_result, rejects_invoke, rejects_result, HalfOf, half_of, is_sort, Any, One, Three, Sort, count_invokes, any_is, count_takes_all, count_both, count_more, one, id_itself, heard_so, operates, invoke_id_of, Scene, shown, told_there, with_sort, with_sort_in, HasKind, HasSort, component_with, items_before, many, scene_at, other}
 use Rattle.tcap_end.specs.Component.{links}
-use Rattle.tcap_end.specs.Table.{Table}
-use Rattle.tcap_model.specs.World.{Item}
-use Rattle.tcap_refute.specs.EarlierMessages.{invokes, is_invoke_id}
-use Rattle.tcap_faults.specs.declared.dialogue.half_origin.How.TheVariants.{Nowhere}
 use Rattle.tcap_faults.specs.ComponentKinds.{invokes_busy, is_badly_linked, is_busy, links_badly, may_reject_answer, may_reject_invoke, rejects_generally}
-use Rattle.tcap_faults.specs.Components.{has_component, invokes_again, is_linked}
-use Rattle.tcap_faults.specs.Counts.{any_problem, count, count_lasting, has_class, invokes_so, is_error, is_last_result, is_not_last, rejects_invoke, rejects_result, takes}
-use Rattle.tcap_faults.specs.HalfKinds.{is_wrong_half}
-use Rattle.tcap_faults.specs.HalfByPeerId.{HalfOf, half_of}
-use Rattle.tcap_faults.specs.InvokeCounts.{is_sort}
-use Rattle.tcap_faults.specs.declared.component.component_sort.Class.TheVariants.{Any, One, Three}
-use Rattle.tcap_faults.specs.declared.component.component_sort.Sort.{Sort}
-use Rattle.tcap_faults.proofs.component_laws.FewSums.{count_invokes}
-use Rattle.tcap_faults.proofs.list_laws.FindLaws.{any_is}
-use Rattle.tcap_faults.proofs.story_laws.AnsweredLaws.{count_takes_all}
-use Rattle.tcap_faults.proofs.list_laws.CountLaws.{count_apart, count_both, count_more, one}
-use Rattle.tcap_faults.proofs.story_laws.InvokeListLaws.{id_itself}
-use Rattle.tcap_grounds.specs.ComponentEvidence.{MoreLast, ShowsBadLink, ShowsBusy, ends_heard, heard_so, operates, rejects_told, taken_before}
-use Rattle.tcap_evidence.specs.Evidence.{invoke_id_of}
-use Rattle.tcap_evidence.specs.Scene.{Scene, shown, told_there, with_sort, with_sort_in}
-use Rattle.tcap_grounds.specs.ListedEntries.{HasKind, HasSort, component_with, items_before, many, scene_at}
-use Rattle.tcap_grounds.proofs.HasKindLaws.{further_so, half_so}
+use Rattle.tcap_faults.specs.Components.{invokes_again, is_linked}
+use Rattle.tcap_faults.specs.Counts.{count_lasting, is_not_last, takes}
+use Rattle.tcap_faults.proofs.list_laws.CountLaws.{count_apart}
+use Rattle.tcap_grounds.specs.ComponentEvidence.{MoreLast, ShowsBadLink, ShowsBusy, ends_heard, rejects_told, taken_before}
+use Rattle.tcap_grounds.proofs.HasKindLaws.{either, further_so, half_so}
 use Rattle.tcap_grounds.proofs.ListedLaws.{itself_has}
-use Rattle.tcap_grounds.proofs.SoLaws.{IsCounted, are_counted, component_is, first_is, none_so, scene_of_it, so_earlier, speaks_half, two_counted, zero_more}
-use Rattle.tcap_record.specs.Ends.{other}
+use Rattle.tcap_grounds.proofs.SoLaws.{IsCounted, IsOf, first_is, none_so, scene_of_it, shows_half, shows_so, two_counted, zero_more}
 use Rattle.tcap_parts.specs.declared.problem.Problem.TheVariants as problems
 use Rattle.tcap_refute.specs.declared.kind.Kind.TheVariants as kinds
 use Rattle.tcap_faults.specs.declared.component.component_sort.Sort.TheVariants as sorts
@@ -47,31 +19,17 @@ use Rattle.tcap_evidence.specs.declared.shown_things.What.TheVariants as whats
 -- A Reject has only one problem.
 module _ (id : ℤ) where
   no_invoke : (c : Component) → rejects_invoke id any_problem c ≡ true → rejects_generally id c ≡ true → ⊥
-  no_invoke (Invoke other linked code parameter) is general = cc
-  no_invoke (ReturnResult last other body) is general = cc
-  no_invoke (ReturnError other code parameter) is general = cc
-  no_invoke (Reject None problem) is general = cc
   no_invoke (Reject (Some other) (problems.General n)) is general = cc
-  no_invoke (Reject (Some other) (problems.Invoke n)) is general = cc
-  no_invoke (Reject (Some other) (problems.ReturnResult n)) is general = cc
-  no_invoke (Reject (Some other) (problems.ReturnError n)) is general = cc
+  no_invoke c is general = cc
 
   no_answer : (c : Component) → rejects_result id any_problem c ≡ true → rejects_generally id c ≡ true → ⊥
-  no_answer (Invoke other linked code parameter) is general = cc
-  no_answer (ReturnResult last other body) is general = cc
-  no_answer (ReturnError other code parameter) is general = cc
-  no_answer (Reject None problem) is general = cc
   no_answer (Reject (Some other) (problems.General n)) is general = cc
-  no_answer (Reject (Some other) (problems.Invoke n)) is general = cc
-  no_answer (Reject (Some other) (problems.ReturnResult n)) is general = cc
-  no_answer (Reject (Some other) (problems.ReturnError n)) is general = cc
+  no_answer c is general = cc
 
 -- Each Invoke is an Invoke of any class.
 any_so : (table : Table) (id : ℤ) (c : Component) → invokes id c ≡ true → is_sort table id (sorts.Invokes Any) c ≡ true
 any_so table id (Invoke other linked code parameter) is = and_from (is_invoke_id id other) true is refl
-any_so table id (ReturnResult last other body) is = cc
-any_so table id (ReturnError other code parameter) is = cc
-any_so table id (Reject other problem) is = cc
+any_so table id c is = cc
 
 -- ---- F10
 
@@ -98,7 +56,20 @@ twice s id sort is two =
 
 module _ (s : Scene) (h : HalfOf) (cs : List Component) (id : ℤ) (counts : IsCounted s h cs id) where
   more_last : is_busy s.table h (h.told ++ cs) id ≡ true → MoreLast s
-  more_last is = by (or_cases _ _ is)
+  more_last is =
+      either _ _ is
+      (λ more.
+      let less : heard_ends + count (may_reject_answer id) (h.told ++ cs) < of_class 1 + of_class 3 = ltb-true _ _ more in
+      let lasting_one : many s (whats.Invoked (sorts.Lasting One)) ≡ of_class 1 = counts.invoked (sorts.Lasting One) in
+      let lasting_three : many s (whats.Invoked (sorts.Lasting Three)) ≡ of_class 3 =
+      counts.invoked (sorts.Lasting Three) in inl (omega (arith, less, lasting_one, lasting_three, ends_are, told_are)))
+      (λ more.
+      let less : heard_ends + count (is_not_last id) h.heard < count_lasting s.table id (λ code. true) h.invoked =
+      ltb-true _ _ more in
+      let lasting : many s (whats.Invoked (sorts.Lasting Any)) ≡ count_lasting s.table id (λ code. true) h.invoked =
+      counts.invoked (sorts.Lasting Any) in
+      let not_lasts : many s (whats.Heard sorts.NotLasts) ≡ count (is_not_last id) h.heard = counts.heard sorts.NotLasts in
+      inr (omega (arith, less, lasting, not_lasts, ends_are)))
     where
       heard_ends : ℕ
       heard_ends =
@@ -132,22 +103,6 @@ module _ (s : Scene) (h : HalfOf) (cs : List Component) (id : ℤ) (counts : IsC
           (λ c so. or_right (rejects_result id any_problem c) (rejects_generally id c) so) (no_answer id) in
           omega (arith, rejects, generals, either)
 
-      by : (nat_lt (heard_ends + count (may_reject_answer id) (h.told ++ cs)) (of_class 1 + of_class 3) ≡ true)
-          ⊎ (nat_lt (heard_ends + count (is_not_last id) h.heard) (count_lasting s.table id (λ code. true) h.invoked) ≡ true)
-          → MoreLast s
-      by (inl more) =
-          let less : heard_ends + count (may_reject_answer id) (h.told ++ cs) < of_class 1 + of_class 3 = ltb-true _ _ more in
-          let lasting_one : many s (whats.Invoked (sorts.Lasting One)) ≡ of_class 1 = counts.invoked (sorts.Lasting One) in
-          let lasting_three : many s (whats.Invoked (sorts.Lasting Three)) ≡ of_class 3 =
-          counts.invoked (sorts.Lasting Three) in inl (omega (arith, less, lasting_one, lasting_three, ends_are, told_are))
-      by (inr more) =
-          let less : heard_ends + count (is_not_last id) h.heard < count_lasting s.table id (λ code. true) h.invoked =
-          ltb-true _ _ more in
-          let lasting : many s (whats.Invoked (sorts.Lasting Any)) ≡ count_lasting s.table id (λ code. true) h.invoked =
-          counts.invoked (sorts.Lasting Any) in
-          let not_lasts : many s (whats.Heard sorts.NotLasts) ≡ count (is_not_last id) h.heard = counts.heard sorts.NotLasts in
-          inr (omega (arith, less, lasting, not_lasts, ends_are))
-
   -- ---- F11
 
   invokes_heard : many s (whats.Heard (sorts.Invokes Any)) ≡ count (invokes id) h.heard
@@ -166,20 +121,15 @@ module _ (s : Scene) (h : HalfOf) (cs : List Component) (id : ℤ) (counts : IsC
   bad_link : (code : Code) → is_badly_linked s.table h (h.told ++ s.earlier) id code ≡ true
       → (many s (whats.Heard (sorts.Invokes Any)) ≤ taken_before s)
       ⊎ (heard_so s (operates (λ to. links s.table to code)) ≡ [])
-  bad_link code is = by (or_cases _ _ is)
-    where
-      by : (nat_le (count (invokes id) h.heard) (count (takes id) (h.told ++ s.earlier)) ≡ true)
-          ⊎ (not (list_any (invokes_so id (λ to. links s.table to code)) h.heard) ≡ true)
-          → (many s (whats.Heard (sorts.Invokes Any)) ≤ taken_before s)
-          ⊎ (heard_so s (operates (λ to. links s.table to code)) ≡ [])
-      by (inl all_taken) =
-          let most : count (invokes id) h.heard ≤ count (takes id) (h.told ++ s.earlier) = leb-true _ _ all_taken in
-          inl (omega (arith, most, invokes_heard, taken_most))
-      by (inr none) =
-          inr (none_so (heard_so s (operates (λ to. links s.table to code)))
-          (invokes_so id (λ (to : Code). links s.table to code)) h.heard
-          (counts.heard_so (operates (λ to. links s.table to code)))
-          (not-true (list_any (invokes_so id (λ to. links s.table to code)) h.heard) none))
+  bad_link code is =
+      either _ _ is
+      (λ all_taken.
+      let most : count (invokes id) h.heard ≤ count (takes id) (h.told ++ s.earlier) = leb-true _ _ all_taken in
+      inl (omega (arith, most, invokes_heard, taken_most)))
+      (λ none. inr (none_so (heard_so s (operates (λ to. links s.table to code)))
+      (invokes_so id (λ (to : Code). links s.table to code)) h.heard
+      (counts.heard_so (operates (λ to. links s.table to code)))
+      (not-true (list_any (invokes_so id (λ to. links s.table to code)) h.heard) none)))
 
 -- ---- a message at fault
 
@@ -190,39 +140,28 @@ module _ (of_one : Bool) (table : Table) (side : Side) (entries : List Entry) (n
   abbrev busy : Scene
   busy = scene_at of_one table side entries number m kinds.InvokeIdBusy
 
-  busy_it : (to : List ℕ) → dtid_in m ≡ Some to → (half_of side items to).how ≢ Nowhere → (k : ℕ) (c : Component)
-      → slice_get (components_in m) k ≡ Some c → busy.id ≡ invoke_id_of kinds.InvokeIdBusy c
-      → invokes_busy table (half_of side items to) ((half_of side items to).told ++ components_in m)
-      (take k (components_in m)) ((half_of side items to).told ++ take k (components_in m)) c ≡ true
+  busy_it : (h : HalfOf) (to : List ℕ) (k : ℕ) (c : Component)
+      → IsOf busy kinds.InvokeIdBusy (components_in m) k c (component_with of_one table side entries number m kinds.InvokeIdBusy)
+      → ((id : ℤ) → invoke_id_of kinds.InvokeIdBusy c ≡ Some id → IsCounted busy h (components_in m) id)
+      → invokes_busy table h (h.told ++ components_in m) busy.earlier (h.told ++ busy.earlier) c ≡ true
       → ShowsBusy busy (Some to) (Some c)
-  busy_it to goes some k (Invoke id linked code parameter) here of_it is =
-      by (or_cases (list_any (invokes id) (take k (components_in m)))
-      (is_busy table (half_of side items to) ((half_of side items to).told ++ components_in m) id) is)
+  busy_it h to k (Invoke id linked code parameter) it counts is =
+      either _ _ is (λ own. inl (twice busy id (sorts.Invokes Any) it.id (two own)))
+      (λ used. inr (more_last busy h (components_in m) id (counts id refl) used))
     where
-      two : list_any (invokes id) (take k (components_in m)) ≡ true
-          → 2 ≤ count (is_sort table id (sorts.Invokes Any)) (components_in m)
+      two : list_any (invokes id) busy.earlier ≡ true → 2 ≤ count (is_sort table id (sorts.Invokes Any)) (components_in m)
       two own =
           let least =
-          two_counted (invokes id) (components_in m) k (Invoke id linked code parameter) here (id_itself id) own in
+          two_counted (invokes id) (components_in m) k (Invoke id linked code parameter) it.here (id_itself id)
+          (ap (list_any (invokes id)) (sym it.earlier) ∙ own) in
           omega (arith, least, count_invokes table id (components_in m))
-
-      by : (list_any (invokes id) (take k (components_in m)) ≡ true)
-          ⊎ (is_busy table (half_of side items to) ((half_of side items to).told ++ components_in m) id ≡ true)
-          → ShowsBusy busy (Some to) (Some (Invoke id linked code parameter))
-      by (inl own) = inl (twice busy id (sorts.Invokes Any) of_it (two own))
-      by (inr used) =
-          inr (more_last busy (half_of side items to) (components_in m) id
-          (are_counted of_one table side entries number m kinds.InvokeIdBusy to id goes of_it some) used)
-  busy_it to goes some k (ReturnResult last id body) here of_it is = cc
-  busy_it to goes some k (ReturnError id code parameter) here of_it is = cc
-  busy_it to goes some k (Reject id problem) here of_it is = cc
+  busy_it h to k c it counts is = cc
 
   -- A message without a destination ID.
-  again_it : (k : ℕ) (c : Component) → busy.id ≡ invoke_id_of kinds.InvokeIdBusy c → busy.earlier ≡ take k (components_in m)
-      → invokes_again (take k (components_in m)) (take k (components_in m)) c ≡ true → ShowsBusy busy None (Some c)
-  again_it k (Invoke id linked code parameter) of_it earlier is =
-      let some : list_any (invokes id) busy.earlier ≡ true = ap (list_any (invokes id)) earlier ∙ is in
-      let (c, has, so) = any_is (invokes id) busy.earlier some in
+  again_it : (c : Component) → busy.id ≡ invoke_id_of kinds.InvokeIdBusy c
+      → invokes_again busy.earlier busy.earlier c ≡ true → ShowsBusy busy None (Some c)
+  again_it (Invoke id linked code parameter) of_it is =
+      let (c, has, so) = any_is (invokes id) busy.earlier is in
       let sorted : HasSort busy (sorts.Invokes Any) busy.earlier =
       (id, c, of_it, has, any_so table id c so) in (
         number,
@@ -230,27 +169,19 @@ module _ (of_one : Bool) (table : Table) (side : Side) (entries : List Entry) (n
             (with_sort_in busy (sorts.Invokes Any) busy.earlier) number
             (itself_has busy (sorts.Invokes Any) busy.earlier sorted),
       )
-  again_it k (ReturnResult last id body) of_it earlier is = cc
-  again_it k (ReturnError id code parameter) of_it earlier is = cc
-  again_it k (Reject id problem) of_it earlier is = cc
+  again_it c of_it is = cc
 
   busy_by : HasKind table side items m kinds.InvokeIdBusy → (o : Option (List ℕ)) → dtid_in m ≡ o
       → ShowsBusy busy o (component_with of_one table side entries number m kinds.InvokeIdBusy)
   busy_by has None goes =
-      let some : has_component invokes_again [] [] (components_in m) ≡ true =
-      rw goes at ((further_so table side items m kinds.InvokeIdBusy refl has).1) in
-      let (k, c, first, here, is) = component_is invokes_again 0 [] [] (components_in m) some in
-      let of_it = scene_of_it of_one table side entries number m kinds.InvokeIdBusy k c (rw goes (zero_more first)) here in
-      subst (ShowsBusy busy None) (sym of_it.it) (again_it k c of_it.id of_it.earlier is)
+      shows_so of_one table side entries number m kinds.InvokeIdBusy invokes_again [] (rw goes refl)
+      (rw goes at ((further_so table side items m kinds.InvokeIdBusy refl has).1)) (ShowsBusy busy None)
+      (λ k c it is. again_it c it.id is)
   busy_by has (Some to) goes =
-      let h : HalfOf = half_of side items to in
-      let (right, some) =
-      and_parts (not (is_wrong_half side items m h)) _ (half_so table side items m to goes kinds.InvokeIdBusy refl has) in
-      let (k, c, first, here, is) =
-      component_is (invokes_busy table h (h.told ++ components_in m)) 0 [] h.told (components_in m) some in
-      let of_it = scene_of_it of_one table side entries number m kinds.InvokeIdBusy k c (rw goes (zero_more first)) here in
-      subst (ShowsBusy busy (Some to)) (sym of_it.it)
-      (busy_it to goes (speaks_half side items m h right) k c here of_it.id is)
+      shows_half of_one table side entries number m kinds.InvokeIdBusy to goes
+      (invokes_busy table (half_of side items to) ((half_of side items to).told ++ components_in m)) (rw goes refl)
+      (half_so table side items m to goes kinds.InvokeIdBusy refl has) (ShowsBusy busy (Some to))
+      (busy_it (half_of side items to) to)
 
   pub busy_shows : HasKind table side items m kinds.InvokeIdBusy
       → ShowsBusy busy (dtid_in m) (component_with of_one table side entries number m kinds.InvokeIdBusy)
@@ -261,25 +192,17 @@ module _ (of_one : Bool) (table : Table) (side : Side) (entries : List Entry) (n
   abbrev linked_scene : Scene
   linked_scene = scene_at of_one table side entries number m kinds.BadLink
 
-  link_it : (to : List ℕ) → dtid_in m ≡ Some to → (half_of side items to).how ≢ Nowhere → (c : Component)
-      → linked_scene.id ≡ invoke_id_of kinds.BadLink c
-      → links_badly table (half_of side items to) linked_scene.earlier
-      ((half_of side items to).told ++ linked_scene.earlier) c ≡ true
+  link_it : (h : HalfOf) (to : List ℕ) (c : Component)
+      → ((id : ℤ) → invoke_id_of kinds.BadLink c ≡ Some id → IsCounted linked_scene h (components_in m) id)
+      → links_badly table h linked_scene.earlier (h.told ++ linked_scene.earlier) c ≡ true
       → ShowsBadLink linked_scene (Some to) (Some c)
-  link_it to goes some (Invoke id (Some linked) code parameter) of_it is =
-      bad_link linked_scene (half_of side items to) (components_in m) linked
-      (are_counted of_one table side entries number m kinds.BadLink to linked goes of_it some) code is
-  link_it to goes some (Invoke id None code parameter) of_it is = cc
-  link_it to goes some (ReturnResult last id body) of_it is = cc
-  link_it to goes some (ReturnError id code parameter) of_it is = cc
-  link_it to goes some (Reject id problem) of_it is = cc
+  link_it h to (Invoke id (Some linked) code parameter) counts is =
+      bad_link linked_scene h (components_in m) linked (counts linked refl) code is
+  link_it h to c counts is = cc
 
   link_alone : (c : Component) → is_linked c ≡ true → ShowsBadLink linked_scene None (Some c)
   link_alone (Invoke id (Some linked) code parameter) is = tt
-  link_alone (Invoke id None code parameter) is = cc
-  link_alone (ReturnResult last id body) is = cc
-  link_alone (ReturnError id code parameter) is = cc
-  link_alone (Reject id problem) is = cc
+  link_alone c is = cc
 
   link_by : HasKind table side items m kinds.BadLink → (o : Option (List ℕ)) → dtid_in m ≡ o
       → ShowsBadLink linked_scene o (component_with of_one table side entries number m kinds.BadLink)
@@ -290,14 +213,9 @@ module _ (of_one : Bool) (table : Table) (side : Side) (entries : List Entry) (n
       let of_it = scene_of_it of_one table side entries number m kinds.BadLink k c (rw goes (zero_more first)) here in
       subst (ShowsBadLink linked_scene None) (sym of_it.it) (link_alone c is)
   link_by has (Some to) goes =
-      let h : HalfOf = half_of side items to in
-      let (right, some) =
-      and_parts (not (is_wrong_half side items m h)) _ (half_so table side items m to goes kinds.BadLink refl has) in
-      let (k, c, first, here, is) = component_is (links_badly table h) 0 [] h.told (components_in m) some in
-      let of_it = scene_of_it of_one table side entries number m kinds.BadLink k c (rw goes (zero_more first)) here in
-      subst (ShowsBadLink linked_scene (Some to)) (sym of_it.it)
-      (link_it to goes (speaks_half side items m h right) c of_it.id
-      (so_earlier linked_scene (links_badly table h) h.told (components_in m) k c of_it.earlier is))
+      shows_half of_one table side entries number m kinds.BadLink to goes (links_badly table (half_of side items to))
+      (rw goes refl) (half_so table side items m to goes kinds.BadLink refl has) (ShowsBadLink linked_scene (Some to))
+      (λ k c it counts is. link_it (half_of side items to) to c counts is)
 
   pub link_shows : HasKind table side items m kinds.BadLink
       → ShowsBadLink linked_scene (dtid_in m) (component_with of_one table side entries number m kinds.BadLink)

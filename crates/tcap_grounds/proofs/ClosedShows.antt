@@ -1,26 +1,10 @@
 -- If the half of a message was closed and the message has no ambiguous ID, the end's provider sent an Abort with cause
 -- 1 to the destination ID.
-use Rattle.std.proofs.Common.{ℕ, ◌≡◌, ◌⊎◌, inl, inr, Bool, true, false, not, ◌&&◌, List, [], ◌∷◌, ◌++◌, Option, Some, None, append_assoc, append-nil, refl, sym, ap, subst, ◌∙◌}
-use Rattle.std.specs.Prelude.{Contains, filter, filter_map}
-use Rattle.std.specs.List.{list_any}
-use Rattle.std.proofs.lemmas.Bool.{and_from, and_parts, not-true, or_cases}
-use Rattle.std.proofs.lemmas.List.Elements.{Contains-append_left, Contains-append_right, filter_map-append}
-use Rattle.tcap_msg.specs.declared.message.Message.{Message}
-use Rattle.tcap_msg.specs.Parts.{cause_in, dtid_in, otid_in}
-use Rattle.tcap_record.specs.declared.entry.End.{End as Side}
-use Rattle.tcap_record.specs.Ends.{other}
-use Rattle.tcap_end.specs.End.{is_id}
-use Rattle.tcap_model.specs.World.{Item, Sent, is_side}
-use Rattle.tcap_model.proofs.TurnLaws.{id_is}
-use Rattle.tcap_refute.specs.EarlierMessages.{asked, has_a, is_a, message_of, sent_by}
-use Rattle.tcap_refute.proofs.BeforeLaws.{is_that_id}
-use Rattle.tcap_refute.proofs.Members.{any_has, filter_has, filter_map_has, has_first}
-use Rattle.tcap_faults.specs.ClosedHalves.{all_go_on_to, shows_closed, was_closed}
-use Rattle.tcap_faults.specs.SentToId.{goes_on_to, has_used, is_abort_with, is_cause, one_passes}
-use Rattle.tcap_faults.specs.TangledIds.{is_own_tangled, peers_of}
-use Rattle.tcap_faults.proofs.list_laws.FindLaws.{any_is, filter_is}
+use Rattle.tcap_grounds.proofs.Common.{ℕ, ◌≡◌, ◌⊎◌, inl, inr, Bool, true, false, not, ◌&&◌, List, [], ◌∷◌, ◌++◌, Option, Some, None, append_assoc, append-nil, refl, sym, ap, subst, ◌∙◌, Contains, filter, list_any, and_from, and_parts, not-true, or_cases, Contains-append_left, Contains-append_right, filter_map-append, Message, cause_in, dtid_in, otid_in, Side, other, is_id, Item, Sent, is_side, id_is, asked, has_a, is_a, message_of, sent_by, is_that_id, any_has, filter_has, filter_map_has, has_first, was_closed, goes_on_to, is_abort_with, is_cause, is_own_tangled, peers_of, any_is, filter_is, passes_not}
+use Rattle.std.specs.Prelude.{filter_map}
+use Rattle.tcap_faults.specs.ClosedHalves.{all_go_on_to, shows_closed}
+use Rattle.tcap_faults.specs.SentToId.{has_used, one_passes}
 use Rattle.tcap_faults.proofs.transaction_laws.TangledLaws.{all_same}
-use Rattle.tcap_faults.proofs.list_laws.TwoTests.{passes_not}
 use Rattle.tcap_msg.specs.declared.kind.Kind.TheVariants as forms
 
 -- An item that passes has items before and after it.

@@ -1,34 +1,8 @@
 -- The lists have as many entries as the kinds count components and messages.
-use Rattle.std.proofs.Common.{◌≡◌, ◌≢◌, ℕ, ℤ, arith, Bool, true, ◌&&◌, List, [], ◌∷◌, ◌++◌, length, Option, Some, refl, ap, ◌∙◌}
-use Rattle.std.specs.Prelude.{filter}
-use Rattle.std.proofs.lemmas.List.{length-append, length-map}
-use Rattle.tcap_parts.specs.declared.component.Component.{Component}
+use Rattle.tcap_grounds.proofs.Common.{◌≡◌, ◌≢◌, ℕ, ℤ, arith, Bool, true, ◌&&◌, List, [], ◌∷◌, ◌++◌, length, Option, Some, refl, ap, ◌∙◌, filter, length-append, length-map, Component, Message, cause_in, components_in, dtid_in, Side, Entry, other, Table, Item, Kind, asked, components_of, is_a, sent_by, is_abort_with, is_cause, told, count, is_begin_with_request, count_takes_all, count_both, Nowhere, Sort, Subject, half_of, subject, is_sort, count_invokes, scene_of, Numbered, entries_where, in_order, Scene, heard_by, invoked_by, is_that, there, told_there, with_sort, with_sort_in, AreAllThere, AreCounted, items_before, scene_at}
 use Rattle.tcap_msg.specs.declared.kind.Kind.TheVariants as forms
-use Rattle.tcap_msg.specs.declared.message.Message.{Message}
-use Rattle.tcap_msg.specs.Parts.{cause_in, components_in, dtid_in}
-use Rattle.tcap_record.specs.declared.entry.End.{End as Side}
-use Rattle.tcap_record.specs.declared.entry.Entry.{Entry}
-use Rattle.tcap_record.specs.Ends.{other}
-use Rattle.tcap_end.specs.Table.{Table}
-use Rattle.tcap_model.specs.World.{Item}
-use Rattle.tcap_refute.specs.declared.kind.Kind.{Kind}
-use Rattle.tcap_refute.specs.EarlierMessages.{asked, components_of, is_a, sent_by}
-use Rattle.tcap_faults.specs.SentToId.{is_abort_with, is_cause, told}
-use Rattle.tcap_faults.specs.Counts.{count}
-use Rattle.tcap_refute.specs.Kind.{is_begin_with_request}
-use Rattle.tcap_faults.proofs.story_laws.AnsweredLaws.{count_takes, count_takes_all}
-use Rattle.tcap_faults.proofs.list_laws.CountLaws.{count_both}
-use Rattle.tcap_faults.specs.declared.dialogue.half_origin.How.TheVariants.{Nowhere}
-use Rattle.tcap_faults.specs.declared.component.component_sort.Sort.{Sort}
-use Rattle.tcap_faults.specs.declared.verdict.fault_subject.Subject.{Subject}
-use Rattle.tcap_faults.specs.HalfByPeerId.{half_of}
-use Rattle.tcap_faults.specs.FaultSubject.{subject}
-use Rattle.tcap_faults.specs.InvokeCounts.{is_sort}
-use Rattle.tcap_faults.proofs.component_laws.FewSums.{count_invokes}
-use Rattle.tcap_evidence.specs.Evidence.{scene_of}
-use Rattle.tcap_evidence.specs.NumberedMessages.{Numbered, entries_where, in_order}
-use Rattle.tcap_evidence.specs.Scene.{Scene, heard_by, invoked_by, is_that, there, told_there, with_sort, with_sort_in}
-use Rattle.tcap_grounds.specs.ListedEntries.{AreAllThere, AreCounted, SortsAre, items_before, scene_at}
+use Rattle.tcap_faults.proofs.story_laws.AnsweredLaws.{count_takes}
+use Rattle.tcap_grounds.specs.ListedEntries.{SortsAre}
 use Rattle.tcap_grounds.proofs.NumberedLists.{where_counted, with_counted}
 use Rattle.tcap_grounds.proofs.OrderLaws.{in_order_counted}
 use Rattle.tcap_grounds.proofs.SceneLists.{IsOver, IsTo, heard_are, invoked_are, there_are, told_are, told_of}

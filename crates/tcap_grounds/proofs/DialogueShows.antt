@@ -1,36 +1,16 @@
 -- The lists show F9: a dialogue portion that does not fit the dialogue.
-use Rattle.std.proofs.Common.{◌≡◌, ◌⊎◌, inl, inr, ℕ, ◌<◌, arith, Bool, true, false, cond, not, ◌&&◌, ◌||◌, List, [], ◌∷◌, Option, Some, None, is_some, refl, sym, ap, subst, ◌∙◌}
-use Rattle.std.specs.Prelude.{◌==◌}
-use Rattle.std.specs.List.{find}
-use Rattle.std.proofs.lemmas.Bool.{and_from, and_parts, not-true, or_cases, or_parts, eqb-true, not-false}
-use Rattle.tcap_parts.specs.declared.dialogue.Dialogue.{Dialogue}
-use Rattle.tcap_msg.specs.declared.message.Message.{Message}
-use Rattle.tcap_msg.specs.declared.message.Message.TheVariants.{Unidirectional, Begin, Continue, End as EndMessage, Abort}
-use Rattle.tcap_msg.specs.Parts.{dialogue_in, otid_in}
-use Rattle.tcap_record.specs.declared.entry.End.{End as Side}
-use Rattle.tcap_record.specs.declared.entry.Entry.{Entry}
-use Rattle.tcap_end.specs.Dialogue.{is_response, is_user_abort}
-use Rattle.tcap_end.specs.Table.{Table}
-use Rattle.tcap_model.specs.World.{Item}
-use Rattle.tcap_refute.specs.EarlierMessages.{asked, has_a, is_a, sent_by}
-use Rattle.tcap_refute.specs.Kind.{is_begin_with_request, or_else}
-use Rattle.tcap_faults.specs.declared.dialogue.half_origin.How.{How}
-use Rattle.tcap_faults.specs.declared.dialogue.half_origin.How.TheVariants.{Accepted, Refused, Begun, Unanswered}
-use Rattle.tcap_faults.specs.Counts.{count, is_nothing}
-use Rattle.tcap_faults.specs.HalfKinds.{goes_from_other, is_provider_abort, is_wrong_aborting, is_wrong_dialogue, is_wrong_going_on, is_wrong_half, may_not_speak}
-use Rattle.tcap_faults.specs.HalfByPeerId.{HalfOf, begun_from, continued_to, half_by, half_of, heard_of}
-use Rattle.tcap_faults.specs.SentToId.{began, begin_from, is_request_of, told, was_refused}
-use Rattle.tcap_faults.proofs.list_laws.CountLaws.{count_more, count_weaker, one}
+use Rattle.tcap_grounds.proofs.Common.{◌≡◌, ◌⊎◌, inl, inr, ℕ, ◌<◌, arith, Bool, true, false, cond, not, ◌&&◌, ◌||◌, List, [], ◌∷◌, Option, Some, None, is_some, refl, sym, ap, subst, ◌∙◌, ◌==◌, find, and_from, and_parts, not-true, or_cases, or_parts, eqb-true, Dialogue, Message, Begin, Continue, Abort, dialogue_in, otid_in, Side, Entry, is_response, Table, Item, asked, has_a, is_a, sent_by, is_begin_with_request, or_else, How, Accepted, Refused, Begun, Unanswered, count, is_nothing, goes_from_other, is_wrong_half, may_not_speak, HalfOf, begun_from, continued_to, half_by, half_of, heard_of, began, begin_from, is_request_of, told, was_refused, count_more, one, Scene, is_that, own_id, HasKind, ListsNone, ListsOne, items_before, many, scene_at, subject}
+use Rattle.std.proofs.lemmas.Bool.{not-false}
+use Rattle.tcap_end.specs.Dialogue.{is_user_abort}
+use Rattle.tcap_faults.specs.HalfKinds.{is_provider_abort, is_wrong_aborting, is_wrong_dialogue, is_wrong_going_on}
+use Rattle.tcap_faults.proofs.list_laws.CountLaws.{count_weaker}
 use Rattle.tcap_faults.proofs.transaction_laws.TangledLaws.{plain_to}
 use Rattle.tcap_grounds.specs.HalfEvidence.{MisfitsAccepted, MisfitsBegun, ShowsWrongDialogue}
-use Rattle.tcap_evidence.specs.Scene.{Scene, is_that, own_id}
-use Rattle.tcap_grounds.specs.ListedEntries.{HasKind, ListsNone, ListsOne, items_before, many, scene_at}
 use Rattle.tcap_grounds.proofs.CountedLaws.{scene_over, scene_to}
-use Rattle.tcap_grounds.proofs.HasKindLaws.{further_so, goes_so, half_so}
+use Rattle.tcap_grounds.proofs.HasKindLaws.{either, further_so, goes_so, half_so}
 use Rattle.tcap_grounds.proofs.ListsLaws.{none_there, none_told, one_there, one_told}
 use Rattle.tcap_grounds.proofs.SceneLists.{IsOver, IsTo}
 use Rattle.tcap_grounds.proofs.NumberedLists.{where_counted}
-use Rattle.tcap_faults.specs.FaultSubject.{subject}
 use Rattle.tcap_grounds.proofs.HalfScene.{begun_one, goes_on, requests_are, request_begins}
 use Rattle.tcap_parts.specs.declared.dialogue.Dialogue.TheVariants as dialogues
 use Rattle.tcap_msg.specs.declared.kind.Kind.TheVariants as forms
@@ -117,12 +97,9 @@ module _ (side : Side) (items : List Item) (s : Scene) (id : List ℕ) (of : IsT
 
   accepted_shows : (h : HalfOf) → h.how ≡ Accepted → h.begin ≡ first → (m : Message)
       → is_wrong_dialogue side items id m h ≡ true → MisfitsAccepted s m
-  accepted_shows h how begin (Unidirectional dialogue components) is = accepted_going dialogue (rw (how, begin) at is)
-  accepted_shows h how begin (Begin otid dialogue components) is = accepted_going dialogue (rw (how, begin) at is)
-  accepted_shows h how begin (Continue otid dtid dialogue components) is = accepted_going dialogue (rw (how, begin) at is)
-  accepted_shows h how begin (EndMessage dtid dialogue components) is = accepted_going dialogue (rw (how, begin) at is)
   accepted_shows h how begin (Abort dtid reason) is =
       accepted_aborting (dialogue_in (Abort dtid reason)) (rw (how, begin) at is)
+  accepted_shows h how begin m is = accepted_going (dialogue_in m) (rw (how, begin) at is)
 
   -- A half whose Begin the end sent.
   module _ (own : List ℕ) (own_is : own_id s ≡ Some own) (begun : began side own items ≡ true) where
@@ -158,55 +135,35 @@ module _ (side : Side) (items : List Item) (s : Scene) (id : List ℕ) (of : IsT
 
     begun_aborting : (d : Option Dialogue) → is_wrong_aborting false (is_request_of (begin_from side own items)) d ≡ true
         → (is_response d ≡ true) ⊎ ((is_user_abort d ≡ true) × (many s whats.OwnRequests < many s whats.Begun))
-    begun_aborting d is = by (or_cases (is_response d) (is_user_abort d && not (is_request_of (begin_from side own items))) is)
-      where
-        by : (is_response d ≡ true) ⊎ ((is_user_abort d && not (is_request_of (begin_from side own items))) ≡ true)
-            → (is_response d ≡ true) ⊎ ((is_user_abort d ≡ true) × (many s whats.OwnRequests < many s whats.Begun))
-        by (inl so) = inl so
-        by (inr so) =
-            let (aborts, none) = and_parts (is_user_abort d) _ so in
-            inr (aborts, fewer_requests (not-true (is_request_of (begin_from side own items)) none))
+    begun_aborting d is =
+        either (is_response d) (is_user_abort d && not (is_request_of (begin_from side own items))) is (λ so. inl so)
+        (λ so.
+        let (aborts, none) = and_parts (is_user_abort d) _ so in
+        inr (aborts, fewer_requests (not-true (is_request_of (begin_from side own items)) none)))
 
     begun_going : (has : Bool) (d : Option Dialogue) → is_wrong_going_on false has d ≡ true → is_some d ≡ true
-    begun_going has d is = by (is_some d) is
-      where
-        by : (b : Bool) → (b || false) ≡ true → b ≡ true
-        by true so = refl
-        by false so = so
+    begun_going has d is = either (is_some d) false is (λ so. so) (λ bad. cc)
 
     begun_shows : (h : HalfOf) → h.how ≡ Begun → h.begin ≡ begin_from side own items → (m : Message)
         → is_wrong_dialogue side items id m h ≡ true → MisfitsBegun s m
-    begun_shows h how begin (Unidirectional dialogue components) is =
-        begun_going (is_request_of h.begin) dialogue (rw how at is)
-    begun_shows h how begin (Begin otid dialogue components) is =
-        begun_going (is_request_of h.begin) dialogue (rw how at is)
-    begun_shows h how begin (Continue otid dtid dialogue components) is =
-        begun_going (is_request_of h.begin) dialogue (rw how at is)
-    begun_shows h how begin (EndMessage dtid dialogue components) is =
-        begun_going (is_request_of h.begin) dialogue (rw how at is)
     begun_shows h how begin (Abort dtid reason) is =
         begun_aborting (dialogue_in (Abort dtid reason)) (rw (how, begin) at is)
+    begun_shows h how begin m is = begun_going (is_request_of h.begin) (dialogue_in m) (rw how at is)
 
 -- ---- F9
 
 -- A message that an unanswered half may send does not have F9.
 unanswered_fits : (side : Side) (items : List Item) (id : List ℕ) (m : Message) (h : HalfOf) → h.how ≡ Unanswered
     → may_not_speak Unanswered m ≡ false → is_wrong_dialogue side items id m h ≡ false
-unanswered_fits side items id (Unidirectional dialogue components) h how speaks = cc
-unanswered_fits side items id (Begin otid dialogue components) h how speaks = cc
-unanswered_fits side items id (Continue otid dtid dialogue components) h how speaks = cc
-unanswered_fits side items id (EndMessage dtid dialogue components) h how speaks = cc
 unanswered_fits side items id (Abort dtid reason) h how speaks =
     by (dialogue_in (Abort dtid reason)) refl speaks
   where
     by : (d : Option Dialogue) → dialogue_in (Abort dtid reason) ≡ d → not (is_provider_abort d) ≡ false
         → is_wrong_dialogue side items id (Abort dtid reason) h ≡ false
-    by None is so = cc
-    by (Some (dialogues.Request context info)) is so = cc
-    by (Some (dialogues.Response context result diagnostic info)) is so = cc
-    by (Some (dialogues.Uni context info)) is so = cc
     by (Some (dialogues.Abort source info)) is so =
         let one : source ≡ 1 = eqb-true source 1 (not-false (source == 1) so) in rw (is, how, one) refl
+    by d is so = cc
+unanswered_fits side items id m h how speaks = cc
 
 module _ (side : Side) (items : List Item) (s : Scene) (id : List ℕ) (of : IsTo side items id s) (over : IsOver side items id s)
     (m : Message) (few : count (is_a forms.Begin) (asked side id items) < 2) where

@@ -1,24 +1,7 @@
 -- Each listed entry is in the record, before the message at fault, and matches its list.
-use Rattle.std.proofs.Common.{◌≡◌, ◌⊎◌, inl, inr, ℕ, Bool, true, ◌&&◌, List, ◌++◌, Option, Some, subst}
-use Rattle.std.specs.Prelude.{Contains}
-use Rattle.std.proofs.lemmas.Bool.{and_parts}
-use Rattle.std.proofs.lemmas.List.Elements.{Contains-append_cases}
-use Rattle.tcap_parts.specs.declared.component.Component.{Component}
+use Rattle.tcap_grounds.proofs.Common.{◌≡◌, ◌⊎◌, inl, inr, ℕ, Bool, true, ◌&&◌, List, ◌++◌, Option, Some, subst, Contains, and_parts, Contains-append_cases, Component, Message, cause_in, dtid_in, kind_in, otid_in, Entry, other, ended_by, is_a, is_begin_with_request, is_cause, Sort, What, Numbered, entries_where, in_order, sent_before, Scene, heard_by, invoked_by, is_open_continue, is_that, own_id, shown, there, told_there, went_elsewhere, with_sort, with_sort_in, AreSame, IsEntryOf, IsItself, IsSentBefore, IsShown}
 use Rattle.tcap_msg.specs.declared.kind.Kind.TheVariants as forms
-use Rattle.tcap_msg.specs.declared.message.Message.{Message}
-use Rattle.tcap_msg.specs.Parts.{cause_in, dtid_in, kind_in, otid_in}
-use Rattle.tcap_record.specs.declared.entry.Entry.{Entry}
-use Rattle.tcap_record.specs.Ends.{other}
-use Rattle.tcap_model.specs.SinceMark.{ended_by}
-use Rattle.tcap_refute.specs.EarlierMessages.{is_a}
-use Rattle.tcap_refute.specs.Kind.{is_begin_with_request}
-use Rattle.tcap_faults.specs.SentToId.{is_cause}
-use Rattle.tcap_faults.specs.declared.component.component_sort.Sort.{Sort}
-use Rattle.tcap_evidence.specs.declared.shown_things.What.{What}
 use Rattle.tcap_evidence.specs.declared.shown_things.What.TheVariants as whats
-use Rattle.tcap_evidence.specs.NumberedMessages.{Numbered, entries_where, in_order, sent_before}
-use Rattle.tcap_evidence.specs.Scene.{Scene, heard_by, invoked_by, is_open_continue, is_that, own_id, shown, there, told_there, went_elsewhere, with_sort, with_sort_in}
-use Rattle.tcap_grounds.specs.ListedEntries.{AreSame, IsEntryOf, IsItself, IsSentBefore, IsShown}
 use Rattle.tcap_grounds.proofs.NumberedLists.{where_is}
 use Rattle.tcap_grounds.proofs.MessageTests.{cause_is, end_is, form_is, one_is}
 use Rattle.tcap_grounds.proofs.OrderLaws.{in_order_is}

@@ -1,8 +1,5 @@
 -- Indexes in lists of entries.
-use Rattle.std.proofs.Common.{◌≡◌, ◌⊎◌, inl, inr, ℕ, zero, suc, ◌<◌, arith, List, [], ◌∷◌, ◌++◌, length, Some, None, Result, refl}
-use Rattle.std.specs.Prelude.{slice_get}
-use Rattle.tcap_model.specs.declared.reason.Reason.{Reason}
-use Rattle.tcap_model.specs.World.{Item}
+use Rattle.tcap_grounds.proofs.Common.{◌≡◌, ◌⊎◌, inl, inr, ℕ, zero, suc, ◌<◌, arith, List, [], ◌∷◌, ◌++◌, length, Some, None, Result, refl, slice_get, Reason, Item}
 
 abbrev pub Entries : Type 0
 Entries = List (Result Item Reason)

@@ -1,34 +1,11 @@
 -- Each list that the laws use is given.
-use Rattle.std.proofs.Common.{◌≡◌, ℕ, zero, suc, ◌==◌, Bool, true, false, cond, List, [], ◌∷◌, map, Option, Some, None, Result, Ok, refl, sym, ap, subst}
-use Rattle.std.specs.Prelude.{Contains, slice_get}
-use Rattle.tcap_parts.specs.declared.component.Component.{Component}
-use Rattle.tcap_parts.specs.declared.component.Component.TheVariants.{Invoke, ReturnResult, ReturnError, Reject}
+use Rattle.tcap_grounds.proofs.Common.{◌≡◌, ℕ, zero, suc, ◌==◌, Bool, true, false, cond, List, [], ◌∷◌, map, Option, Some, None, Result, Ok, refl, sym, ap, subst, Contains, slice_get, Component, Invoke, ReturnResult, ReturnError, Reject, Message, components_in, dtid_in, Side, Entry, Table, Reason, Item, Sent, item_of, Kind, Refutation, How, Accepted, Begun, Any, Subject, is_of_link, subject, subject_by, subject_of, has_first, has_later, What, component_at, grounds_in, grounds_of, mark_scene, scene_of, shows, Scene, shown, component_with, items_before, scene_at}
 use Rattle.tcap_parts.specs.declared.problem.Problem.TheVariants as problems
-use Rattle.tcap_msg.specs.declared.message.Message.{Message}
-use Rattle.tcap_msg.specs.Parts.{components_in, dtid_in}
-use Rattle.tcap_record.specs.declared.entry.End.{End as Side}
-use Rattle.tcap_record.specs.declared.entry.Entry.{Entry}
-use Rattle.tcap_end.specs.Table.{Table}
-use Rattle.tcap_model.specs.declared.reason.Reason.{Reason}
-use Rattle.tcap_model.specs.World.{Item, Sent}
-use Rattle.tcap_model.specs.Entries.{item_of}
-use Rattle.tcap_refute.specs.declared.kind.Kind.{Kind}
 use Rattle.tcap_refute.specs.declared.kind.Kind.TheVariants as kinds
-use Rattle.tcap_refute.specs.declared.kind.Refutation.{Refutation}
-use Rattle.tcap_faults.specs.declared.dialogue.half_origin.How.{How}
-use Rattle.tcap_faults.specs.declared.dialogue.half_origin.How.TheVariants.{Accepted, Refused, Begun, Unanswered, Nowhere}
-use Rattle.tcap_faults.specs.declared.component.component_sort.Class.TheVariants.{Any}
 use Rattle.tcap_faults.specs.declared.component.component_sort.Sort.TheVariants as sorts
-use Rattle.tcap_faults.specs.declared.verdict.fault_subject.Subject.{Subject}
-use Rattle.tcap_faults.specs.Components.{is_of_link}
-use Rattle.tcap_faults.specs.FaultSubject.{subject, subject_by, subject_of}
-use Rattle.tcap_refute.proofs.Members.{has_first, has_later}
-use Rattle.tcap_evidence.specs.declared.shown_things.What.{What}
 use Rattle.tcap_evidence.specs.declared.shown_things.What.TheVariants as whats
-use Rattle.tcap_evidence.specs.Evidence.{component_at, dialogue_of, grounds_in, grounds_of, mark_scene, rejected_by, scene_of, shows, shows_to}
+use Rattle.tcap_evidence.specs.Evidence.{dialogue_of, rejected_by, shows_to}
 use Rattle.tcap_grounds.specs.GivenLists.{AreGiven, spoken_of, spoken_of_dialogue, spoken_of_rejected, spoken_of_to}
-use Rattle.tcap_evidence.specs.Scene.{Scene, shown}
-use Rattle.tcap_grounds.specs.ListedEntries.{component_with, items_before, scene_at}
 use Rattle.tcap_grounds.proofs.NumberedLists.{map_has}
 
 -- The second list has the items of the first at some indexes.
@@ -57,38 +34,24 @@ all_given s ws spoken (places, are) = by spoken places are
 -- ---- for each kind
 
 of_asked : (how : How) (c : Option Component) → Includes (shows_to how c kinds.AnswersNothing) (spoken_of_to how c kinds.AnswersNothing)
-of_asked how None = ([], refl)
-of_asked how (Some (Invoke id linked code parameter)) = ([], refl)
 of_asked how (Some (ReturnResult last id body)) = (0 ∷ [], refl)
 of_asked how (Some (ReturnError id code parameter)) = (0 ∷ [], refl)
-of_asked how (Some (Reject None problem)) = ([], refl)
 of_asked how (Some (Reject (Some id) (problems.General n))) = ([], refl)
-of_asked how (Some (Reject (Some id) (problems.Invoke n))) = (0 ∷ [], refl)
-of_asked how (Some (Reject (Some id) (problems.ReturnResult n))) = (0 ∷ [], refl)
-of_asked how (Some (Reject (Some id) (problems.ReturnError n))) = (0 ∷ [], refl)
+of_asked how (Some (Reject (Some id) problem)) = (0 ∷ [], refl)
+of_asked how c = ([], refl)
 
 of_operation : (how : How) (c : Option Component)
     → Includes (shows_to how c kinds.WrongOperation) (spoken_of_to how c kinds.WrongOperation)
-of_operation how None = ([], refl)
-of_operation how (Some (Invoke id linked code parameter)) = ([], refl)
 of_operation how (Some (ReturnResult last id body)) = (1 ∷ 3 ∷ [], refl)
 of_operation how (Some (ReturnError id code parameter)) = (1 ∷ 2 ∷ [], refl)
-of_operation how (Some (Reject id problem)) = ([], refl)
+of_operation how c = ([], refl)
 
 of_dialogue : (how : How) → Includes (dialogue_of how) (spoken_of_dialogue how)
 of_dialogue Accepted = (0 ∷ 2 ∷ 1 ∷ [], refl)
-of_dialogue Refused = ([], refl)
 of_dialogue Begun = (0 ∷ 1 ∷ [], refl)
-of_dialogue Unanswered = ([], refl)
-of_dialogue Nowhere = ([], refl)
+of_dialogue how = ([], refl)
 
 of_rejected : (c : Option Component) → Includes (rejected_by c) (spoken_of_rejected c)
-of_rejected None = ([], refl)
-of_rejected (Some (Invoke id linked code parameter)) = ([], refl)
-of_rejected (Some (ReturnResult last id body)) = ([], refl)
-of_rejected (Some (ReturnError id code parameter)) = ([], refl)
-of_rejected (Some (Reject None problem)) = ([], refl)
-of_rejected (Some (Reject (Some id) (problems.General n))) = ([], refl)
 of_rejected (Some (Reject (Some id) (problems.Invoke n))) = by (n == 0) (is_of_link n)
   where
     by : (first link : Bool)
@@ -101,6 +64,7 @@ of_rejected (Some (Reject (Some id) (problems.Invoke n))) = by (n == 0) (is_of_l
     by false false = ([], refl)
 of_rejected (Some (Reject (Some id) (problems.ReturnResult n))) = (0 ∷ 1 ∷ 2 ∷ 3 ∷ 4 ∷ 6 ∷ [], refl)
 of_rejected (Some (Reject (Some id) (problems.ReturnError n))) = (1 ∷ 0 ∷ 2 ∷ 3 ∷ 4 ∷ 5 ∷ [], refl)
+of_rejected c = ([], refl)
 
 includes_to : (how : How) (c : Option Component) (kind : Kind) → Includes (shows_to how c kind) (spoken_of_to how c kind)
 includes_to how c kinds.BadMessage = ([], refl)

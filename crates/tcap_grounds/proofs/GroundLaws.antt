@@ -1,31 +1,11 @@
 -- The given entries are the listed ones; and a component at fault belongs to a message over a half.
-use Rattle.std.proofs.Common.{◌≡◌, ◌≢◌, inr, ℕ, Bool, true, false, not, ◌&&◌, List, ◌∷◌, [], map, Option, Some, Result, Ok, refl, sym, ap, ◌∙◌}
-use Rattle.std.specs.Prelude.{Contains, slice_get}
-use Rattle.std.proofs.lemmas.Bool.{and_parts, not-true}
-use Rattle.tcap_msg.specs.declared.message.Message.{Message}
-use Rattle.tcap_msg.specs.Parts.{components_in, dtid_in}
-use Rattle.tcap_record.specs.declared.entry.End.{End as Side}
-use Rattle.tcap_record.specs.declared.entry.Entry.{Entry}
-use Rattle.tcap_end.specs.Table.{Table}
-use Rattle.tcap_model.specs.declared.reason.Reason.{Reason}
-use Rattle.tcap_model.specs.World.{Item, Sent}
-use Rattle.tcap_model.specs.Entries.{item_of}
-use Rattle.tcap_refute.specs.declared.kind.Kind.{Kind}
+use Rattle.tcap_grounds.proofs.Common.{◌≡◌, ◌≢◌, inr, ℕ, Bool, true, false, not, ◌&&◌, List, ◌∷◌, [], map, Option, Some, Result, Ok, refl, sym, ap, ◌∙◌, Contains, slice_get, and_parts, Message, components_in, dtid_in, Side, Entry, Table, Reason, Item, Sent, item_of, Kind, Refutation, Nowhere, Subject, is_fault, is_of_half_kind, is_wrong_half, HalfOf, half_of, subject, subject_by, subject_of, What, component_at, grounds_in, grounds_of, mark_scene, scene_of, shows, Scene, shown, items_before, scene_at}
 use Rattle.tcap_refute.specs.declared.kind.Kind.TheVariants as kinds
-use Rattle.tcap_refute.specs.declared.kind.Refutation.{Refutation}
-use Rattle.tcap_faults.specs.declared.dialogue.half_origin.How.TheVariants.{Nowhere}
-use Rattle.tcap_faults.specs.declared.verdict.fault_subject.Subject.{Subject}
-use Rattle.tcap_faults.specs.Fault.{is_fault, is_of_half_kind}
-use Rattle.tcap_faults.specs.HalfKinds.{is_wrong_half}
-use Rattle.tcap_faults.specs.HalfByPeerId.{HalfOf, half_of}
-use Rattle.tcap_faults.specs.FaultSubject.{subject, subject_by, subject_of}
-use Rattle.tcap_evidence.specs.declared.shown_things.What.{What}
 use Rattle.tcap_evidence.specs.declared.shown_things.What.TheVariants as whats
-use Rattle.tcap_evidence.specs.Evidence.{component_at, grounds_in, grounds_of, mark_scene, scene_of, shows}
-use Rattle.tcap_evidence.specs.Scene.{Scene, shown}
-use Rattle.tcap_grounds.specs.ListedEntries.{is_of_component, items_before, scene_at}
+use Rattle.tcap_grounds.specs.ListedEntries.{is_of_component}
 use Rattle.tcap_grounds.proofs.HasKindLaws.{half_so, is_of_a_half}
 use Rattle.tcap_grounds.proofs.NumberedLists.{map_is}
+use Rattle.tcap_grounds.proofs.SoLaws.{speaks_half}
 
 -- ---- the given entries
 
@@ -62,30 +42,23 @@ module _ (of_one : Bool) (table : Table) (side : Side) (entries : List Entry) (r
 -- ---- a component at fault
 
 module _ (table : Table) (side : Side) (items : List Item) (m : Message) (id : List ℕ) where
-  first : (h : HalfOf) (more : Bool) → (not (is_wrong_half side items m h) && more) ≡ true
-      → is_wrong_half side items m h ≡ false
-  first h more both =
-      not-true (is_wrong_half side items m h) (and_parts (not (is_wrong_half side items m h)) more both).0
+  -- A message with one of these kinds has a half that may send.
+  first : (h : HalfOf) (more : Bool) → (not (is_wrong_half side items m h) && more) ≡ true → h.how ≢ Nowhere
+  first h more both = speaks_half side items m h (and_parts (not (is_wrong_half side items m h)) more both).0
 
-  -- No message with one of these kinds has a wrong half.
   speaks : (h : HalfOf) (kind : Kind) → is_of_component kind ≡ true
-      → is_of_half_kind table side id items m h kind ≡ true → is_wrong_half side items m h ≡ false
+      → is_of_half_kind table side id items m h kind ≡ true → h.how ≢ Nowhere
   speaks h kinds.InvokeIdBusy is so = first h _ so
   speaks h kinds.BadLink is so = first h _ so
   speaks h kinds.AnsweredAlready is so = first h _ so
   speaks h kinds.RejectNotAllowed is so = first h _ so
-  speaks h kind is so = cc
+  speaks h kind is so = let bad : false ≡ true = is in cc
 
   of_a_half : (kind : Kind) → is_of_component kind ≡ true → is_of_a_half kind ≡ true
   of_a_half kinds.InvokeIdBusy is = refl
-  of_a_half kinds.BadLink is = refl
-  of_a_half kinds.AnsweredAlready is = refl
-  of_a_half kinds.RejectNotAllowed is = refl
   of_a_half kind is = cc
 
   pub has_half : (kind : Kind) → dtid_in m ≡ Some id → is_of_component kind ≡ true
       → is_fault table side items m kind ≡ true → (half_of side items id).how ≢ Nowhere
-  has_half kind to is so nowhere =
-      let of_it = half_so table side items m id to kind (of_a_half kind is) (inr so) in
-      let fits : is_wrong_half side items m (half_of side items id) ≡ false = speaks (half_of side items id) kind is of_it in
-      let bad : true ≡ false = rw nowhere at fits in cc
+  has_half kind to is so =
+      speaks (half_of side items id) kind is (half_so table side items m id to kind (of_a_half kind is) (inr so))

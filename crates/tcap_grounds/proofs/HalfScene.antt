@@ -1,41 +1,15 @@
 -- The lists of a half: its Begin, the Continues to it and from it, and whether it was closed.
-use Rattle.std.proofs.Common.{◌≡◌, ◌⊎◌, inl, inr, ℕ, ◌<◌, Bool, true, false, cond, ◌&&◌, ◌||◌, List, [], ◌∷◌, Option, Some, None, is_some, option_to_list, refl, sym, ap, subst, ◌∙◌, is_none}
-use Rattle.std.specs.Prelude.{Contains, filter}
-use Rattle.std.specs.List.{find, list_any}
-use Rattle.std.proofs.lemmas.Bool.{and_from, and_parts}
-use Rattle.std.proofs.lemmas.List.Elements.{Contains-append_left, Contains-append_right}
-use Rattle.tcap_msg.specs.declared.message.Message.{Message}
-use Rattle.tcap_msg.specs.declared.message.Message.TheVariants.{Unidirectional, Begin, Continue, End as EndMessage, Abort}
-use Rattle.tcap_msg.specs.Parts.{cause_in, dtid_in, otid_in}
-use Rattle.tcap_record.specs.declared.entry.End.{End as Side}
-use Rattle.tcap_end.specs.End.{is_id}
-use Rattle.tcap_model.specs.World.{Item}
+use Rattle.tcap_grounds.proofs.Common.{false_from_ne_true, ◌≡◌, ◌⊎◌, inl, inr, ℕ, ◌<◌, Bool, true, false, cond, ◌&&◌, ◌||◌, List, [], ◌∷◌, Option, Some, None, is_some, option_to_list, refl, sym, ap, subst, ◌∙◌, is_none, Contains, filter, find, list_any, and_from, and_parts, Contains-append_left, Contains-append_right, Message, Begin, Continue, cause_in, dtid_in, otid_in, Side, is_id, Item, id_is, asked, has_a, is_a, sent_by, is_begin_with_request, or_else, any_has, filter_has, filter_map_has, has_not, Begun, was_closed, count, is_nothing, answered_from, begun_from, continued_to, from_first, heard_of, responds, goes_to_begun, is_own_tangled, owns_of, peers_of, began, begin_from, begins_from, goes_on_from, goes_on_to, is_request_of, told, filter_is, find_has, none_passes, entries_where, Scene, is_that, own_id, to_half, ListsOne, contains_first, is_that_id, other}
 use Rattle.tcap_model.specs.Run.{then_so}
-use Rattle.tcap_model.proofs.TurnLaws.{id_is}
-use Rattle.tcap_refute.specs.EarlierMessages.{asked, has_a, is_a, sent_by}
-use Rattle.tcap_refute.specs.Kind.{is_begin_with_request, or_else}
-use Rattle.tcap_refute.proofs.Members.{any_has, filter_has, filter_map_has, has_not}
-use Rattle.tcap_faults.specs.declared.dialogue.half_origin.How.TheVariants.{Begun}
-use Rattle.tcap_faults.specs.ClosedHalves.{was_closed}
-use Rattle.tcap_faults.specs.Counts.{count, is_nothing}
-use Rattle.tcap_faults.specs.HalfByPeerId.{answered_from, begun_from, continued_to, from_first, heard_of, responds}
-use Rattle.tcap_faults.specs.TangledIds.{goes_to_begun, is_own_tangled, owns_of, peers_of}
-use Rattle.tcap_faults.specs.SentToId.{began, begin_from, begins_from, goes_on_from, goes_on_to, is_request_of, told}
 use Rattle.tcap_faults.proofs.kind_laws.HalfFacts.{not_nothing}
-use Rattle.tcap_faults.proofs.list_laws.FindLaws.{filter_is, find_has, find_none}
+use Rattle.tcap_faults.proofs.list_laws.FindLaws.{find_none}
 use Rattle.tcap_faults.proofs.kind_laws.OwnHalfLaws.{begun_there, only_first}
 use Rattle.tcap_faults.proofs.transaction_laws.TangledLaws.{began_used, joins}
-use Rattle.tcap_faults.proofs.list_laws.TwoTests.{any_found, none_passes}
+use Rattle.tcap_faults.proofs.list_laws.TwoTests.{any_found}
 use Rattle.tcap_grounds.specs.HalfEvidence.{Begins}
-use Rattle.tcap_evidence.specs.NumberedMessages.{entries_where}
-use Rattle.tcap_evidence.specs.Scene.{Scene, is_that, own_id, to_half}
-use Rattle.tcap_grounds.specs.ListedEntries.{ListsOne}
 use Rattle.tcap_grounds.proofs.ClosedShows.{closed_by}
 use Rattle.tcap_grounds.proofs.ListsLaws.{none_pass, none_there, one_aborts, one_sent, one_there, one_told}
 use Rattle.tcap_grounds.proofs.SceneLists.{IsTo, half_are}
-use Rattle.tcap_model.proofs.ListLaws.{contains_first}
-use Rattle.tcap_refute.proofs.BeforeLaws.{is_that_id}
-use Rattle.tcap_record.specs.Ends.{other}
 use Rattle.tcap_msg.specs.declared.kind.Kind.TheVariants as forms
 use Rattle.tcap_evidence.specs.declared.shown_things.What.TheVariants as whats
 
@@ -54,10 +28,7 @@ none_first p (m ∷ ms) nothing = by (p m) nothing (none_first p ms)
 -- A Begin with a request is a Begin.
 pub request_begins : (m : Message) → is_begin_with_request m ≡ true → is_a forms.Begin m ≡ true
 request_begins (Begin otid dialogue components) is = refl
-request_begins (Unidirectional dialogue components) is = cc
-request_begins (Continue otid dtid dialogue components) is = cc
-request_begins (EndMessage dtid dialogue components) is = cc
-request_begins (Abort dtid reason) is = cc
+request_begins m is = cc
 
 -- ---- the scene of a message to this ID
 
@@ -94,11 +65,9 @@ module _ (side : Side) (items : List Item) (s : Scene) (id : List ℕ) (of : IsT
       none_passes is_begin_with_request (asked side id items) none
     where
       none : (x : Message) → Contains (asked side id items) x → is_begin_with_request x ≡ false
-      none x has = by (is_begin_with_request x) refl
-        where
-          by : (b : Bool) → is_begin_with_request x ≡ b → b ≡ false
-          by false so = refl
-          by true so = find_none (is_a forms.Begin) (asked side id items) x found has (request_begins x so)
+      none x has =
+          false_from_ne_true (is_begin_with_request x)
+          (λ so. find_none (is_a forms.Begin) (asked side id items) x found has (request_begins x so))
   requests_are few (Some b) found = by (is_begin_with_request b) refl
     where
       the_one : (x : Message) → Contains (asked side id items) x → is_begin_with_request x ≡ true → b ≡ x
@@ -122,11 +91,9 @@ module _ (side : Side) (items : List Item) (s : Scene) (id : List ℕ) (of : IsT
       by false not_so = none_passes is_begin_with_request (asked side id items) none
         where
           none : (x : Message) → Contains (asked side id items) x → is_begin_with_request x ≡ false
-          none x has = of_it (is_begin_with_request x) refl
-            where
-              of_it : (c : Bool) → is_begin_with_request x ≡ c → c ≡ false
-              of_it false so = refl
-              of_it true so = sym so ∙ ap is_begin_with_request (sym (the_one x has so)) ∙ not_so
+          none x has =
+              false_from_ne_true (is_begin_with_request x)
+              (λ so. let bad : true ≡ false = sym so ∙ ap is_begin_with_request (sym (the_one x has so)) ∙ not_so in cc)
 
   -- ---- a half whose Begin the end sent
 

@@ -1,41 +1,12 @@
 -- The lists show F8: a message that no half may send.
-use Rattle.std.proofs.Common.{◌≡◌, ◌≢◌, ◌⊎◌, inl, inr, ℕ, Bool, true, false, cond, ◌||◌, List, [], Option, Some, None, refl, sym, ap, subst, ◌∙◌}
-use Rattle.std.specs.Prelude.{Contains}
-use Rattle.std.specs.List.{list_any}
-use Rattle.std.proofs.lemmas.Bool.{not-true, or_cases, or_parts}
-use Rattle.std.proofs.lemmas.List.Elements.{Contains-append_left}
-use Rattle.tcap_msg.specs.declared.message.Message.{Message}
-use Rattle.tcap_msg.specs.declared.message.Message.TheVariants.{Unidirectional, Begin, Continue, End as EndMessage, Abort}
-use Rattle.tcap_msg.specs.Parts.{dtid_in, otid_in}
-use Rattle.tcap_record.specs.declared.entry.End.{End as Side}
-use Rattle.tcap_record.specs.declared.entry.Entry.{Entry}
-use Rattle.tcap_end.specs.End.{is_id}
-use Rattle.tcap_end.specs.Table.{Table}
-use Rattle.tcap_model.specs.World.{Item}
-use Rattle.tcap_model.proofs.TurnLaws.{id_is}
-use Rattle.tcap_refute.specs.EarlierMessages.{asked, has_a, is_a}
-use Rattle.tcap_refute.specs.Kind.{or_else}
-use Rattle.tcap_faults.specs.declared.dialogue.half_origin.How.{How}
-use Rattle.tcap_faults.specs.declared.dialogue.half_origin.How.TheVariants.{Accepted, Refused, Begun, Unanswered}
-use Rattle.tcap_faults.specs.ClosedHalves.{was_closed}
-use Rattle.tcap_faults.specs.Counts.{is_nothing}
-use Rattle.tcap_faults.specs.HalfKinds.{goes_from_other, is_another, is_wrong_half, may_not_speak}
-use Rattle.tcap_faults.specs.HalfByPeerId.{answered_from, begun_from, continued_to, half_by, half_of, heard_of}
-use Rattle.tcap_faults.specs.TangledIds.{are_tangled, goes_over_tangled, goes_to_begun, is_own_tangled, near, own_of_continue, owns_of}
-use Rattle.tcap_faults.specs.SentToId.{began, begin_from, was_refused}
-use Rattle.tcap_faults.proofs.list_laws.CountLaws.{one}
-use Rattle.tcap_faults.proofs.list_laws.TwoTests.{passes_not}
+use Rattle.tcap_grounds.proofs.Common.{◌≡◌, ◌≢◌, ◌⊎◌, inl, inr, ℕ, Bool, true, false, cond, ◌||◌, List, [], Option, Some, None, refl, sym, ap, subst, ◌∙◌, Contains, list_any, not-true, or_cases, or_parts, Contains-append_left, Message, Begin, Continue, dtid_in, otid_in, Side, Entry, is_id, Table, Item, id_is, asked, has_a, is_a, or_else, How, Accepted, Refused, Begun, Unanswered, was_closed, is_nothing, goes_from_other, is_wrong_half, may_not_speak, answered_from, begun_from, continued_to, half_by, half_of, heard_of, goes_over_tangled, goes_to_begun, is_own_tangled, owns_of, began, begin_from, was_refused, one, passes_not, entries_where, Scene, there, AreDifferent, HasKind, ListsOne, items_before, scene_at, is_that_id, other, subject}
+use Rattle.tcap_faults.specs.HalfKinds.{is_another}
+use Rattle.tcap_faults.specs.TangledIds.{are_tangled, near, own_of_continue}
 use Rattle.tcap_grounds.specs.HalfEvidence.{ShowsWrongHalf}
-use Rattle.tcap_evidence.specs.NumberedMessages.{entries_where}
-use Rattle.tcap_evidence.specs.Scene.{Scene, there}
-use Rattle.tcap_grounds.specs.ListedEntries.{AreDifferent, HasKind, ListsOne, items_before, scene_at}
 use Rattle.tcap_grounds.proofs.CountedLaws.{scene_over, scene_to}
 use Rattle.tcap_grounds.proofs.HasKindLaws.{further_so, goes_so, half_so}
 use Rattle.tcap_grounds.proofs.ListsLaws.{none_aborts, none_there, one_aborts, one_there}
 use Rattle.tcap_grounds.proofs.SceneLists.{IsOver, IsTo}
-use Rattle.tcap_refute.proofs.BeforeLaws.{is_that_id}
-use Rattle.tcap_record.specs.Ends.{other}
-use Rattle.tcap_faults.specs.FaultSubject.{subject}
 use Rattle.tcap_grounds.proofs.HalfScene.{begun_one, none_begun, starts, unanswered, told_one, begun_closed, accepted_closed, ArePlain}
 use Rattle.tcap_msg.specs.declared.kind.Kind.TheVariants as forms
 use Rattle.tcap_refute.specs.declared.kind.Kind.TheVariants as kinds
@@ -74,19 +45,13 @@ module _ (side : Side) (items : List Item) (s : Scene) (id : List ℕ) (of : IsT
           same true one =
               inl (begun_one side items s id of otid (ap (λ (q : Option (List ℕ)). or_else q s.from) half ∙ id_is otid (Some own) one) begun)
           same false two = inr (told_one side items s id of own answered, (own, otid, half, from, differ otid own two))
-  other_accepted o answered half (Unidirectional dialogue components) from is = cc
-  other_accepted o answered half (Begin otid dialogue components) from is = cc
-  other_accepted o answered half (EndMessage dtid dialogue components) from is = cc
-  other_accepted o answered half (Abort dtid reason) from is = cc
+  other_accepted o answered half x from is = cc
 
   other_begun : (own : List ℕ) → s.half ≡ Some own → (x : Message) → s.from ≡ otid_in x
       → goes_from_other side items Begun (Some own) x ≡ true → AreDifferent s.half s.from
   other_begun own half (Continue otid dtid dialogue components) from is =
       (own, otid, half, from, differ otid own (not-true (is_id otid (Some own)) is))
-  other_begun own half (Unidirectional dialogue components) from is = cc
-  other_begun own half (Begin otid dialogue components) from is = cc
-  other_begun own half (EndMessage dtid dialogue components) from is = cc
-  other_begun own half (Abort dtid reason) from is = cc
+  other_begun own half x from is = cc
 
   closed_accepted : (o : Option (List ℕ)) → answered_from side items id ≡ o → was_closed side items o ≡ true
       → ListsOne s whats.Unknown

@@ -1,19 +1,14 @@
 -- The test that holds if a message has a kind.
-use Rattle.std.proofs.Common.{◌≡◌, inl, inr, ℕ, Bool, true, false, not, ◌||◌, List, Option, Some, None, refl, sym, ◌∙◌}
-use Rattle.std.proofs.lemmas.Bool.{and_parts, not-true}
-use Rattle.tcap_msg.specs.declared.message.Message.{Message}
-use Rattle.tcap_msg.specs.Parts.{cause_in, dtid_in}
-use Rattle.tcap_record.specs.declared.entry.End.{End as Side}
-use Rattle.tcap_end.specs.Table.{Table}
-use Rattle.tcap_model.specs.World.{Item}
-use Rattle.tcap_refute.specs.declared.kind.Kind.{Kind}
+use Rattle.tcap_grounds.proofs.Common.{◌≡◌, inl, inr, ℕ, Bool, true, false, not, ◌||◌, List, Option, Some, None, refl, sym, ◌∙◌, and_parts, not-true, or_cases, Message, cause_in, dtid_in, Side, Table, Item, Kind, is_fault, is_of_half_kind, HalfOf, half_of, goes_over_tangled, HasKind}
+use Rattle.std.proofs.Common.{⊎_elim}
 use Rattle.tcap_refute.specs.FirstKinds.{is_of_first_kind}
 use Rattle.tcap_refute.specs.Kind.{is_of_kind}
-use Rattle.tcap_faults.specs.Fault.{is_fault, is_of_alone_kind, is_of_further_kind, is_of_half_kind, is_of_kind_to, is_of_reply_kind}
-use Rattle.tcap_faults.specs.HalfByPeerId.{HalfOf, half_of}
-use Rattle.tcap_faults.specs.TangledIds.{goes_over_tangled}
-use Rattle.tcap_grounds.specs.ListedEntries.{HasKind}
+use Rattle.tcap_faults.specs.Fault.{is_of_alone_kind, is_of_further_kind, is_of_kind_to, is_of_reply_kind}
 use Rattle.tcap_refute.specs.declared.kind.Kind.TheVariants as kinds
+
+-- What follows from each of two tests follows if one of them holds.
+pub either : {A : Type 0} (a b : Bool) → (a || b) ≡ true → (a ≡ true → A) → (b ≡ true → A) → A
+either a b is first second = ⊎_elim first second (or_cases a b is)
 
 -- F2 to F4, F6 and F7, which are the same for one end and for both
 abbrev is_early : Kind → Bool
@@ -59,27 +54,12 @@ module _ (table : Table) (side : Side) (items : List Item) (m : Message) where
   not_to : (id : List ℕ) (cause : Option ℕ) (kind : Kind) → is_first kind ≡ true
       → is_of_kind_to table side id items m cause kind ≡ false
   not_to id None kinds.UnknownTransaction early = refl
-  not_to id None kinds.ReusedId early = refl
-  not_to id None kinds.AfterEnd early = refl
-  not_to id None kinds.AnswersNothing early = refl
-  not_to id None kinds.WrongOperation early = refl
-  not_to id None kinds.MisplacedDialogue early = refl
   not_to id (Some cause) kinds.UnknownTransaction early = refl
-  not_to id (Some cause) kinds.ReusedId early = refl
-  not_to id (Some cause) kinds.AfterEnd early = refl
-  not_to id (Some cause) kinds.AnswersNothing early = refl
-  not_to id (Some cause) kinds.WrongOperation early = refl
-  not_to id (Some cause) kinds.MisplacedDialogue early = refl
   not_to id cause kind early = cc
 
   not_further : (o : Option (List ℕ)) (kind : Kind) → is_first kind ≡ true
       → is_of_further_kind table side items m o kind ≡ false
   not_further None kinds.UnknownTransaction early = refl
-  not_further None kinds.ReusedId early = refl
-  not_further None kinds.AfterEnd early = refl
-  not_further None kinds.AnswersNothing early = refl
-  not_further None kinds.WrongOperation early = refl
-  not_further None kinds.MisplacedDialogue early = refl
   not_further None kind early = cc
   not_further (Some id) kind early = not_to id (cause_in m) kind early
 
@@ -87,32 +67,17 @@ module _ (table : Table) (side : Side) (items : List Item) (m : Message) where
   pub first_so : (kind : Kind) → is_first kind ≡ true → is_fault table side items m kind ≡ true
       → is_of_first_kind table side items m kind ≡ true
   first_so kind early is =
-      let (untangled, either) =
-      and_parts (not (goes_over_tangled side items m))
-      (is_of_first_kind table side items m kind || is_of_further_kind table side items m (dtid_in m) kind) is in
-      by (is_of_first_kind table side items m kind) (rw (not_further (dtid_in m) kind early) at either)
-    where
-      by : (b : Bool) → (b || false) ≡ true → b ≡ true
-      by true so = refl
-      by false so = so
+      either _ _ (and_parts (not (goes_over_tangled side items m)) _ is).1 (λ first. first)
+      (λ further. let bad : false ≡ true = sym (not_further (dtid_in m) kind early) ∙ further in cc)
 
   -- F2 to F4, F6 and F7 have the same test for one end as for both.
   asked_alike : (kind : Kind) → is_early kind ≡ true
       → is_of_first_kind table side items m kind ≡ is_of_kind table side items m kind
   asked_alike kinds.UnknownTransaction early = refl
-  asked_alike kinds.ReusedId early = refl
-  asked_alike kinds.AfterEnd early = refl
-  asked_alike kinds.WrongOperation early = refl
-  asked_alike kinds.MisplacedDialogue early = refl
   asked_alike kind early = cc
 
   early_first : (kind : Kind) → is_early kind ≡ true → is_first kind ≡ true
-  early_first kinds.AnswersNothing early = refl
   early_first kinds.UnknownTransaction early = refl
-  early_first kinds.ReusedId early = refl
-  early_first kinds.AfterEnd early = refl
-  early_first kinds.WrongOperation early = refl
-  early_first kinds.MisplacedDialogue early = refl
   early_first kind early = cc
 
   pub kind_so : (kind : Kind) → is_early kind ≡ true → HasKind table side items m kind
@@ -126,48 +91,26 @@ module _ (table : Table) (side : Side) (items : List Item) (m : Message) where
   -- None of these kinds refutes a record.
   not_refuting : (kind : Kind) → is_further kind ≡ true → is_of_kind table side items m kind ≡ false
   not_refuting kinds.WrongHalf late = refl
-  not_refuting kinds.WrongDialogue late = refl
-  not_refuting kinds.InvokeIdBusy late = refl
-  not_refuting kinds.BadLink late = refl
-  not_refuting kinds.AnsweredAlready late = refl
-  not_refuting kinds.RejectNotAllowed late = refl
-  not_refuting kinds.WrongReply late = refl
   not_refuting kind late = cc
 
   not_first : (kind : Kind) → is_further kind ≡ true → is_of_first_kind table side items m kind ≡ false
   not_first kinds.WrongHalf late = refl
-  not_first kinds.WrongDialogue late = refl
-  not_first kinds.InvokeIdBusy late = refl
-  not_first kinds.BadLink late = refl
-  not_first kinds.AnsweredAlready late = refl
-  not_first kinds.RejectNotAllowed late = refl
-  not_first kinds.WrongReply late = refl
   not_first kind late = cc
 
   pub further_so : (kind : Kind) → is_further kind ≡ true → HasKind table side items m kind
       → (goes_over_tangled side items m ≡ false) × (is_of_further_kind table side items m (dtid_in m) kind ≡ true)
   further_so kind late (inl is) = let bad : false ≡ true = sym (not_refuting kind late) ∙ is in cc
   further_so kind late (inr is) =
-      let (untangled, either) =
-      and_parts (not (goes_over_tangled side items m))
-      (is_of_first_kind table side items m kind || is_of_further_kind table side items m (dtid_in m) kind) is in
-      (not-true (goes_over_tangled side items m) untangled, rw (not_first kind late) at either)
+      let (untangled, some) = and_parts (not (goes_over_tangled side items m)) _ is in
+      (not-true (goes_over_tangled side items m) untangled, rw (not_first kind late) at some)
 
   -- A message with one of these kinds has a destination ID, except for F10 and F11.
   not_alone : (kind : Kind) → is_never_alone kind ≡ true → is_of_alone_kind m kind ≡ false
   not_alone kinds.WrongHalf never = refl
-  not_alone kinds.WrongDialogue never = refl
-  not_alone kinds.AnsweredAlready never = refl
-  not_alone kinds.RejectNotAllowed never = refl
-  not_alone kinds.WrongReply never = refl
   not_alone kind never = cc
 
   never_further : (kind : Kind) → is_never_alone kind ≡ true → is_further kind ≡ true
   never_further kinds.WrongHalf never = refl
-  never_further kinds.WrongDialogue never = refl
-  never_further kinds.AnsweredAlready never = refl
-  never_further kinds.RejectNotAllowed never = refl
-  never_further kinds.WrongReply never = refl
   never_further kind never = cc
 
   pub goes_so : (kind : Kind) → is_never_alone kind ≡ true → HasKind table side items m kind
@@ -202,21 +145,10 @@ module _ (table : Table) (side : Side) (items : List Item) (m : Message) where
     not_reply : (h : HalfOf) (cause : ℕ) (kind : Kind) → is_of_a_half kind ≡ true
         → is_of_reply_kind table side id items h cause kind ≡ false
     not_reply h cause kinds.WrongHalf late = refl
-    not_reply h cause kinds.WrongDialogue late = refl
-    not_reply h cause kinds.InvokeIdBusy late = refl
-    not_reply h cause kinds.BadLink late = refl
-    not_reply h cause kinds.AnsweredAlready late = refl
-    not_reply h cause kinds.RejectNotAllowed late = refl
     not_reply h cause kind late = cc
 
     half_further : (kind : Kind) → is_of_a_half kind ≡ true → is_further kind ≡ true
-    half_further kinds.WrongReply late = refl
     half_further kinds.WrongHalf late = refl
-    half_further kinds.WrongDialogue late = refl
-    half_further kinds.InvokeIdBusy late = refl
-    half_further kinds.BadLink late = refl
-    half_further kinds.AnsweredAlready late = refl
-    half_further kinds.RejectNotAllowed late = refl
     half_further kind late = cc
 
     pub half_so : (kind : Kind) → is_of_a_half kind ≡ true → HasKind table side items m kind

@@ -1,41 +1,13 @@
 -- The given invocations are the Invokes of their entries, one for each entry of a list of Invokes.
-use Rattle.std.proofs.Common.{◌≡◌, ◌⊎◌, inl, inr, ℕ, ℤ, Bool, true, false, cond, ◌&&◌, List, [], ◌∷◌, ◌++◌, map, Option, Some, None, Result, Ok, refl, sym, ap, subst, ◌∙◌}
-use Rattle.std.specs.Prelude.{Contains, filter, slice_get}
+use Rattle.tcap_grounds.proofs.Common.{◌≡◌, ◌⊎◌, inl, inr, ℕ, ℤ, Bool, true, false, cond, ◌&&◌, List, [], ◌∷◌, ◌++◌, map, Option, Some, None, Result, Ok, refl, sym, ap, subst, ◌∙◌, Contains, filter, slice_get, map-append, Component, Invoke, ReturnResult, ReturnError, Reject, Message, components_in, Side, Entry, other, Table, Reason, Item, Sent, item_of, contains_first, is_invoke_id, Kind, Refutation, has_not, subject, subject_by, subject_of, is_sort, Any, Subject, flat_map_is, What, component_at, scene_of, invokes_listed, Numbered, entries_with, in_order, sent_before, invocations_at, Scene, heard_by, invoked_by, shown, there, with_sort, component_with, items_before, scene_at}
 use Rattle.std.specs.List.{flat_map}
-use Rattle.std.proofs.lemmas.List.{map-append}
-use Rattle.tcap_parts.specs.declared.component.Component.{Component}
-use Rattle.tcap_parts.specs.declared.component.Component.TheVariants.{Invoke, ReturnResult, ReturnError, Reject}
-use Rattle.tcap_msg.specs.declared.message.Message.{Message}
-use Rattle.tcap_msg.specs.Parts.{components_in}
-use Rattle.tcap_record.specs.declared.entry.End.{End as Side}
-use Rattle.tcap_record.specs.declared.entry.Entry.{Entry}
-use Rattle.tcap_record.specs.Ends.{other}
-use Rattle.tcap_end.specs.Table.{Table}
-use Rattle.tcap_model.specs.declared.reason.Reason.{Reason}
-use Rattle.tcap_model.specs.World.{Item, Sent}
-use Rattle.tcap_model.specs.Entries.{item_of}
-use Rattle.tcap_model.proofs.ListLaws.{contains_first}
-use Rattle.tcap_refute.specs.EarlierMessages.{is_invoke_id}
-use Rattle.tcap_refute.specs.declared.kind.Kind.{Kind}
 use Rattle.tcap_refute.specs.declared.kind.Kind.TheVariants as kinds
-use Rattle.tcap_refute.specs.declared.kind.Refutation.{Refutation}
-use Rattle.tcap_refute.proofs.Members.{has_not}
-use Rattle.tcap_faults.specs.FaultSubject.{subject, subject_by, subject_of}
-use Rattle.tcap_faults.specs.InvokeCounts.{is_sort}
-use Rattle.tcap_faults.specs.declared.component.component_sort.Class.TheVariants.{Any}
 use Rattle.tcap_faults.specs.declared.component.component_sort.Sort.TheVariants as sorts
-use Rattle.tcap_faults.specs.declared.verdict.fault_subject.Subject.{Subject}
 use Rattle.tcap_faults.proofs.story_laws.InvokeListLaws.{id_same}
-use Rattle.tcap_faults.proofs.list_laws.TwoTests.{flat_map_is}
 use Rattle.tcap_evidence.specs.declared.operations.Invocation.{Invocation}
-use Rattle.tcap_evidence.specs.declared.shown_things.What.{What}
 use Rattle.tcap_evidence.specs.declared.shown_things.What.TheVariants as whats
-use Rattle.tcap_evidence.specs.Evidence.{component_at, scene_of}
-use Rattle.tcap_grounds.specs.GivenLists.{IsInvoke, invokes_listed}
-use Rattle.tcap_evidence.specs.NumberedMessages.{Numbered, entries_with, in_order, sent_before}
-use Rattle.tcap_evidence.specs.Operations.{answers, compared, invocation_in, invocations_at, invocations_in, invocations_of, rejects_answer}
-use Rattle.tcap_evidence.specs.Scene.{Scene, heard_by, invoked_by, shown, there, with_sort}
-use Rattle.tcap_grounds.specs.ListedEntries.{component_with, items_before, scene_at}
+use Rattle.tcap_grounds.specs.GivenLists.{IsInvoke}
+use Rattle.tcap_evidence.specs.Operations.{answers, compared, invocation_in, invocations_in, invocations_of, rejects_answer}
 use Rattle.tcap_evidence.specs.EvidenceWords.{sender_of}
 use Rattle.tcap_grounds.proofs.OrderLaws.{in_order_is}
 use Rattle.tcap_grounds.proofs.SentBefore.{was_sent}

@@ -1,30 +1,11 @@
 -- The lists show F2 to F4 of a message, and F15 of a quiet mark.
-use Rattle.std.proofs.Common.{◌≡◌, inl, inr, ℕ, Bool, true, false, not, ◌&&◌, List, [], ◌∷◌, Option, Some, None, is_none, refl, ap, ◌∙◌}
-use Rattle.std.specs.List.{list_any}
-use Rattle.std.proofs.lemmas.Bool.{and_parts, not-true}
+use Rattle.tcap_grounds.proofs.Common.{◌≡◌, inl, inr, ℕ, Bool, true, false, not, ◌&&◌, List, [], ◌∷◌, Option, Some, None, is_none, refl, ap, ◌∙◌, list_any, and_parts, not-true, Message, Begin, Continue, cause_in, dtid_in, otid_in, Side, Entry, is_id, Table, Item, ended_by, asked, has_a, is_a, sent_by, goes_elsewhere, is_surely_open, any_is, any_has, Subject, mark_scene, scene_of, entries_where, Scene, is_open_continue, there, HasKind, ListsNone, ListsOne, items_before}
 use Rattle.tcap_msg.specs.declared.kind.Kind.TheVariants as forms
-use Rattle.tcap_msg.specs.declared.message.Message.{Message}
-use Rattle.tcap_msg.specs.declared.message.Message.TheVariants.{Unidirectional, Begin, Continue, End as EndMessage, Abort}
-use Rattle.tcap_msg.specs.Parts.{cause_in, dtid_in, otid_in}
-use Rattle.tcap_record.specs.declared.entry.End.{End as Side}
-use Rattle.tcap_record.specs.declared.entry.Entry.{Entry}
-use Rattle.tcap_end.specs.End.{is_id}
-use Rattle.tcap_end.specs.Table.{Table}
-use Rattle.tcap_model.specs.World.{Item}
-use Rattle.tcap_model.specs.SinceMark.{ended_by}
 use Rattle.tcap_refute.specs.declared.kind.Kind.TheVariants as kinds
-use Rattle.tcap_refute.specs.EarlierMessages.{asked, has_a, is_a, sent_by}
-use Rattle.tcap_refute.specs.Kind.{goes_elsewhere, is_after_end, is_reused, is_unasked, is_unknown_transaction}
-use Rattle.tcap_faults.specs.ClosedHalves.{is_surely_open}
-use Rattle.tcap_faults.proofs.list_laws.FindLaws.{any_is}
-use Rattle.tcap_refute.proofs.Members.{any_has}
-use Rattle.tcap_faults.specs.declared.verdict.fault_subject.Subject.{Subject}
+use Rattle.tcap_refute.specs.Kind.{is_after_end, is_reused, is_unasked, is_unknown_transaction}
 use Rattle.tcap_faults.specs.Fault.{is_left_open, is_open_at_mark}
 use Rattle.tcap_evidence.specs.declared.shown_things.What.TheVariants as whats
-use Rattle.tcap_evidence.specs.Evidence.{mark_scene, scene_of}
-use Rattle.tcap_evidence.specs.NumberedMessages.{entries_where}
-use Rattle.tcap_evidence.specs.Scene.{Scene, is_open_continue, there}
-use Rattle.tcap_grounds.specs.ListedEntries.{HasKind, ListsNone, ListsOne, ShowsReused, ShowsUnknown, items_before}
+use Rattle.tcap_grounds.specs.ListedEntries.{ShowsReused, ShowsUnknown}
 use Rattle.tcap_grounds.proofs.CountedLaws.{scene_to}
 use Rattle.tcap_grounds.proofs.HasKindLaws.{kind_so}
 use Rattle.tcap_grounds.proofs.ListsLaws.{none_there, sent_one}
@@ -93,9 +74,7 @@ reused_shows_by table side entries number (Continue otid dtid dialogue component
           (scene_of table side entries number (Continue otid dtid dialogue components) kinds.ReusedId about)
           (goes_elsewhere otid dtid) refl is,
     )
-reused_shows_by table side entries number (Unidirectional dialogue components) about is = cc
-reused_shows_by table side entries number (EndMessage dtid dialogue components) about is = cc
-reused_shows_by table side entries number (Abort dtid reason) about is = cc
+reused_shows_by table side entries number m about is = cc
 
 module _ (table : Table) (side : Side) (entries : List Entry) (number : ℕ) (m : Message) (about : Subject) where
   pub reused_shows : HasKind table side (items_before entries number) m kinds.ReusedId

@@ -1,3 +1,4 @@
+pub mod Common
 pub mod SentBefore
 pub mod NumberedLists
 pub mod OrderLaws

@@ -1,28 +1,8 @@
 -- Each entry before the message at fault that matches a list is listed.
-use Rattle.std.proofs.Common.{◌≡◌, ◌⊎◌, inl, inr, ℕ, Bool, true, false, ◌&&◌, List, ◌++◌, Option, Some, None, is_none, refl, sym, subst}
-use Rattle.std.specs.Prelude.{Contains, filter}
-use Rattle.std.proofs.lemmas.Bool.{and_from}
-use Rattle.std.proofs.lemmas.List.Elements.{Contains-append_left, Contains-append_right}
-use Rattle.tcap_parts.specs.declared.component.Component.{Component}
+use Rattle.tcap_grounds.proofs.Common.{◌≡◌, ◌⊎◌, inl, inr, ℕ, Bool, true, false, ◌&&◌, List, ◌++◌, Option, Some, None, is_none, refl, sym, subst, Contains, filter, and_from, Contains-append_left, Contains-append_right, Component, Message, Begin, Continue, cause_in, components_in, dtid_in, kind_in, otid_in, Entry, other, ended_by, is_a, is_begin_with_request, is_cause, is_surely_open, filter_has, Sort, is_sort, What, Numbered, entries_where, sent_before, Scene, is_open_continue, is_that, own_id, shown, there, told_there, went_elsewhere, with_sort, with_sort_in, AreSame, AreDifferent, HasSort, IsEntryOf, IsItself, IsOpen, IsSentBefore, IsShown, IsToldTo}
 use Rattle.tcap_msg.specs.declared.kind.Kind.TheVariants as forms
-use Rattle.tcap_msg.specs.declared.message.Message.{Message}
-use Rattle.tcap_msg.specs.declared.message.Message.TheVariants.{Unidirectional, Begin, Continue, End as EndMessage, Abort}
-use Rattle.tcap_msg.specs.Parts.{cause_in, components_in, dtid_in, kind_in, otid_in}
-use Rattle.tcap_record.specs.declared.entry.Entry.{Entry}
-use Rattle.tcap_record.specs.Ends.{other}
-use Rattle.tcap_model.specs.SinceMark.{ended_by}
-use Rattle.tcap_refute.specs.EarlierMessages.{is_a}
-use Rattle.tcap_refute.specs.Kind.{is_begin_with_request}
-use Rattle.tcap_faults.specs.SentToId.{is_cause}
-use Rattle.tcap_faults.specs.ClosedHalves.{is_surely_open}
-use Rattle.tcap_refute.proofs.Members.{filter_has}
-use Rattle.tcap_faults.specs.declared.component.component_sort.Sort.{Sort}
-use Rattle.tcap_faults.specs.InvokeCounts.{is_sort}
-use Rattle.tcap_evidence.specs.declared.shown_things.What.{What}
 use Rattle.tcap_evidence.specs.declared.shown_things.What.TheVariants as whats
-use Rattle.tcap_evidence.specs.NumberedMessages.{Numbered, entries_where, sent_before}
-use Rattle.tcap_evidence.specs.Scene.{Scene, is_open_continue, is_that, own_id, shown, there, told_there, went_elsewhere, with_sort, with_sort_in}
-use Rattle.tcap_grounds.specs.ListedEntries.{AreSame, AreDifferent, HasSort, IsEntryOf, IsItself, IsOpen, IsSentBefore, IsShown, IsToldTo, is_heard_or_invoked}
+use Rattle.tcap_grounds.specs.ListedEntries.{is_heard_or_invoked}
 use Rattle.tcap_grounds.proofs.NumberedLists.{map_has, where_has, with_has}
 use Rattle.tcap_grounds.proofs.MessageTests.{cause_so, elsewhere_so, end_so, form_so, one_so}
 use Rattle.tcap_grounds.proofs.SentBefore.{is_sent}
@@ -59,11 +39,8 @@ module _ (s : Scene) where
 
 -- A Continue has no cause.
 no_cause : (m : Message) → kind_in m ≡ forms.Continue → cause_in m ≡ None
-no_cause (Unidirectional dialogue components) is = cc
-no_cause (Begin otid dialogue components) is = cc
 no_cause (Continue otid dtid dialogue components) is = refl
-no_cause (EndMessage dtid dialogue components) is = cc
-no_cause (Abort dtid reason) is = cc
+no_cause m is = cc
 
 module _ (entries : List Entry) (s : Scene) (own : s.own ≡ sent_before s.side entries s.number)
     (peer : s.peer ≡ sent_before (other s.side) entries s.number) where

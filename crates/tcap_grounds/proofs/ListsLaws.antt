@@ -1,24 +1,9 @@
 -- When is a list of the entries of messages empty, and when not?
-use Rattle.std.proofs.Common.{◌≡◌, ℕ, Bool, true, false, cond, ◌&&◌, ◌||◌, List, [], ◌∷◌, length, map, Option, None, refl, ap, ◌∙◌}
-use Rattle.std.specs.Prelude.{Contains, filter}
-use Rattle.std.specs.List.{list_any}
-use Rattle.tcap_msg.specs.declared.message.Message.{Message}
-use Rattle.tcap_msg.specs.Parts.{cause_in, dtid_in, otid_in}
-use Rattle.tcap_record.specs.declared.entry.End.{End as Side}
-use Rattle.tcap_record.specs.declared.entry.Entry.{Entry}
-use Rattle.tcap_model.specs.World.{Item}
-use Rattle.tcap_refute.specs.EarlierMessages.{asked, sent_by}
-use Rattle.tcap_faults.specs.Counts.{is_nothing}
-use Rattle.tcap_faults.specs.SentToId.{is_abort_with, is_cause, told}
-use Rattle.tcap_faults.proofs.list_laws.FindLaws.{any_is}
-use Rattle.tcap_evidence.specs.NumberedMessages.{Numbered, entries_where, sent_before}
-use Rattle.tcap_evidence.specs.Scene.{Scene, is_that, there, told_there}
-use Rattle.tcap_grounds.specs.ListedEntries.{ListsOne, items_before}
+use Rattle.tcap_grounds.proofs.Common.{◌≡◌, ℕ, Bool, true, false, cond, ◌&&◌, ◌||◌, List, [], ◌∷◌, length, map, Option, None, refl, ap, ◌∙◌, Contains, filter, list_any, Message, cause_in, dtid_in, otid_in, Side, Entry, Item, asked, sent_by, is_nothing, is_abort_with, is_cause, told, any_is, Numbered, entries_where, sent_before, Scene, is_that, there, told_there, ListsOne, items_before, other}
 use Rattle.tcap_grounds.proofs.NumberedLists.{map_is, where_has}
 use Rattle.tcap_evidence.proofs.SceneLaws.{none_kept}
 use Rattle.tcap_grounds.proofs.SceneLists.{IsTo, there_are, told_are}
 use Rattle.tcap_grounds.proofs.SentBefore.{messages, sent_are}
-use Rattle.tcap_record.specs.Ends.{other}
 use Rattle.tcap_evidence.specs.declared.shown_things.What.TheVariants as whats
 
 -- A list of length 0 is empty.

@@ -1,21 +1,10 @@
 -- What do tests of a message show about its parts?
-use Rattle.std.proofs.Common.{◌≡◌, ◌≢◌, inl, inr, ℕ, Bool, true, false, not, List, Option, Some, None, is_none, refl, sym, ap, ◌∙◌}
-use Rattle.std.proofs.lemmas.Bool.{and_from, and_parts, eq-eqb, eqb-true, false_from_ne_true, not-true}
+use Rattle.tcap_grounds.proofs.Common.{◌≡◌, ◌≢◌, inl, inr, ℕ, Bool, true, false, not, List, Option, Some, None, is_none, refl, sym, ap, ◌∙◌, and_from, and_parts, eq-eqb, eqb-true, false_from_ne_true, not-true, Message, Unidirectional, Begin, Continue, EndMessage, Abort, dtid_in, kind_in, otid_in, is_id, none_is, ended_by, id_is, is_a, is_that_id, goes_elsewhere, is_cause, is_that, AreSame, AreDifferent}
 use Rattle.tcap_msg.specs.declared.kind.Kind.{Kind as Form}
 use Rattle.tcap_msg.specs.declared.kind.Kind.TheVariants as forms
-use Rattle.tcap_msg.specs.declared.message.Message.{Message}
-use Rattle.tcap_msg.specs.declared.message.Message.TheVariants.{Unidirectional, Begin, Continue, End as EndMessage, Abort}
-use Rattle.tcap_msg.specs.Parts.{dtid_in, kind_in, otid_in, reason_cause}
-use Rattle.tcap_end.specs.End.{is_id}
-use Rattle.tcap_end.proofs.StepLaws.{none_is}
-use Rattle.tcap_model.specs.SinceMark.{ended_by}
-use Rattle.tcap_model.proofs.TurnLaws.{id_is}
-use Rattle.tcap_refute.specs.EarlierMessages.{is_a, is_form}
-use Rattle.tcap_refute.proofs.BeforeLaws.{is_that_id}
-use Rattle.tcap_refute.specs.Kind.{goes_elsewhere}
-use Rattle.tcap_faults.specs.SentToId.{is_cause}
-use Rattle.tcap_evidence.specs.Scene.{is_that}
-use Rattle.tcap_grounds.specs.ListedEntries.{AreSame, AreDifferent, IsEndTo}
+use Rattle.tcap_msg.specs.Parts.{reason_cause}
+use Rattle.tcap_refute.specs.EarlierMessages.{is_form}
+use Rattle.tcap_grounds.specs.ListedEntries.{IsEndTo}
 
 -- The message has this form.
 pub form_is : (a b : Form) → is_form a b ≡ true → b ≡ a
@@ -51,9 +40,6 @@ apart id other isnt same = let it = is_that_id id (Some other) (ap Some (sym sam
 
 -- The message ends the dialogue of this ID.
 pub end_is : (to : Option (List ℕ)) (m : Message) → is_that to (ended_by m) ≡ true → IsEndTo to m
-end_is to (Unidirectional dialogue components) is = absurd (none_ended to is)
-end_is to (Begin otid dialogue components) is = absurd (none_ended to is)
-end_is to (Continue otid dtid dialogue components) is = absurd (none_ended to is)
 end_is to (EndMessage dtid dialogue components) is = (one_is to (Some dtid) is, inl refl)
 end_is to (Abort dtid reason) is = by (is_none (reason_cause reason)) refl
   where
@@ -62,6 +48,7 @@ end_is to (Abort dtid reason) is = by (is_none (reason_cause reason)) refl
         let that : is_that to (Some dtid) ≡ true = rw none at is in
         (one_is to (Some dtid) that, inr (refl, none_is (reason_cause reason) none))
     by false some = let bad : is_that to None ≡ true = rw some at is in absurd (none_ended to bad)
+end_is to m is = absurd (none_ended to is)
 
 -- The message is a Continue from the first ID to an ID other than the second.
 pub elsewhere_is : (otid dtid : List ℕ) (m : Message) → goes_elsewhere otid dtid m ≡ true
@@ -69,10 +56,7 @@ pub elsewhere_is : (otid dtid : List ℕ) (m : Message) → goes_elsewhere otid 
 elsewhere_is otid dtid (Continue from to dialogue components) is =
     let (same, others) = and_parts (is_id otid (Some from)) (not (is_id dtid (Some to))) is in
     (refl, id_is otid (Some from) same, (dtid, to, refl, refl, apart dtid to (not-true (is_id dtid (Some to)) others)))
-elsewhere_is otid dtid (Unidirectional dialogue components) is = cc
-elsewhere_is otid dtid (Begin from dialogue components) is = cc
-elsewhere_is otid dtid (EndMessage to dialogue components) is = cc
-elsewhere_is otid dtid (Abort to reason) is = cc
+elsewhere_is otid dtid m is = cc
 
 -- ---- the converses
 
@@ -81,10 +65,7 @@ form_so a m is = rw is (itself a)
   where
     itself : (f : Form) → is_form f f ≡ true
     itself forms.Unidirectional = refl
-    itself forms.Begin = refl
-    itself forms.Continue = refl
-    itself forms.End = refl
-    itself forms.Abort = refl
+    itself f = refl
 
 pub one_so : (a b : Option (List ℕ)) → AreSame a b → is_that a b ≡ true
 one_so a b (id, first, second) = rw first (is_that_id id b second)
@@ -110,7 +91,4 @@ elsewhere_so otid dtid (Continue from to dialogue components) goes of (one, othe
     same : is_id dtid (Some to) ≡ true → ⊥
     same that =
         let it : Some to ≡ Some dtid = id_is dtid (Some to) that in two (cc)
-elsewhere_so otid dtid (Unidirectional dialogue components) goes of two = cc
-elsewhere_so otid dtid (Begin from dialogue components) goes of two = cc
-elsewhere_so otid dtid (EndMessage to dialogue components) goes of two = cc
-elsewhere_so otid dtid (Abort to reason) goes of two = cc
+elsewhere_so otid dtid m goes of two = cc

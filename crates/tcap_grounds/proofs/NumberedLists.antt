@@ -1,23 +1,6 @@
 -- Filters, searches and counts of numbered messages agree with those of the messages.
-use Rattle.std.proofs.Common.{◌≡◌, ◌⊎◌, inl, inr, ℕ, arith, Bool, true, false, cond, List, [], ◌∷◌, length, map, Option, Some, None, option_map, refl, sym, ap, subst, ◌∙◌}
-use Rattle.std.specs.Prelude.{Contains, filter}
-use Rattle.std.specs.List.{find}
-use Rattle.std.specs.Option.{option_to_list}
-use Rattle.std.proofs.lemmas.List.{length-append, length-map}
-use Rattle.tcap_parts.specs.declared.component.Component.{Component}
-use Rattle.tcap_msg.specs.declared.message.Message.{Message}
-use Rattle.tcap_msg.specs.Parts.{components_in}
-use Rattle.tcap_model.proofs.ListLaws.{contains_first}
-use Rattle.tcap_refute.specs.EarlierMessages.{components_of}
-use Rattle.tcap_faults.specs.Counts.{count}
-use Rattle.tcap_faults.specs.SentToId.{is_request_of}
-use Rattle.tcap_faults.proofs.list_laws.FindLaws.{filter_is}
-use Rattle.tcap_faults.proofs.list_laws.CountLaws.{count_both}
-use Rattle.tcap_refute.proofs.Members.{filter_has, flat_map_has, has_first, has_later, has_not}
-use Rattle.tcap_faults.specs.HalfByPeerId.{from_first}
-use Rattle.tcap_faults.proofs.list_laws.TwoTests.{flat_map_is}
-use Rattle.tcap_evidence.specs.NumberedMessages.{Numbered, entries_where, entries_with}
-use Rattle.tcap_evidence.specs.Scene.{has_request, since_first}
+use Rattle.tcap_grounds.proofs.Common.{◌≡◌, ◌⊎◌, inl, inr, ℕ, arith, Bool, true, false, cond, List, [], ◌∷◌, length, map, Option, Some, None, option_map, refl, sym, ap, subst, ◌∙◌, Contains, filter, find, option_to_list, length-append, length-map, Component, Message, components_in, contains_first, components_of, count, is_request_of, filter_is, count_both, filter_has, has_first, has_later, has_not, from_first, flat_map_is, Numbered, entries_where, entries_with, has_request, since_first}
+use Rattle.tcap_refute.proofs.Members.{flat_map_has}
 use Rattle.tcap_grounds.proofs.SentBefore.{messages}
 
 -- ---- filters and searches

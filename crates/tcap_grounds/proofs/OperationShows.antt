@@ -1,41 +1,18 @@
 -- The lists show F6: a wrong operation.
-use Rattle.std.proofs.Common.{◌≡◌, ◌⊎◌, inl, inr, ℕ, ℤ, Bool, true, false, not, ◌&&◌, ◌||◌, List, [], length, Option, Some, None, option_map, refl, sym, ap, subst, ◌∙◌}
-use Rattle.std.specs.List.{list_any}
-use Rattle.std.proofs.lemmas.Bool.{and_from, and_parts, not-true, or_cases, or_left, or_right, false_from_ne_true, eqb-true}
-use Rattle.tcap_parts.specs.declared.code.Code.{Code}
-use Rattle.tcap_parts.specs.declared.component.ResultBody.{ResultBody}
-use Rattle.tcap_parts.specs.declared.component.Component.{Component}
-use Rattle.tcap_parts.specs.declared.component.Component.TheVariants.{Invoke, ReturnResult, ReturnError, Reject}
-use Rattle.tcap_msg.specs.declared.message.Message.{Message}
-use Rattle.tcap_msg.specs.declared.message.Message.TheVariants.{Unidirectional, Begin, Continue, End as EndMessage, Abort}
-use Rattle.tcap_msg.specs.Parts.{components_in, dtid_in, otid_in}
-use Rattle.tcap_record.specs.declared.entry.End.{End as Side}
-use Rattle.tcap_record.specs.declared.entry.Entry.{Entry}
+use Rattle.tcap_grounds.proofs.Common.{◌≡◌, ◌⊎◌, inl, inr, ℕ, ℤ, Bool, true, false, not, ◌&&◌, ◌||◌, List, [], length, Option, Some, None, option_map, refl, sym, ap, subst, ◌∙◌, list_any, and_from, and_parts, not-true, or_left, or_right, false_from_ne_true, eqb-true, Code, ResultBody, Component, Invoke, ReturnResult, ReturnError, Message, Unidirectional, Begin, Continue, EndMessage, Abort, components_in, dtid_in, otid_in, Side, Entry, is_code, Table, none_is, Item, asked, components_of, is_invoke_id, any_has, count, has_class, subject, is_sort, One, Two, Three, any_is, entries_so, operates, Scene, there, shown, HasKind, ListsNone, component_with, items_before, scene_at, other, invoke_id_of, Class}
 use Rattle.tcap_end.specs.Class.{of_class, reports, reports_neither}
-use Rattle.tcap_end.specs.Component.{class_reports, is_code}
-use Rattle.tcap_end.specs.Table.{Table, class_of, operation_of}
-use Rattle.tcap_end.proofs.StepLaws.{none_is}
-use Rattle.tcap_model.specs.World.{Item}
-use Rattle.tcap_refute.specs.EarlierMessages.{asked, components_of, is_invoke_id}
+use Rattle.tcap_end.specs.Component.{class_reports}
+use Rattle.tcap_end.specs.Table.{class_of, operation_of}
 use Rattle.tcap_refute.specs.FirstComponent.{is_wrong_in}
 use Rattle.tcap_refute.specs.Kind.{is_not_of_class_4, is_unknown_operation, is_wrong_operation, may_be_answered, no_class_allows}
-use Rattle.tcap_refute.proofs.Members.{any_has}
-use Rattle.tcap_faults.specs.Counts.{count, has_class, is_class}
-use Rattle.tcap_faults.specs.FaultSubject.{subject}
-use Rattle.tcap_faults.specs.InvokeCounts.{is_sort, is_of_class}
-use Rattle.tcap_faults.specs.declared.component.component_sort.Class.TheVariants.{One, Two, Three}
-use Rattle.tcap_faults.proofs.list_laws.FindLaws.{any_is}
-use Rattle.tcap_grounds.specs.ComponentEvidence.{NoneAllowsResult, ShowsWrongOperation, entries_so, operates}
-use Rattle.tcap_evidence.specs.Scene.{Scene, there, shown}
-use Rattle.tcap_grounds.specs.ListedEntries.{HasKind, ListsNone, component_with, items_before, scene_at}
+use Rattle.tcap_faults.specs.Counts.{is_class}
+use Rattle.tcap_faults.specs.InvokeCounts.{is_of_class}
+use Rattle.tcap_grounds.specs.ComponentEvidence.{NoneAllowsResult, ShowsWrongOperation}
 use Rattle.tcap_grounds.proofs.AskedShows.{AreThere}
 use Rattle.tcap_grounds.proofs.CountedLaws.{components_counted, scene_to}
-use Rattle.tcap_grounds.proofs.HasKindLaws.{kind_so}
+use Rattle.tcap_grounds.proofs.HasKindLaws.{either, kind_so}
 use Rattle.tcap_grounds.proofs.SceneLists.{IsTo, there_are}
 use Rattle.tcap_grounds.proofs.SoLaws.{first_is, first_wins, none_so, scene_of_it, so_counted}
-use Rattle.tcap_record.specs.Ends.{other}
-use Rattle.tcap_evidence.specs.Evidence.{invoke_id_of}
-use Rattle.tcap_faults.specs.declared.component.component_sort.Class.{Class}
 use Rattle.tcap_refute.specs.declared.kind.Kind.TheVariants as kinds
 use Rattle.tcap_faults.specs.declared.component.component_sort.Sort.TheVariants as sorts
 use Rattle.tcap_evidence.specs.declared.shown_things.What.TheVariants as whats
@@ -55,11 +32,10 @@ none_stronger p q cs stronger none =
 
 any_either : (p q : Component → Bool) (cs : List Component) → (list_any p cs || list_any q cs) ≡ true
     → list_any (λ c. p c || q c) cs ≡ true
-any_either p q cs is = by (or_cases (list_any p cs) (list_any q cs) is)
-  where
-    by : (list_any p cs ≡ true) ⊎ (list_any q cs ≡ true) → list_any (λ (c : Component). p c || q c) cs ≡ true
-    by (inl some) = any_weaker p (λ (c : Component). p c || q c) cs (λ c so. or_left (p c) (q c) so) some
-    by (inr some) = any_weaker q (λ (c : Component). p c || q c) cs (λ c so. or_right (p c) (q c) so) some
+any_either p q cs is =
+    either (list_any p cs) (list_any q cs) is
+    (any_weaker p (λ (c : Component). p c || q c) cs (λ c so. or_left (p c) (q c) so))
+    (any_weaker q (λ (c : Component). p c || q c) cs (λ c so. or_right (p c) (q c) so))
 
 -- The class reports this kind of answer.
 class_so : (of_result : Bool) (n : ℕ) → reports of_result n ≡ true → (o : Option ℕ) → is_class n o ≡ true
@@ -77,9 +53,7 @@ module _ (table : Table) (id : ℤ) where
       and_from (is_invoke_id id other && class_reports table of_result code) true
       (and_from (is_invoke_id id other) (class_reports table of_result code) one
       (class_so of_result n so (class_of table code) (sym (same code) ∙ fits))) refl
-  class_allows of_result class n so same (ReturnResult last other body) is = cc
-  class_allows of_result class n so same (ReturnError other code parameter) is = cc
-  class_allows of_result class n so same (Reject other problem) is = cc
+  class_allows of_result class n so same c is = cc
 
   -- An Invoke of a class that reports success, and of the operation in the answer, allows it.
   operation_allows : (named : Code) (c : Component)
@@ -90,9 +64,7 @@ module _ (table : Table) (id : ℤ) where
       let (class, operation) = and_parts (class_reports table true code) (is_code named code) fits in
       and_from (is_invoke_id id other && class_reports table true code) (is_code named code)
       (and_from (is_invoke_id id other) (class_reports table true code) one class) operation
-  operation_allows named (ReturnResult last other body) is = cc
-  operation_allows named (ReturnError other code parameter) is = cc
-  operation_allows named (Reject other problem) is = cc
+  operation_allows named c is = cc
 
 module _ (s : Scene) (there_is : List Component) where
   abbrev CountsThere : Component → Type 0
@@ -129,41 +101,32 @@ module _ (s : Scene) (there_is : List Component) where
 
   unknown_is : (c : Component) → is_unknown_operation s.table c ≡ true → ShowsWrongOperation s (Some c)
   unknown_is (Invoke id linked code parameter) is = inl (none_is (operation_of s.table code) is)
-  unknown_is (ReturnResult last id body) is = cc
-  unknown_is (ReturnError id code parameter) is = cc
-  unknown_is (Reject id problem) is = cc
+  unknown_is c is = cc
 
   forbidden_is : (c : Component) → CountsThere c → no_class_allows s.table there_is c ≡ true → ShowsWrongOperation s (Some c)
-  forbidden_is (Invoke id linked code parameter) counts is = cc
   forbidden_is (ReturnResult last id body) counts is = none_allows last id body counts is
   forbidden_is (ReturnError id code parameter) counts is =
       let none = not-true (list_any (may_be_answered s.table false id None) there_is) is in (
         none_of_class id false One 1 (counts id refl).0 refl (λ code. refl) none,
         none_of_class id false Two 2 (counts id refl).0 refl (λ code. refl) none,
       )
-  forbidden_is (Reject id problem) counts is = cc
+  forbidden_is c counts is = cc
 
 not_4_is : (s : Scene) → s.to ≡ None → s.from ≡ None → (c : Component) → is_not_of_class_4 s.table c ≡ true
     → ShowsWrongOperation s (Some c)
 not_4_is s to from (Invoke id linked code parameter) is =
     inr (to, from, not-true (of_class reports_neither (class_of s.table code)) is)
-not_4_is s to from (ReturnResult last id body) is = cc
-not_4_is s to from (ReturnError id code parameter) is = cc
-not_4_is s to from (Reject id problem) is = cc
+not_4_is s to from c is = cc
 
 -- A message with F6 has a component with F6.
 wrong_of : (table : Table) (side : Side) (items : List Item) (m : Message) → is_wrong_operation table side items m ≡ true
     → list_any (is_wrong_in table side items m) (components_in m) ≡ true
 wrong_of table side items (Unidirectional dialogue components) is = is
 wrong_of table side items (Begin otid dialogue components) is =
-    by (or_cases (list_any (is_unknown_operation table) (components_in (Begin otid dialogue components))) false is)
-  where
-    by : (list_any (is_unknown_operation table) (components_in (Begin otid dialogue components)) ≡ true) ⊎ (false ≡ true)
-        → list_any (is_wrong_in table side items (Begin otid dialogue components)) (components_in (Begin otid dialogue components)) ≡ true
-    by (inl some) =
-        any_weaker (is_unknown_operation table) (is_wrong_in table side items (Begin otid dialogue components))
-        (components_in (Begin otid dialogue components)) (λ c so. or_left (is_unknown_operation table c) false so) some
-    by (inr none) = cc
+    either (list_any (is_unknown_operation table) (components_in (Begin otid dialogue components))) false is
+    (any_weaker (is_unknown_operation table) (is_wrong_in table side items (Begin otid dialogue components))
+    (components_in (Begin otid dialogue components)) (λ c so. or_left (is_unknown_operation table c) false so))
+    (λ none. cc)
 wrong_of table side items (Continue otid dtid dialogue components) is =
     any_either (is_unknown_operation table) (no_class_allows table (components_of (asked side dtid items)))
     (components_in (Continue otid dtid dialogue components)) is
@@ -185,7 +148,9 @@ module _ (of_one : Bool) (table : Table) (side : Side) (entries : List Entry) (n
       → (is_unknown_operation table c || no_class_allows table (components_of (asked side dtid before)) c) ≡ true
       → ShowsWrongOperation scene (Some c)
   wrong_to dtid to c id is =
-      by (or_cases (is_unknown_operation table c) (no_class_allows table (components_of (asked side dtid before)) c) is)
+      either (is_unknown_operation table c) (no_class_allows table (components_of (asked side dtid before)) c) is
+      (unknown_is scene (components_of (asked side dtid before)) c)
+      (forbidden_is scene (components_of (asked side dtid before)) c counts)
     where
       of : IsTo side before dtid scene
       of =
@@ -200,21 +165,12 @@ module _ (of_one : Bool) (table : Table) (side : Side) (entries : List Entry) (n
             ∙ ap (λ (ms : List Message). count (passes i) (components_of ms)) (there_are side before dtid scene of),
       )
 
-      by : (is_unknown_operation table c ≡ true) ⊎ (no_class_allows table (components_of (asked side dtid before)) c ≡ true)
-          → ShowsWrongOperation scene (Some c)
-      by (inl unknown) = unknown_is scene (components_of (asked side dtid before)) c unknown
-      by (inr forbidden) = forbidden_is scene (components_of (asked side dtid before)) c counts forbidden
-
   wrong_in : (x : Message) → x ≡ m → (c : Component) → scene.id ≡ invoke_id_of kinds.WrongOperation c
       → is_wrong_in table side before x c ≡ true → ShowsWrongOperation scene (Some c)
   wrong_in (Unidirectional dialogue components) same c id is =
       not_4_is scene (ap dtid_in (sym same)) (ap otid_in (sym same)) c is
   wrong_in (Begin otid dialogue components) same c id is =
-      by (or_cases (is_unknown_operation table c) false is)
-    where
-      by : (is_unknown_operation table c ≡ true) ⊎ (false ≡ true) → ShowsWrongOperation scene (Some c)
-      by (inl unknown) = unknown_is scene [] c unknown
-      by (inr none) = cc
+      either (is_unknown_operation table c) false is (unknown_is scene [] c) (λ none. cc)
   wrong_in (Continue otid dtid dialogue components) same c id is = wrong_to dtid (ap dtid_in (sym same)) c id is
   wrong_in (EndMessage dtid dialogue components) same c id is = wrong_to dtid (ap dtid_in (sym same)) c id is
   wrong_in (Abort dtid reason) same c id is = wrong_to dtid (ap dtid_in (sym same)) c id is

@@ -1,24 +1,8 @@
 -- The lists of entries are in ascending order.
-use Rattle.std.proofs.Common.{◌≡◌, ◌⊎◌, inl, inr, ℕ, ℤ, ◌+◌, ◌<◌, ◌≤◌, arith, Bool, true, false, cond, List, [], ◌∷◌, ◌++◌, map, Option, Some, None, Result, Ok, Err, refl, sym, ap, subst, ltb-true, ltb-false}
-use Rattle.std.specs.Prelude.{Contains, filter, nat_lt, option_to_list, take, ⊤}
-use Rattle.std.proofs.lemmas.List.Elements.{Contains-append_cases, Contains-push_cases}
-use Rattle.tcap_parts.specs.declared.component.Component.{Component}
-use Rattle.tcap_msg.specs.declared.message.Message.{Message}
-use Rattle.tcap_msg.specs.Parts.{components_in}
-use Rattle.tcap_record.specs.declared.entry.End.{End as Side}
-use Rattle.tcap_record.specs.declared.entry.Entry.{Entry}
-use Rattle.tcap_model.specs.declared.reason.Reason.{Reason}
-use Rattle.tcap_model.specs.World.{Item, Sent, is_side}
-use Rattle.tcap_model.specs.Entries.{item_of}
-use Rattle.tcap_model.proofs.ListLaws.{contains_first}
-use Rattle.tcap_refute.specs.EarlierMessages.{components_of}
-use Rattle.tcap_refute.proofs.Members.{has_first, has_later, has_not}
-use Rattle.tcap_faults.specs.Counts.{count}
-use Rattle.tcap_faults.proofs.list_laws.FindLaws.{filter_is}
-use Rattle.tcap_faults.proofs.list_laws.CountLaws.{count_both}
-use Rattle.tcap_evidence.specs.NumberedMessages.{Numbered, entries_where, entries_with, in_order, inserted, sent_before, with_entries}
-use Rattle.tcap_evidence.specs.Scene.{since_first}
-use Rattle.tcap_grounds.specs.GivenLists.{IsAscending}
+use Rattle.tcap_grounds.proofs.Common.{◌≡◌, ◌⊎◌, inl, inr, ℕ, ◌+◌, ◌<◌, ◌≤◌, arith, Bool, true, false, cond, List, [], ◌∷◌, ◌++◌, map, Option, Some, None, Result, Ok, Err, refl, sym, ap, subst, ltb-true, Contains, filter, nat_lt, option_to_list, take, Contains-append_cases, Contains-push_cases, Component, Message, components_in, Side, Entry, Reason, Item, Sent, is_side, item_of, contains_first, components_of, has_first, has_later, has_not, count, filter_is, count_both, Numbered, entries_where, entries_with, in_order, sent_before, with_entries, since_first, IsAscending}
+use Rattle.std.proofs.Common.{ltb-false}
+use Rattle.std.specs.Prelude.{⊤}
+use Rattle.tcap_evidence.specs.NumberedMessages.{inserted}
 use Rattle.tcap_grounds.proofs.NumberedLists.{map_is, with_is}
 use Rattle.tcap_grounds.proofs.SentBefore.{messages}
 

@@ -1,23 +1,7 @@
 -- Each entry listed for a transaction ID begins the ID, or is a Continue that uses it with a partner.
-use Rattle.std.proofs.Common.{◌≡◌, ◌⊎◌, inl, inr, ℕ, ◌+◌, ◌<◌, arith, Bool, true, false, cond, ◌&&◌, List, [], ◌∷◌, ◌++◌, length, length-append, map, take, Option, Some, None, Result, Ok, Err, refl, sym, subst, ◌∙◌}
-use Rattle.std.specs.Prelude.{Contains, slice_get}
-use Rattle.std.proofs.lemmas.Bool.{and_parts}
-use Rattle.std.proofs.lemmas.List.{append_assoc, append-nil, take-map}
-use Rattle.std.proofs.lemmas.List.Elements.{Contains-push_cases}
-use Rattle.tcap_msg.specs.declared.message.Message.{Message}
-use Rattle.tcap_record.specs.declared.entry.End.{End as Side}
-use Rattle.tcap_record.specs.declared.entry.Entry.{Entry}
-use Rattle.tcap_model.specs.declared.reason.Reason.{Reason}
-use Rattle.tcap_model.specs.World.{Item, Sent, is_side}
-use Rattle.tcap_model.specs.Entries.{item_of}
-use Rattle.tcap_model.proofs.RunLaws.{same_side}
-use Rattle.tcap_refute.proofs.Members.{has_not}
-use Rattle.tcap_faults.specs.SentToId.{begins_from}
-use Rattle.tcap_evidence.specs.Partners.{Pairing, anew, no_pairing, paired_before, partner_in, with_message, with_pair, with_pairs, with_partner}
-use Rattle.tcap_evidence.specs.Scene.{is_that}
-use Rattle.tcap_grounds.specs.ListedEntries.{IsSentBefore}
+use Rattle.tcap_grounds.proofs.Common.{◌≡◌, ◌⊎◌, inl, inr, ℕ, ◌+◌, ◌<◌, arith, Bool, true, false, cond, ◌&&◌, List, [], ◌∷◌, ◌++◌, length, length-append, map, take, Option, Some, None, Result, Ok, Err, refl, sym, subst, ◌∙◌, Contains, slice_get, and_parts, append_assoc, append-nil, Contains-push_cases, Message, Side, Entry, Reason, Item, Sent, is_side, item_of, same_side, has_not, begins_from, Pairing, anew, no_pairing, paired_before, partner_in, with_message, with_pair, with_pairs, with_partner, is_that, IsSentBefore}
 use Rattle.tcap_grounds.proofs.EntryPlaces.{Entries, here_at, keeps_at, push_at, within_at}
-use Rattle.tcap_grounds.proofs.SentBefore.{taken_at, taken_below}
+use Rattle.tcap_grounds.proofs.SentBefore.{back_at, there_at}
 
 module _ (of : Side) (id : List ℕ) where
   -- A Begin from the ID, or a Continue that uses it with a partner.
@@ -128,20 +112,14 @@ pub is_one_listed : (of : Side) (id : List ℕ) (entries : List Entry) (number n
     × ((sender ≡ of) × (begins_from id m ≡ true) ⊎ (partner : List ℕ) × (partner_in of id sender m ≡ Some partner))
 is_one_listed of id entries number n has = (one.sender, one.message, sent, one.so)
   where
-    all : Entries
-    all = map item_of entries
-
-    one : IsOne of id (take number all) n
-    one =
-        subst (λ (es : Entries). IsOne of id es n) (sym (take-map item_of number entries))
-        (all_are of id (map item_of (take number entries)) [] no_pairing (λ k none. has_not k none) n has)
-
-    below : n < number
-    below = taken_below number all n (Ok (Sent one.sender one.message)) one.is
+    one : IsOne of id (map item_of (take number entries)) n
+    one = all_are of id (map item_of (take number entries)) [] no_pairing (λ k none. has_not k none) n has
 
     sent : IsSentBefore entries number one.sender n one.message
-    sent = record {
-      is = sym (taken_at number all n below) ∙ one.is;
-      before = below;
-      since = λ j after before is. one.since j after (taken_at number all j before ∙ is);
-    }
+    sent =
+        let (below, is) = back_at entries number n (Ok (Sent one.sender one.message)) one.is in
+        record {
+          is = is;
+          before = below;
+          since = λ j after before quiet. one.since j after (there_at entries number j (Ok Item.Quiet) before quiet);
+        }

@@ -1,41 +1,21 @@
 -- The entries listed for a transaction ID: each Begin from it and, for each Continue with a partner, a Continue with
 -- the same partner.
-use Rattle.std.proofs.Common.{◌≡◌, ◌⊎◌, inl, inr, ℕ, zero, suc, ◌+◌, ◌<◌, ◌≤◌, arith, Bool, true, false, cond, ◌&&◌, List, [], ◌∷◌, ◌++◌, length, length-append, map, take, Option, Some, None, Result, Ok, Err, refl, sym, ap, subst, ◌∙◌}
-use Rattle.std.specs.Prelude.{Contains, nat_le, slice_get}
-use Rattle.std.proofs.lemmas.Bool.{and_parts, leb-false, leb-true}
-use Rattle.std.proofs.lemmas.List.{append_assoc, append-nil, take-map}
-use Rattle.std.proofs.lemmas.List.Elements.{Contains-append_left, Contains-push}
+use Rattle.tcap_grounds.proofs.Common.{false_from_ne_true, ◌≡◌, ◌⊎◌, inl, inr, ℕ, zero, suc, ◌+◌, ◌<◌, ◌≤◌, arith, Bool, true, false, cond, ◌&&◌, List, [], ◌∷◌, ◌++◌, length, length-append, map, take, Option, Some, None, Result, Ok, Err, refl, sym, ap, subst, ◌∙◌, Contains, nat_le, slice_get, and_parts, leb-true, append_assoc, append-nil, Contains-append_left, Contains-push, Message, dtid_in, Side, Entry, Reason, Item, Sent, is_side, item_of, where_so, id_is, is_a, itself, begins_from, goes_on_from, Pairing, anew, no_pairing, paired_before, partner_in, with_message, with_pair, with_pairs, with_partner, is_that, IsSentBefore}
+use Rattle.std.proofs.lemmas.Bool.{leb-false}
 use Rattle.tcap_msg.specs.declared.kind.Kind.TheVariants as forms
-use Rattle.tcap_msg.specs.declared.message.Message.{Message}
-use Rattle.tcap_msg.specs.Parts.{dtid_in}
-use Rattle.tcap_record.specs.declared.entry.End.{End as Side}
 use Rattle.tcap_record.specs.declared.entry.End.TheVariants as sides
-use Rattle.tcap_record.specs.declared.entry.Entry.{Entry}
-use Rattle.tcap_model.specs.declared.reason.Reason.{Reason}
-use Rattle.tcap_model.specs.World.{Item, Sent, is_side}
-use Rattle.tcap_model.specs.Entries.{item_of}
-use Rattle.tcap_model.specs.Run.{where_so}
-use Rattle.tcap_model.proofs.TurnLaws.{id_is}
-use Rattle.tcap_refute.specs.EarlierMessages.{is_a}
-use Rattle.tcap_model.proofs.WorldLaws.{itself}
-use Rattle.tcap_faults.specs.SentToId.{begins_from, goes_on_from}
-use Rattle.tcap_evidence.specs.Partners.{Pairing, anew, no_pairing, paired_before, partner_in, with_message, with_pair, with_pairs, with_partner}
-use Rattle.tcap_evidence.specs.Scene.{is_that}
-use Rattle.tcap_grounds.specs.ListedEntries.{IsPaired, IsSentBefore}
+use Rattle.tcap_grounds.specs.ListedEntries.{IsPaired}
 use Rattle.tcap_grounds.proofs.EntryPlaces.{Entries, front_at, here_at, keeps_at, push_at, within_at}
 use Rattle.tcap_grounds.proofs.MessageTests.{not_both}
-use Rattle.tcap_grounds.proofs.SentBefore.{taken_at, taken_below}
+use Rattle.tcap_grounds.proofs.SentBefore.{back_at, there_at}
 
 -- Two ends are equal if both are `of`, or neither is.
 one_end : (of a b : Side) → is_side of a ≡ is_side of b → a ≡ b
 one_end sides.A sides.A sides.A is = refl
-one_end sides.A sides.A sides.B is = cc
-one_end sides.A sides.B sides.A is = cc
 one_end sides.A sides.B sides.B is = refl
 one_end sides.B sides.A sides.A is = refl
-one_end sides.B sides.A sides.B is = cc
-one_end sides.B sides.B sides.A is = cc
 one_end sides.B sides.B sides.B is = refl
+one_end of a b is = cc
 
 -- ---- the listed entries
 
@@ -60,6 +40,10 @@ module _ (of : Side) (id : List ℕ) where
   -- There is such a Continue for the last partner in each direction.
   abbrev AreLast : Entries → Pairing → Type 0
   AreLast done p = (is_from : Bool) (partner : List ℕ) → last_of is_from p ≡ Some partner → Stands done p.0 is_from partner
+
+  none_last : (done : Entries) (listed : List ℕ) → AreLast done (listed, None, None)
+  none_last done listed true partner is = let bad : None ≡ Some partner = is in cc
+  none_last done listed false partner is = let bad : None ≡ Some partner = is in cc
 
   -- After an entry that is neither a Begin from the ID nor a quiet mark, this still holds, if the listed entries stay.
   stands_on : (done : Entries) (entry : Result Item Reason) (listed more : List ℕ) (is_from : Bool) (partner : List ℕ)
@@ -169,19 +153,11 @@ module _ (of : Side) (id : List ℕ) where
       → AreLast (done ++ entry ∷ []) (with_pair of id (length done) entry p)
   one_more done (Ok (Sent sender m)) p are = by (is_side of sender && begins_from id m) refl
     where
-      begun : AreLast (done ++ Ok (Sent sender m) ∷ []) (p.0 ++ length done ∷ [], None, None)
-      begun true partner is = let bad : None ≡ Some partner = is in cc
-      begun false partner is = let bad : None ≡ Some partner = is in cc
-
       by : (b : Bool) → (is_side of sender && begins_from id m) ≡ b
           → AreLast (done ++ Ok (Sent sender m) ∷ []) (with_message of id (length done) sender m p)
-      by true is = rw is begun
+      by true is = rw is (none_last (done ++ Ok (Sent sender m) ∷ []) (p.0 ++ length done ∷ []))
       by false is = rw is (on done sender m is p are)
-  one_more done (Ok Item.Quiet) p are = none
-    where
-      none : AreLast (done ++ Ok Item.Quiet ∷ []) no_pairing
-      none true partner is = let bad : None ≡ Some partner = is in cc
-      none false partner is = let bad : None ≡ Some partner = is in cc
+  one_more done (Ok Item.Quiet) p are = none_last (done ++ Ok Item.Quiet ∷ []) []
   one_more done (Err reason) (entries, from, to) are = λ is_from partner is.
       subst (λ (listed : List ℕ). Stands (done ++ Err reason ∷ []) listed is_from partner) (append-nil entries)
       (stands_on done (Err reason) entries [] is_from partner (λ m bad. cc) (λ bad. cc) (are is_from partner is))
@@ -239,19 +215,17 @@ module _ (of : Side) (id : List ℕ) where
   -- A Continue with a partner is not a Begin from the ID.
   goes_on : (sender : Side) (m : Message) (partner : List ℕ) → partner_in of id sender m ≡ Some partner
       → (is_side of sender && begins_from id m) ≡ false
-  goes_on sender m partner stands = by (is_side of sender && begins_from id m) refl
+  goes_on sender m partner stands =
+      false_from_ne_true (is_side of sender && begins_from id m)
+      (λ is.
+      let (own, begins) = and_parts (is_side of sender) (begins_from id m) is in
+      let from : where_so (goes_on_from id m) (dtid_in m) ≡ Some partner = rw own at stands in
+      let goes = so (goes_on_from id m) own from in
+      not_both m (and_parts (is_a forms.Begin m) _ begins).0 (and_parts (is_a forms.Continue m) _ goes).0)
     where
       so : (b : Bool) → is_side of sender ≡ true → where_so b (dtid_in m) ≡ Some partner → b ≡ true
       so true own is = refl
       so false own is = let bad : None ≡ Some partner = is in cc
-
-      by : (b : Bool) → (is_side of sender && begins_from id m) ≡ b → b ≡ false
-      by false is = refl
-      by true is =
-          let (own, begins) = and_parts (is_side of sender) (begins_from id m) is in
-          let from : where_so (goes_on_from id m) (dtid_in m) ≡ Some partner = rw own at stands in
-          let goes = so (goes_on_from id m) own from in
-          absurd (not_both m (and_parts (is_a forms.Begin m) _ begins).0 (and_parts (is_a forms.Continue m) _ goes).0)
 
   -- So its partner is the last one of its direction.
   last_is : (at : ℕ) (sender : Side) (m : Message) (p : Pairing) (partner : List ℕ) → partner_in of id sender m ≡ Some partner
@@ -325,31 +299,16 @@ module _ (of : Side) (id : List ℕ) (entries : List Entry) (number : ℕ) where
   abbrev before : Entries
   before = map item_of (take number entries)
 
-  there_at : (k : ℕ) (y : Result Item Reason) → k < number → slice_get (map item_of entries) k ≡ Some y → slice_get before k ≡ Some y
-  there_at k y below is =
-      subst (λ (es : Entries). slice_get es k ≡ Some y) (take-map item_of number entries)
-      (taken_at number (map item_of entries) k below ∙ is)
-
-  back_at : (k : ℕ) (y : Result Item Reason) → slice_get before k ≡ Some y
-      → (k < number) × (slice_get (map item_of entries) k ≡ Some y)
-  back_at k y is =
-      let it = subst (λ (es : Entries). slice_get es k ≡ Some y) (sym (take-map item_of number entries)) is in
-      let below = taken_below number (map item_of entries) k y it in
-      (below, sym (taken_at number (map item_of entries) k below) ∙ it)
-
   none_behind : (sender : Side) (n : ℕ) (m : Message) → IsSentBefore entries number sender n m → (j : ℕ) → n < j
       → slice_get before j ≡ Some (Ok Item.Quiet) → ⊥
-  none_behind sender n m sent j after is = let (below, it) = back_at j (Ok Item.Quiet) is in sent.since j after below it
-
-  none_yet : AreLast of id [] no_pairing
-  none_yet true partner is = let bad : None ≡ Some partner = is in cc
-  none_yet false partner is = let bad : None ≡ Some partner = is in cc
+  none_behind sender n m sent j after is =
+      let (below, it) = back_at entries number j (Ok Item.Quiet) is in sent.since j after below it
 
   -- Each Begin from the ID is listed.
   pub begin_is_listed : (n : ℕ) (m : Message) → IsSentBefore entries number of n m → begins_from id m ≡ true
       → Contains (paired_before of id entries number) n
   begin_is_listed n m sent begins =
-      begun of id before 0 no_pairing n n m (omega arith) (there_at n _ sent.before sent.is) begins (none_behind of n m sent)
+      begun of id before 0 no_pairing n n m (omega arith) (there_at entries number n _ sent.before sent.is) begins (none_behind of n m sent)
 
   -- For each Continue with a partner there is such a listed Continue.
   pub is_paired : (sender : Side) (n : ℕ) (m : Message) (partner : List ℕ) → IsSentBefore entries number sender n m
@@ -363,7 +322,7 @@ module _ (of : Side) (id : List ℕ) (entries : List Entry) (number : ℕ) where
     no_later = p.no_later;
     none_begun = λ k b after below is.
         let within : k < number = let first = sent.before in omega arith in
-        p.none_begun k b after below (there_at k _ within is);
+        p.none_begun k b after below (there_at entries number k _ within is);
   }
     where
       number_is : (k : ℕ) → 0 + k ≡ k
@@ -372,11 +331,11 @@ module _ (of : Side) (id : List ℕ) (entries : List Entry) (number : ℕ) where
       p : Paired of id before (paired_before of id entries number) sender partner n
       p =
           subst (λ (k : ℕ). Paired of id before (paired_before of id entries number) sender partner k) (number_is n)
-          (paired of id before [] no_pairing none_yet n sender m partner (there_at n _ sent.before sent.is) stands
+          (paired of id before [] no_pairing (none_last of id [] []) n sender m partner (there_at entries number n _ sent.before sent.is) stands
           (none_behind sender n m sent))
 
       at_is : (p.at < number) × (slice_get (map item_of entries) p.at ≡ Some (Ok (Sent sender p.message)))
-      at_is = back_at p.at _ p.is
+      at_is = back_at entries number p.at _ p.is
 
       order : (j k : ℕ) → (j ≤ k) ⊎ (k < j)
       order j k = by (nat_le j k) refl
@@ -387,5 +346,5 @@ module _ (of : Side) (id : List ℕ) (entries : List Entry) (number : ℕ) where
 
       behind : (j : ℕ) → p.at < j → j < number → slice_get (map item_of entries) j ≡ Some (Ok Item.Quiet)
           → (j ≤ n) ⊎ (n < j) → ⊥
-      behind j after below is (inl early) = p.since j after early (there_at j _ below is)
+      behind j after below is (inl early) = p.since j after early (there_at entries number j _ below is)
       behind j after below is (inr late) = sent.since j late below is

@@ -1,40 +1,15 @@
 -- The lists show F13: a Reject that is not allowed.
-use Rattle.std.proofs.Common.{◌≡◌, ◌≢◌, ◌⊎◌, inl, inr, ℕ, ℤ, ◌+◌, ◌≤◌, ◌<◌, arith, Bool, true, false, cond, not, ◌&&◌, ◌||◌, List, [], ◌∷◌, ◌++◌, Some, None, refl, sym, ap, subst, ◌∙◌}
-use Rattle.std.specs.Prelude.{◌==◌, nat_le, nat_lt}
-use Rattle.std.specs.List.{list_any}
-use Rattle.std.proofs.lemmas.Bool.{and_from, and_parts, eqb-true, leb-true, ltb-true, not-true, or_cases}
-use Rattle.tcap_parts.specs.declared.code.Code.{Code}
-use Rattle.tcap_parts.specs.declared.component.Component.{Component}
-use Rattle.tcap_parts.specs.declared.component.Component.TheVariants.{Invoke, ReturnResult, ReturnError, Reject}
+use Rattle.tcap_grounds.proofs.Common.{◌≡◌, ◌≢◌, ◌⊎◌, inl, inr, ℕ, ℤ, ◌+◌, ◌≤◌, ◌<◌, arith, Bool, true, false, cond, not, ◌&&◌, ◌||◌, List, [], ◌∷◌, ◌++◌, Some, None, refl, sym, ap, ◌∙◌, ◌==◌, nat_le, nat_lt, list_any, and_from, and_parts, eqb-true, leb-true, ltb-true, not-true, Code, Component, Invoke, ReturnResult, ReturnError, Reject, Message, components_in, Side, Entry, is_code, Table, Item, invokes, is_invoke_id, is_of_link, any_problem, count, has_class, count_class, invokes_so, is_error, is_result, rejects_invoke, rejects_result, HalfOf, half_of, is_sort, Class, Any, One, Two, Three, Sort, any_same, count_invokes, id_itself, heard_so, invoked_components, invoke_id_of, Scene, HasKind, component_with, items_before, many, scene_at, other}
 use Rattle.tcap_parts.specs.declared.problem.Problem.{Problem}
-use Rattle.tcap_msg.specs.declared.message.Message.{Message}
-use Rattle.tcap_msg.specs.Parts.{components_in, dtid_in}
-use Rattle.tcap_record.specs.declared.entry.End.{End as Side}
-use Rattle.tcap_record.specs.declared.entry.Entry.{Entry}
-use Rattle.tcap_end.specs.Component.{is_code}
-use Rattle.tcap_end.specs.Table.{Table}
-use Rattle.tcap_model.specs.World.{Item}
-use Rattle.tcap_refute.specs.EarlierMessages.{invokes, is_invoke_id}
-use Rattle.tcap_faults.specs.declared.dialogue.half_origin.How.TheVariants.{Nowhere}
-use Rattle.tcap_faults.specs.ComponentKinds.{is_answer_reject_wrong, is_expected, is_invoke_reject_wrong, is_link_fine, is_of_no_operation, rejects_wrongly}
-use Rattle.tcap_faults.specs.Components.{is_linked_to, is_of_link, is_problem, lists_nothing}
-use Rattle.tcap_faults.specs.Counts.{any_problem, count, has_class, count_class, count_suited, invokes_linked, invokes_so, is_error, is_result, rejects_error, rejects_invoke, rejects_result}
-use Rattle.tcap_faults.specs.HalfKinds.{is_wrong_half}
-use Rattle.tcap_faults.specs.HalfByPeerId.{HalfOf, half_of}
-use Rattle.tcap_faults.specs.InvokeCounts.{is_sort, results_so}
-use Rattle.tcap_faults.specs.declared.component.component_sort.Class.{Class}
-use Rattle.tcap_faults.specs.declared.component.component_sort.Class.TheVariants.{Any, One, Two, Three}
-use Rattle.tcap_faults.specs.declared.component.component_sort.Sort.{Sort}
-use Rattle.tcap_faults.proofs.component_laws.FewSums.{any_same, count_invokes, count_same}
-use Rattle.tcap_faults.proofs.story_laws.InvokeListLaws.{id_itself}
-use Rattle.tcap_grounds.specs.ComponentEvidence.{NoneLinked, NoneUnexpected, ShowsAnswerRejected, ShowsInvokeRejected, ShowsRejected, heard_so, invoked_components, lists_others, suited}
-use Rattle.tcap_evidence.specs.Evidence.{invoke_id_of}
-use Rattle.tcap_evidence.specs.Scene.{Scene}
-use Rattle.tcap_grounds.specs.ListedEntries.{HasKind, component_with, items_before, many, scene_at}
+use Rattle.tcap_faults.specs.ComponentKinds.{is_answer_reject_wrong, is_expected, is_invoke_reject_wrong, is_of_no_operation, rejects_wrongly}
+use Rattle.tcap_faults.specs.Components.{is_linked_to, is_problem, lists_nothing}
+use Rattle.tcap_faults.specs.Counts.{count_suited, invokes_linked, rejects_error}
+use Rattle.tcap_faults.specs.InvokeCounts.{results_so}
+use Rattle.tcap_faults.proofs.component_laws.FewSums.{count_same}
+use Rattle.tcap_grounds.specs.ComponentEvidence.{NoneLinked, NoneUnexpected, ShowsAnswerRejected, ShowsInvokeRejected, ShowsRejected, lists_others, suited}
 use Rattle.tcap_grounds.proofs.AnswerShows.{one_more}
-use Rattle.tcap_grounds.proofs.HasKindLaws.{goes_so, half_so}
-use Rattle.tcap_grounds.proofs.SoLaws.{IsCounted, are_counted, component_is, none_so, scene_of_it, so_earlier, speaks_half, zero_more}
-use Rattle.tcap_record.specs.Ends.{other}
+use Rattle.tcap_grounds.proofs.HasKindLaws.{either, goes_so, half_so}
+use Rattle.tcap_grounds.proofs.SoLaws.{IsCounted, none_so, shows_half}
 use Rattle.tcap_parts.specs.declared.problem.Problem.TheVariants as problems
 use Rattle.tcap_refute.specs.declared.kind.Kind.TheVariants as kinds
 use Rattle.tcap_faults.specs.declared.component.component_sort.Sort.TheVariants as sorts
@@ -59,7 +34,17 @@ module _ (s : Scene) (h : HalfOf) (cs : List Component) (id : ℤ) (counts : IsC
 
   invoke_wrong : (n : ℕ) → is_invoke_reject_wrong s.table h (before ++ invoke_rejected n ∷ []) id n ≡ true
       → ShowsInvokeRejected s n
-  invoke_wrong n is = by (or_cases _ _ is)
+  invoke_wrong n is =
+      either _ _ is
+      (λ three. either _ _ three (λ two. either _ _ two duplicate of_a_link)
+      (λ fine. either _ _ fine
+      (λ six.
+      let (is_six, none) = and_parts (n == 6) _ six in
+      inr (inr (inl (eqb-true n 6 is_six, none_linked (λ to code. lists_nothing s.table to) none))))
+      (λ seven.
+      let (is_seven, none) = and_parts (n == 7) _ seven in
+      inr (inr (inr (inl (eqb-true n 7 is_seven, none_linked (lists_others s) none)))))))
+      (λ over. inr (inr (inr (inr (ltb-true 7 n over)))))
     where
       c : Component
       c = invoke_rejected n
@@ -89,37 +74,6 @@ module _ (s : Scene) (h : HalfOf) (cs : List Component) (id : ℤ) (counts : IsC
           let heard : many s (whats.Heard sorts.Linked) ≡ count (invokes_linked id) h.heard = counts.heard sorts.Linked in
           let told : many s (whats.Before sorts.LinkRejects) ≡ count (rejects_invoke id is_of_link) before =
           counts.before sorts.LinkRejects in inr (inl (link, omega (arith, less, last, heard, told)))
-
-      fine : is_link_fine s.table h id n ≡ true → ShowsInvokeRejected s n
-      fine so = six_or_seven (or_cases _ _ so)
-        where
-          six_or_seven : (((n == 6) && not (list_any (is_linked_to (λ to code. lists_nothing s.table to) h.invoked id) h.heard)) ≡ true)
-              ⊎ (((n == 7) && not (list_any (is_linked_to (lists_others s) h.invoked id) h.heard)) ≡ true)
-              → ShowsInvokeRejected s n
-          six_or_seven (inl six) =
-              let (is_six, none) = and_parts (n == 6) _ six in
-              inr (inr (inl (eqb-true n 6 is_six, none_linked (λ to code. lists_nothing s.table to) none)))
-          six_or_seven (inr seven) =
-              let (is_seven, none) = and_parts (n == 7) _ seven in
-              inr (inr (inr (inl (eqb-true n 7 is_seven, none_linked (lists_others s) none))))
-
-      first : (((n == 0) && nat_le (count (invokes id) h.heard) (count (rejects_invoke id (is_problem 0)) (before ++ c ∷ []))) ≡ true)
-          ⊎ ((is_of_link n && nat_lt (count (invokes_linked id) h.heard) (count (rejects_invoke id is_of_link) (before ++ c ∷ []))) ≡ true)
-          → ShowsInvokeRejected s n
-      first (inl so) = duplicate so
-      first (inr so) = of_a_link so
-
-      second : (((n == 0) && nat_le (count (invokes id) h.heard) (count (rejects_invoke id (is_problem 0)) (before ++ c ∷ []))
-          || is_of_link n && nat_lt (count (invokes_linked id) h.heard) (count (rejects_invoke id is_of_link) (before ++ c ∷ []))) ≡ true)
-          ⊎ (is_link_fine s.table h id n ≡ true) → ShowsInvokeRejected s n
-      second (inl so) = first (or_cases _ _ so)
-      second (inr so) = fine so
-
-      by : (((n == 0) && nat_le (count (invokes id) h.heard) (count (rejects_invoke id (is_problem 0)) (before ++ c ∷ []))
-          || is_of_link n && nat_lt (count (invokes_linked id) h.heard) (count (rejects_invoke id is_of_link) (before ++ c ∷ []))
-          || is_link_fine s.table h id n) ≡ true) ⊎ (nat_lt 7 n ≡ true) → ShowsInvokeRejected s n
-      by (inl so) = second (or_cases _ _ so)
-      by (inr over) = inr (inr (inr (inr (ltb-true 7 n over))))
 
   -- ---- a Reject of an answer
 
@@ -167,34 +121,25 @@ module _ (s : Scene) (h : HalfOf) (cs : List Component) (id : ℤ) (counts : IsC
             ∙ not-true (list_any (is_of_no_operation h id) h.heard) none),
       )
 
-  answer_wrong : (of_result : Bool) (answers rejects_of : Sort) (class : Class) (n rejects heard : ℕ)
-      → suited s class ≡ count_suited s.table of_result id h.invoked
-      → many s (whats.Heard answers) ≡ heard → rejects ≡ many s (whats.Before rejects_of) + 1
-      → is_answer_reject_wrong s.table h of_result id n rejects heard ≡ true
+  answer_wrong : (of_result : Bool) (answers rejects_of : Sort) (class : Class) (n : ℕ) (rejects : Component → Bool) (c : Component)
+      (heard : ℕ) → suited s class ≡ count_suited s.table of_result id h.invoked
+      → many s (whats.Heard answers) ≡ heard → many s (whats.Before rejects_of) ≡ count rejects before → rejects c ≡ true
+      → is_answer_reject_wrong s.table h of_result id n (count rejects (before ++ c ∷ [])) heard ≡ true
       → ShowsAnswerRejected s answers rejects_of class (cond of_result 2 4) n
-  answer_wrong of_result answers rejects_of class n rejects heard suit answers_are rejects_are is = by (or_cases _ _ is)
-    where
-      first : (nat_lt heard rejects ≡ true) ⊎ (nat_lt (cond of_result 2 4) n ≡ true)
-          → ShowsAnswerRejected s answers rejects_of class (cond of_result 2 4) n
-      first (inl more) =
-          let less : heard < rejects = ltb-true heard rejects more in inl (omega (arith, less, answers_are, rejects_are))
-      first (inr over) = inr (inl (ltb-true (cond of_result 2 4) n over))
-
-      second : ((nat_lt heard rejects || nat_lt (cond of_result 2 4) n) ≡ true)
-          ⊎ (((n == 1) && is_expected s.table h of_result id) ≡ true)
-          → ShowsAnswerRejected s answers rejects_of class (cond of_result 2 4) n
-      second (inl so) = first (or_cases _ _ so)
-      second (inr so) =
-          let (unexpected, is_so) = and_parts (n == 1) (is_expected s.table h of_result id) so in
-          inr (inr (inl (eqb-true n 1 unexpected, expected of_result class suit is_so)))
-
-      by : ((nat_lt heard rejects || nat_lt (cond of_result 2 4) n || (n == 1) && is_expected s.table h of_result id) ≡ true)
-          ⊎ ((nat_le 2 n && (count_suited s.table of_result id h.invoked == 0)) ≡ true)
-          → ShowsAnswerRejected s answers rejects_of class (cond of_result 2 4) n
-      by (inl so) = second (or_cases _ _ so)
-      by (inr so) =
-          let (from, none) = and_parts (nat_le 2 n) (count_suited s.table of_result id h.invoked == 0) so in
-          inr (inr (inr (leb-true 2 n from, suit ∙ eqb-true _ 0 none)))
+  answer_wrong of_result answers rejects_of class n rejects c heard suit answers_are told own is =
+      either _ _ is
+      (λ three. either _ _ three
+      (λ two. either _ _ two
+      (λ more.
+      let less : heard < count rejects (before ++ c ∷ []) = ltb-true _ _ more in
+      inl (omega (arith, less, answers_are, told, one_more rejects before c own)))
+      (λ over. inr (inl (ltb-true (cond of_result 2 4) n over))))
+      (λ so.
+      let (unexpected, is_so) = and_parts (n == 1) (is_expected s.table h of_result id) so in
+      inr (inr (inl (eqb-true n 1 unexpected, expected of_result class suit is_so)))))
+      (λ so.
+      let (from, none) = and_parts (nat_le 2 n) (count_suited s.table of_result id h.invoked == 0) so in
+      inr (inr (inr (leb-true 2 n from, suit ∙ eqb-true _ 0 none))))
 
   -- ---- any Reject
 
@@ -203,21 +148,13 @@ module _ (s : Scene) (h : HalfOf) (cs : List Component) (id : ℤ) (counts : IsC
   rejected (problems.General n) is = cc
   rejected (problems.Invoke n) is = invoke_wrong n is
   rejected (problems.ReturnResult n) is =
-      let c : Component = Reject (Some id) (problems.ReturnResult n) in
-      let told : many s (whats.Before sorts.ResultRejects) ≡ count (rejects_result id any_problem) before =
-      counts.before sorts.ResultRejects in
-      let last = one_more (rejects_result id any_problem) before c (and_from (is_invoke_id id id) true (id_itself id) refl) in
-      answer_wrong true sorts.Results sorts.ResultRejects Three n (count (rejects_result id any_problem) (before ++ c ∷ []))
-      (count (is_result id) h.heard) (suited_are true Three (λ x. refl)) (counts.heard sorts.Results)
-      (omega (arith, told, last)) is
+      answer_wrong true sorts.Results sorts.ResultRejects Three n (rejects_result id any_problem)
+      (Reject (Some id) (problems.ReturnResult n)) (count (is_result id) h.heard) (suited_are true Three (λ x. refl))
+      (counts.heard sorts.Results) (counts.before sorts.ResultRejects) (and_from (is_invoke_id id id) true (id_itself id) refl) is
   rejected (problems.ReturnError n) is =
-      let c : Component = Reject (Some id) (problems.ReturnError n) in
-      let told : many s (whats.Before sorts.ErrorRejects) ≡ count (rejects_error id any_problem) before =
-      counts.before sorts.ErrorRejects in
-      let last = one_more (rejects_error id any_problem) before c (and_from (is_invoke_id id id) true (id_itself id) refl) in
-      answer_wrong false sorts.Errors sorts.ErrorRejects Two n (count (rejects_error id any_problem) (before ++ c ∷ []))
-      (count (is_error id) h.heard) (suited_are false Two (λ x. refl)) (counts.heard sorts.Errors)
-      (omega (arith, told, last)) is
+      answer_wrong false sorts.Errors sorts.ErrorRejects Two n (rejects_error id any_problem)
+      (Reject (Some id) (problems.ReturnError n)) (count (is_error id) h.heard) (suited_are false Two (λ x. refl))
+      (counts.heard sorts.Errors) (counts.before sorts.ErrorRejects) (and_from (is_invoke_id id id) true (id_itself id) refl) is
 
 module _ (of_one : Bool) (table : Table) (side : Side) (entries : List Entry) (number : ℕ) (m : Message) where
   abbrev items : List Item
@@ -226,27 +163,16 @@ module _ (of_one : Bool) (table : Table) (side : Side) (entries : List Entry) (n
   abbrev s : Scene
   s = scene_at of_one table side entries number m kinds.RejectNotAllowed
 
-  rejected_it : (to : List ℕ) → dtid_in m ≡ Some to → (half_of side items to).how ≢ Nowhere → (c : Component)
-      → s.id ≡ invoke_id_of kinds.RejectNotAllowed c
-      → rejects_wrongly table (half_of side items to) s.earlier ((half_of side items to).told ++ s.earlier) c ≡ true
-      → ShowsRejected s (Some c)
-  rejected_it to goes some (Reject (Some id) problem) of_it is =
-      rejected s (half_of side items to) (components_in m) id
-      (are_counted of_one table side entries number m kinds.RejectNotAllowed to id goes of_it some) problem is
-  rejected_it to goes some (Reject None problem) of_it is = cc
-  rejected_it to goes some (Invoke id linked code parameter) of_it is = cc
-  rejected_it to goes some (ReturnResult last id body) of_it is = cc
-  rejected_it to goes some (ReturnError id code parameter) of_it is = cc
+  rejected_it : (h : HalfOf) (c : Component)
+      → ((id : ℤ) → invoke_id_of kinds.RejectNotAllowed c ≡ Some id → IsCounted s h (components_in m) id)
+      → rejects_wrongly table h s.earlier (h.told ++ s.earlier) c ≡ true → ShowsRejected s (Some c)
+  rejected_it h (Reject (Some id) problem) counts is = rejected s h (components_in m) id (counts id refl) problem is
+  rejected_it h c counts is = cc
 
   pub reject_shows : HasKind table side items m kinds.RejectNotAllowed
       → ShowsRejected s (component_with of_one table side entries number m kinds.RejectNotAllowed)
   reject_shows has =
       let (to, goes) = goes_so table side items m kinds.RejectNotAllowed refl has in
-      let h : HalfOf = half_of side items to in
-      let (right, some) =
-      and_parts (not (is_wrong_half side items m h)) _ (half_so table side items m to goes kinds.RejectNotAllowed refl has) in
-      let (k, c, first, here, is) = component_is (rejects_wrongly table h) 0 [] h.told (components_in m) some in
-      let of_it = scene_of_it of_one table side entries number m kinds.RejectNotAllowed k c (rw goes (zero_more first)) here in
-      subst (ShowsRejected s) (sym of_it.it)
-      (rejected_it to goes (speaks_half side items m h right) c of_it.id
-      (so_earlier s (rejects_wrongly table h) h.told (components_in m) k c of_it.earlier is))
+      shows_half of_one table side entries number m kinds.RejectNotAllowed to goes (rejects_wrongly table (half_of side items to))
+      (rw goes refl) (half_so table side items m to goes kinds.RejectNotAllowed refl has) (ShowsRejected s)
+      (λ k c it counts is. rejected_it (half_of side items to) c counts is)

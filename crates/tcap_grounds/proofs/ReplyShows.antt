@@ -1,35 +1,13 @@
 -- The lists show F7 (a misplaced dialogue portion) and F14 (an Abort of the provider that answers nothing).
-use Rattle.std.proofs.Common.{◌≡◌, ◌⊎◌, inl, inr, ℕ, ◌+◌, ◌<◌, arith, Bool, true, false, cond, not, ◌&&◌, ◌||◌, List, Option, Some, None, is_some, refl, ap}
-use Rattle.std.specs.Prelude.{Contains, ◌==◌, nat_lt}
-use Rattle.std.specs.List.{list_any}
-use Rattle.std.proofs.lemmas.Bool.{and_parts, eqb-true, ltb-true, not-true, or_cases}
-use Rattle.tcap_parts.specs.declared.dialogue.Dialogue.{Dialogue}
-use Rattle.tcap_msg.specs.declared.message.Message.{Message}
-use Rattle.tcap_msg.specs.declared.message.Message.TheVariants.{Unidirectional, Begin, Continue, End as EndMessage, Abort}
-use Rattle.tcap_msg.specs.Parts.{cause_in, dialogue_in, dtid_in}
-use Rattle.tcap_record.specs.declared.entry.End.{End as Side}
-use Rattle.tcap_record.specs.declared.entry.Entry.{Entry}
+use Rattle.tcap_grounds.proofs.Common.{◌≡◌, ◌⊎◌, inl, inr, ℕ, ◌+◌, ◌<◌, arith, Bool, true, false, cond, not, ◌&&◌, ◌||◌, List, Option, Some, None, is_some, refl, ap, Contains, ◌==◌, list_any, and_parts, eqb-true, ltb-true, not-true, Dialogue, Message, Begin, Continue, EndMessage, Abort, cause_in, dialogue_in, dtid_in, Side, Entry, Table, Item, asked, has_a, is_a, sent_by, is_begin_with_request, Accepted, Refused, Subject, is_surely_open, count, is_nothing, HalfOf, begun_from, half_by, half_of, is_abort_with, told, was_refused, none_passes, passes_not, scene_of, entries_where, Scene, AreAllThere, HasKind, ListsNone, items_before}
 use Rattle.tcap_end.specs.Dialogue.{accepts_dialogue, refuses_dialogue}
-use Rattle.tcap_end.specs.Table.{Table}
-use Rattle.tcap_model.specs.World.{Item}
-use Rattle.tcap_refute.specs.EarlierMessages.{asked, has_a, is_a, sent_by}
-use Rattle.tcap_refute.specs.Kind.{is_begin_with_request, is_misplaced_aborting, is_misplaced_dialogue, is_misplaced_going_on}
-use Rattle.tcap_faults.specs.declared.dialogue.half_origin.How.TheVariants.{Accepted, Refused}
-use Rattle.tcap_faults.specs.declared.verdict.fault_subject.Subject.{Subject}
-use Rattle.tcap_faults.specs.ClosedHalves.{all_go_to_open, is_surely_open}
-use Rattle.tcap_faults.specs.Counts.{count, is_nothing}
+use Rattle.tcap_refute.specs.Kind.{is_misplaced_aborting, is_misplaced_dialogue, is_misplaced_going_on}
+use Rattle.tcap_faults.specs.ClosedHalves.{all_go_to_open}
 use Rattle.tcap_faults.specs.Fault.{count_received, is_wrong_reply}
 use Rattle.tcap_faults.specs.HalfKinds.{is_accepted}
-use Rattle.tcap_faults.specs.HalfByPeerId.{HalfOf, begun_from, half_by, half_of}
-use Rattle.tcap_faults.specs.SentToId.{is_abort_with, told, was_refused}
-use Rattle.tcap_faults.proofs.list_laws.TwoTests.{none_passes, passes_not}
-use Rattle.tcap_evidence.specs.Evidence.{scene_of}
 use Rattle.tcap_grounds.specs.HalfEvidence.{AcceptsNone, NoBeginLeft, NoContinueLeft, ShowsMisplaced, ShowsWrongReply, goes_to_open}
-use Rattle.tcap_evidence.specs.NumberedMessages.{entries_where}
-use Rattle.tcap_evidence.specs.Scene.{Scene}
-use Rattle.tcap_grounds.specs.ListedEntries.{AreAllThere, HasKind, ListsNone, items_before}
 use Rattle.tcap_grounds.proofs.CountedLaws.{messages_counted, scene_to}
-use Rattle.tcap_grounds.proofs.HasKindLaws.{goes_so, kind_so, reply_so}
+use Rattle.tcap_grounds.proofs.HasKindLaws.{either, goes_so, kind_so, reply_so}
 use Rattle.tcap_grounds.proofs.ListsLaws.{none_there, nothing_there, one_aborts, one_there, something_told}
 use Rattle.tcap_grounds.proofs.SceneLists.{IsTo}
 use Rattle.tcap_parts.specs.declared.dialogue.Dialogue.TheVariants as dialogues
@@ -55,11 +33,9 @@ going_on has (Some d) is = (refl, not_both has (accepts_dialogue (Some d)) is)
 aborting : (has : Bool) (d : Option Dialogue) → is_misplaced_aborting has d ≡ true
     → (is_some d ≡ true) × (refuses_dialogue d ≡ true → has ≡ false)
 aborting has None is = cc
-aborting has (Some (dialogues.Abort source info)) is = (refl, λ so. cc)
-aborting has (Some (dialogues.Request context info)) is = (refl, λ so. cc)
-aborting has (Some (dialogues.Uni context info)) is = (refl, λ so. cc)
 aborting has (Some (dialogues.Response context result diagnostic info)) is =
     (refl, not_both has (refuses_dialogue (Some (dialogues.Response context result diagnostic info))) is)
+aborting has d is = (refl, λ so. cc)
 
 module _ (table : Table) (side : Side) (entries : List Entry) (number : ℕ) (about : Subject) where
   abbrev misplaced_in : Message → Scene
@@ -78,10 +54,6 @@ module _ (table : Table) (side : Side) (entries : List Entry) (number : ℕ) (ab
 
   misplaced_by : (m : Message) → is_misplaced_dialogue side (items_before entries number) m ≡ true
       → ShowsMisplaced (misplaced_in m) m
-  misplaced_by (Unidirectional dialogue components) is =
-      ((and_parts (is_some dialogue) _ is).0, λ so. alone_none (Unidirectional dialogue components) refl)
-  misplaced_by (Begin otid dialogue components) is =
-      ((and_parts (is_some dialogue) _ is).0, λ so. alone_none (Begin otid dialogue components) refl)
   misplaced_by (Continue otid dtid dialogue components) is =
       let (some, none) = going_on (list_any is_begin_with_request (asked side dtid (items_before entries number))) dialogue is in
       (some, λ so. no_request (Continue otid dtid dialogue components) dtid refl (none so))
@@ -92,6 +64,7 @@ module _ (table : Table) (side : Side) (entries : List Entry) (number : ℕ) (ab
       let (some, none) =
       aborting (list_any is_begin_with_request (asked side dtid (items_before entries number)))
       (dialogue_in (Abort dtid reason)) is in (some, λ so. no_request (Abort dtid reason) dtid refl (none so))
+  misplaced_by m is = ((and_parts (is_some (dialogue_in m)) _ is).0, λ so. alone_none m refl)
 
 pub misplaced_shows : (table : Table) (side : Side) (entries : List Entry) (number : ℕ) (m : Message) (about : Subject)
     → HasKind table side (items_before entries number) m kinds.MisplacedDialogue
@@ -177,36 +150,20 @@ module _ (table : Table) (side : Side) (entries : List Entry) (number : ℕ) (m 
               rw goes at (passes_not _ (asked side id items) x has none) in rw goes so
 
   begins_left : (not (is_accepted h.how) || not (is_nothing (told side id items))) ≡ true → NoBeginLeft s
-  begins_left is = by (or_cases (not (is_accepted h.how)) (not (is_nothing (told side id items))) is)
-    where
-      by : (not (is_accepted h.how) ≡ true) ⊎ (not (is_nothing (told side id items)) ≡ true) → NoBeginLeft s
-      by (inl none) = inl (none_accepted side items s id of (not-true (is_accepted h.how) none))
-      by (inr some) = inr (something_told side items s id of (not-true (is_nothing (told side id items)) some))
+  begins_left is =
+      either (not (is_accepted h.how)) (not (is_nothing (told side id items))) is
+      (λ none. inl (none_accepted side items s id of (not-true (is_accepted h.how) none)))
+      (λ some. inr (something_told side items s id of (not-true (is_nothing (told side id items)) some)))
 
   reply_by : (cause : ℕ) → is_wrong_reply table side id items h cause ≡ true → ShowsWrongReply s (Some cause)
-  reply_by cause is = by (or_cases _ _ is)
-    where
-      continues : Bool
-      continues =
-          nat_lt (count (is_a forms.Continue) (asked side id items))
-          (count (is_abort_with 1 id) (sent_by side items) + 1 + count_received side id items h)
-
-      opens : Bool
-      opens = all_go_to_open table side items (asked side id items)
-
-      begins : Bool
-      begins = not (is_accepted h.how) || not (is_nothing (told side id items))
-
-      by_one : (continues ≡ true) ⊎ (opens ≡ true) → NoContinueLeft s
-      by_one (inl less) = fewer (ltb-true _ _ less)
-      by_one (inr all) = all_open all
-
-      by : (((cause == 1) && (continues || opens)) ≡ true) ⊎ (((cause == 4) && begins) ≡ true) → ShowsWrongReply s (Some cause)
-      by (inl one) =
-          let (is_one, none) = and_parts (cause == 1) (continues || opens) one in
-          inl (eqb-true cause 1 is_one, by_one (or_cases continues opens none))
-      by (inr four) =
-          let (is_four, none) = and_parts (cause == 4) begins four in inr (eqb-true cause 4 is_four, begins_left none)
+  reply_by cause is =
+      either _ _ is
+      (λ one.
+      let (is_one, none) = and_parts (cause == 1) _ one in
+      inl (eqb-true cause 1 is_one, either _ _ none (λ less. fewer (ltb-true _ _ less)) all_open))
+      (λ four.
+      let (is_four, none) = and_parts (cause == 4) _ four in
+      inr (eqb-true cause 4 is_four, begins_left none))
 
 pub reply_shows : (table : Table) (side : Side) (entries : List Entry) (number : ℕ) (m : Message) (about : Subject)
     → HasKind table side (items_before entries number) m kinds.WrongReply

@@ -1,25 +1,7 @@
 -- The lists of a scene are those of the kinds: the messages from an ID and to it, those that the half heard, and those
 -- that carry its invocations.
-use Rattle.std.proofs.Common.{◌≡◌, ◌≢◌, ℕ, Bool, true, false, cond, ◌&&◌, List, [], ◌∷◌, ◌++◌, Option, Some, None, is_none, option_map, refl, ap, ◌∙◌}
-use Rattle.std.specs.Prelude.{filter}
-use Rattle.std.specs.List.{find}
-use Rattle.std.specs.Option.{option_to_list}
-use Rattle.std.proofs.lemmas.List.{map-append}
+use Rattle.tcap_grounds.proofs.Common.{◌≡◌, ◌≢◌, ℕ, Bool, true, false, cond, ◌&&◌, List, [], ◌∷◌, ◌++◌, Option, Some, None, is_none, option_map, refl, ap, ◌∙◌, filter, find, option_to_list, map-append, Message, cause_in, dialogue_in, dtid_in, otid_in, Side, other, is_response, Item, asked, components_of, has_a, is_a, sent_by, begin_from, goes_on_to, is_request_of, told, was_refused, is_nothing, How, Accepted, Begun, Nowhere, Refused, Unanswered, answered_from, begun_from, continued_to, from_first, half_by, half_of, heard_of, responds, Numbered, Scene, has_request, heard_by, invoked_by, is_that, own_begin, since_first, there, to_half, told_there}
 use Rattle.tcap_msg.specs.declared.kind.Kind.TheVariants as forms
-use Rattle.tcap_msg.specs.declared.message.Message.{Message}
-use Rattle.tcap_msg.specs.Parts.{cause_in, dialogue_in, dtid_in, otid_in}
-use Rattle.tcap_record.specs.declared.entry.End.{End as Side}
-use Rattle.tcap_record.specs.Ends.{other}
-use Rattle.tcap_end.specs.Dialogue.{is_response}
-use Rattle.tcap_model.specs.World.{Item}
-use Rattle.tcap_refute.specs.EarlierMessages.{asked, components_of, has_a, is_a, sent_by}
-use Rattle.tcap_faults.specs.SentToId.{begin_from, goes_on_to, is_request_of, told, was_refused}
-use Rattle.tcap_faults.specs.Counts.{is_nothing}
-use Rattle.tcap_faults.specs.declared.dialogue.half_origin.How.{How}
-use Rattle.tcap_faults.specs.declared.dialogue.half_origin.How.TheVariants.{Accepted, Begun, Nowhere, Refused, Unanswered}
-use Rattle.tcap_faults.specs.HalfByPeerId.{answered_from, begun_from, continued_to, from_first, half_by, half_of, heard_of, responds}
-use Rattle.tcap_evidence.specs.NumberedMessages.{Numbered}
-use Rattle.tcap_evidence.specs.Scene.{Scene, has_request, heard_by, invoked_by, is_that, own_begin, since_first, there, to_half, told_there}
 use Rattle.tcap_grounds.proofs.SentBefore.{messages}
 use Rattle.tcap_grounds.proofs.NumberedLists.{first_is, kept_are, one_is, requests, since_are}
 

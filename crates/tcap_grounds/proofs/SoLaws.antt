@@ -1,36 +1,11 @@
 -- The component of a message that has a kind: its number, and its scene.
-use Rattle.std.proofs.Common.{◌≡◌, ◌≢◌, ℕ, ℤ, zero, suc, ◌+◌, ◌≤◌, arith, Bool, true, false, cond, not, ◌||◌, List, [], ◌∷◌, ◌++◌, length, take, Option, Some, None, append_assoc, append-nil, refl, sym, ap, ◌∙◌}
-use Rattle.std.specs.Prelude.{Contains, filter, slice_get}
-use Rattle.std.specs.List.{list_any}
-use Rattle.std.proofs.lemmas.Bool.{not-true}
-use Rattle.std.proofs.lemmas.List.{length-append, length-map}
-use Rattle.tcap_parts.specs.declared.component.Component.{Component}
-use Rattle.tcap_msg.specs.declared.message.Message.{Message}
-use Rattle.tcap_msg.specs.Parts.{components_in, dtid_in}
-use Rattle.tcap_record.specs.declared.entry.End.{End as Side}
-use Rattle.tcap_record.specs.declared.entry.Entry.{Entry}
-use Rattle.tcap_end.specs.Table.{Table}
-use Rattle.tcap_model.specs.World.{Item}
-use Rattle.tcap_refute.specs.declared.kind.Kind.{Kind}
-use Rattle.tcap_refute.specs.EarlierMessages.{components_of}
+use Rattle.tcap_grounds.proofs.Common.{◌≡◌, ◌≢◌, ℕ, ℤ, zero, suc, ◌+◌, ◌≤◌, arith, Bool, true, false, cond, not, ◌||◌, List, [], ◌∷◌, ◌++◌, length, take, Option, Some, None, append_assoc, append-nil, refl, sym, ap, subst, ◌∙◌, ◌&&◌, Contains, filter, slice_get, list_any, and_parts, not-true, length-append, length-map, Component, Message, components_in, dtid_in, Side, Entry, Table, Item, Kind, components_of, or_else, any_has, has_first, has_later, AreCounted, component_with, items_before, many, scene_at, has_component, count, subject, is_wrong_half, HalfOf, half_of, is_sort, Nowhere, Sort, count_both, count_more, one, before_so, entries_so, heard_so, invoked_components, component_at, invoke_id_of, Numbered, Scene, heard_by, told_there}
 use Rattle.tcap_refute.specs.FirstComponent.{first_so}
-use Rattle.tcap_refute.specs.Kind.{or_else}
-use Rattle.tcap_refute.proofs.Members.{any_has, has_first, has_later}
-use Rattle.tcap_grounds.specs.ListedEntries.{AreCounted, component_with, items_before, many, scene_at}
 use Rattle.tcap_grounds.proofs.SceneLists.{IsOver, IsTo, heard_are, invoked_are, told_are, told_of}
-use Rattle.tcap_faults.specs.Components.{has_component}
-use Rattle.tcap_faults.specs.Counts.{count}
-use Rattle.tcap_faults.specs.FaultSubject.{component_of, component_so, subject}
-use Rattle.tcap_faults.specs.HalfKinds.{is_wrong_half}
-use Rattle.tcap_faults.specs.HalfByPeerId.{HalfOf, half_of}
-use Rattle.tcap_faults.specs.InvokeCounts.{is_sort}
-use Rattle.tcap_faults.specs.declared.dialogue.half_origin.How.TheVariants.{Nowhere}
-use Rattle.tcap_faults.specs.declared.component.component_sort.Sort.{Sort}
-use Rattle.tcap_faults.proofs.list_laws.CountLaws.{any_counts, count_both, count_more, one}
-use Rattle.tcap_grounds.specs.ComponentEvidence.{before_so, entries_so, heard_so, invoked_components, itself_so}
-use Rattle.tcap_evidence.specs.Evidence.{component_at, components_before, invoke_id_in, invoke_id_of}
-use Rattle.tcap_evidence.specs.NumberedMessages.{Numbered}
-use Rattle.tcap_evidence.specs.Scene.{Scene, heard_by, told_there}
+use Rattle.tcap_faults.specs.FaultSubject.{component_of, component_so}
+use Rattle.tcap_faults.proofs.list_laws.CountLaws.{any_counts}
+use Rattle.tcap_grounds.specs.ComponentEvidence.{itself_so}
+use Rattle.tcap_evidence.specs.Evidence.{components_before, invoke_id_in}
 use Rattle.tcap_grounds.proofs.CountedLaws.{components_counted, scene_over, scene_to}
 use Rattle.tcap_grounds.proofs.ListsLaws.{empty_is}
 use Rattle.tcap_grounds.proofs.NumberedLists.{with_counted}
@@ -97,6 +72,7 @@ component_is is_so number own before (c ∷ cs) some =
 
 -- The scene is that of the component at index `k`.
 pub record IsOf (s : Scene) (kind : Kind) (cs : List Component) (k : ℕ) (c : Component) (o : Option Component) : Type 0 where
+  pub here : slice_get cs k ≡ Some c
   pub it : o ≡ Some c
   pub earlier : s.earlier ≡ take k cs
   pub id : s.id ≡ invoke_id_of kind c
@@ -123,7 +99,7 @@ pub scene_of_it : (of_one : Bool) (table : Table) (side : Side) (entries : List 
     → slice_get (components_in m) k ≡ Some c
     → IsOf (scene_at of_one table side entries number m kind) kind (components_in m) k c
     (component_with of_one table side entries number m kind)
-scene_of_it of_one table side entries number m kind k c is here = record { it = it; earlier = earlier; id = id }
+scene_of_it of_one table side entries number m kind k c is here = record { here = here; it = it; earlier = earlier; id = id }
   where
     place : (subject of_one table side (items_before entries number) m kind).component ≡ Some k
     place = about_component of_one table side (items_before entries number) m kind ∙ is
@@ -136,13 +112,6 @@ scene_of_it of_one table side entries number m kind k c is here = record { it = 
 
     id : (scene_at of_one table side entries number m kind).id ≡ invoke_id_of kind c
     id = ap (invoke_id_in kind) it
-
--- The property also holds for the components that the scene has before it.
-pub so_earlier : (s : Scene) (is_so : List Component → List Component → Component → Bool) (told cs : List Component) (k : ℕ)
-    (c : Component) → s.earlier ≡ take k cs → is_so ([] ++ take k cs) (told ++ take k cs) c ≡ true
-    → is_so s.earlier (told ++ s.earlier) c ≡ true
-so_earlier s is_so told cs k c earlier is =
-    ap (λ (xs : List Component). is_so xs (told ++ xs) c) earlier ∙ is
 
 -- A half that may send exists.
 pub speaks_half : (side : Side) (items : List Item) (m : Message) (h : HalfOf) → not (is_wrong_half side items m h) ≡ true
@@ -170,49 +139,84 @@ module _ (s : Scene) (id : ℤ) (is : s.id ≡ Some id) (passes : ℤ → Compon
   itself_counted : (cs : List Component) → length (itself_so s passes cs) ≡ count (passes id) cs
   itself_counted cs = rw is (length-map (filter (passes id) cs) (λ (c : Component). s.number))
 
-pub are_counted : (of_one : Bool) (table : Table) (side : Side) (entries : List Entry) (number : ℕ) (m : Message) (kind : Kind)
-    (to : List ℕ) (id : ℤ) → dtid_in m ≡ Some to → (scene_at of_one table side entries number m kind).id ≡ Some id
-    → (half_of side (items_before entries number) to).how ≢ Nowhere
-    → IsCounted (scene_at of_one table side entries number m kind) (half_of side (items_before entries number) to)
-    (components_in m) id
-are_counted of_one table side entries number m kind to id goes is some =
-    record {
-      heard = λ sort. (counts sort).heard;
-      before = λ sort. (counts sort).half_before some;
-      whole = λ sort. (counts sort).half_whole some;
-      invoked = λ sort. (counts sort).invoked some;
-      heard_so = λ passes.
-          so_counted s id is passes (heard_by s s.how) ∙ ap (count (passes id)) (heard_are side items to s of over);
-      before_so = told_and_earlier;
-      invoked_are = invoked_are side items to s of over some;
-    }
-  where
-    items : List Item
-    items = items_before entries number
+-- ---- a message at fault
 
-    s : Scene
-    s = scene_at of_one table side entries number m kind
+module _ (of_one : Bool) (table : Table) (side : Side) (entries : List Entry) (number : ℕ) (m : Message) (kind : Kind) where
+  abbrev items : List Item
+  items = items_before entries number
 
-    of : IsTo side items to s
-    of = scene_to table side entries number m kind (subject of_one table side items m kind) to goes
+  abbrev s : Scene
+  s = scene_at of_one table side entries number m kind
 
-    over : IsOver side items to s
-    over = scene_over of_one table side entries number m kind to goes
+  -- The component at index `k` is the one that has the kind.
+  abbrev IsIt : ℕ → Component → Type 0
+  IsIt k c = IsOf s kind (components_in m) k c (component_with of_one table side entries number m kind)
 
-    counts : (sort : Sort) → AreCounted side items to m s sort (is_sort table id sort)
-    counts sort = components_counted of_one table side entries number m kind to id sort goes is
+  -- What follows from a property of a component, given the components before it, follows for the first component that
+  -- has the property.
+  pub shows_so : (is_so : List Component → List Component → Component → Bool) (told : List Component)
+      → component_of of_one table side items m kind ≡ component_so is_so 0 [] told (components_in m)
+      → has_component is_so [] told (components_in m) ≡ true → (Shows : Option Component → Type 0)
+      → ((k : ℕ) (c : Component) → IsIt k c → is_so s.earlier (told ++ s.earlier) c ≡ true → Shows (Some c))
+      → Shows (component_with of_one table side entries number m kind)
+  shows_so is_so told first_of some Shows shows =
+      let (k, c, first, here, is) = component_is is_so 0 [] told (components_in m) some in
+      let of_it = scene_of_it of_one table side entries number m kind k c (first_of ∙ zero_more first) here in
+      subst Shows (sym of_it.it)
+      (shows k c of_it (ap (λ (xs : List Component). is_so xs (told ++ xs) c) of_it.earlier ∙ is))
 
-    told_and_earlier : (passes : ℤ → Component → Bool)
-        → length (before_so s passes) ≡ count (passes id) ((half_of side items to).told ++ s.earlier)
-    told_and_earlier passes =
-        let both = length-append (entries_so s passes (told_there s)) (itself_so s passes s.earlier) in
-        let told_so : length (entries_so s passes (told_there s)) ≡ count (passes id) (half_of side items to).told =
-        so_counted s id is passes (told_there s)
-        ∙ ap (λ (ms : List Message). count (passes id) (components_of ms)) (told_are side items to s of)
-        ∙ ap (count (passes id)) (told_of side items to s of some) in
-        let last = itself_counted s id is passes s.earlier in
-        let all = count_both (passes id) (half_of side items to).told s.earlier in
-        omega (arith, both, told_so, last, all)
+  module _ (to : List ℕ) (goes : dtid_in m ≡ Some to) where
+    abbrev h : HalfOf
+    h = half_of side items to
+
+    are_counted : (id : ℤ) → s.id ≡ Some id → h.how ≢ Nowhere → IsCounted s h (components_in m) id
+    are_counted id is some =
+        record {
+          heard = λ sort. (counts sort).heard;
+          before = λ sort. (counts sort).half_before some;
+          whole = λ sort. (counts sort).half_whole some;
+          invoked = λ sort. (counts sort).invoked some;
+          heard_so = λ passes.
+              so_counted s id is passes (heard_by s s.how) ∙ ap (count (passes id)) (heard_are side items to s of over);
+          before_so = told_and_earlier;
+          invoked_are = invoked_are side items to s of over some;
+        }
+      where
+        of : IsTo side items to s
+        of = scene_to table side entries number m kind (subject of_one table side items m kind) to goes
+
+        over : IsOver side items to s
+        over = scene_over of_one table side entries number m kind to goes
+
+        counts : (sort : Sort) → AreCounted side items to m s sort (is_sort table id sort)
+        counts sort = components_counted of_one table side entries number m kind to id sort goes is
+
+        told_and_earlier : (passes : ℤ → Component → Bool)
+            → length (before_so s passes) ≡ count (passes id) (h.told ++ s.earlier)
+        told_and_earlier passes =
+            let both = length-append (entries_so s passes (told_there s)) (itself_so s passes s.earlier) in
+            let told_so : length (entries_so s passes (told_there s)) ≡ count (passes id) h.told =
+            so_counted s id is passes (told_there s)
+            ∙ ap (λ (ms : List Message). count (passes id) (components_of ms)) (told_are side items to s of)
+            ∙ ap (count (passes id)) (told_of side items to s of some) in
+            let last = itself_counted s id is passes s.earlier in
+            let all = count_both (passes id) h.told s.earlier in
+            omega (arith, both, told_so, last, all)
+
+    -- So too over a half that may send; and the lists of the component's invoke ID have as many entries as are counted.
+    pub shows_half : (is_so : List Component → List Component → Component → Bool)
+        → component_of of_one table side items m kind ≡ component_so is_so 0 [] h.told (components_in m)
+        → (not (is_wrong_half side items m h) && has_component is_so [] h.told (components_in m)) ≡ true
+        → (Shows : Option Component → Type 0)
+        → ((k : ℕ) (c : Component) → IsIt k c
+        → ((id : ℤ) → invoke_id_of kind c ≡ Some id → IsCounted s h (components_in m) id)
+        → is_so s.earlier (h.told ++ s.earlier) c ≡ true → Shows (Some c))
+        → Shows (component_with of_one table side entries number m kind)
+    shows_half is_so first_of both Shows shows =
+        let (right, some) = and_parts (not (is_wrong_half side items m h)) _ both in
+        shows_so is_so h.told first_of some Shows
+        (λ k c of_it is. shows k c of_it
+        (λ id named. are_counted id (of_it.id ∙ named) (speaks_half side items m h right)) is)
 
 -- ---- lists of components
 

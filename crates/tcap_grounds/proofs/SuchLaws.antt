@@ -1,29 +1,7 @@
 -- The messages in a list of a scene match it.
-use Rattle.std.proofs.Common.{◌≡◌, ◌⊎◌, inl, inr, ℕ, ℤ, Bool, true, false, cond, ◌&&◌, List, [], ◌∷◌, ◌++◌, map, Option, Some, None, is_none, refl, sym}
-use Rattle.std.specs.Prelude.{Contains, filter}
-use Rattle.std.specs.List.{find}
-use Rattle.std.specs.Option.{option_to_list}
-use Rattle.std.proofs.lemmas.Bool.{and_parts}
-use Rattle.std.proofs.lemmas.List.Elements.{Contains-append_cases}
-use Rattle.tcap_parts.specs.declared.component.Component.{Component}
+use Rattle.tcap_grounds.proofs.Common.{◌≡◌, ◌⊎◌, inl, inr, ℕ, ℤ, Bool, true, false, cond, ◌&&◌, List, [], ◌∷◌, ◌++◌, map, Option, Some, None, is_none, refl, sym, Contains, filter, find, option_to_list, and_parts, Contains-append_cases, Component, Message, cause_in, components_in, dialogue_in, dtid_in, kind_in, otid_in, is_response, none_is, contains_first, is_a, goes_on_to, is_surely_open, filter_is, find_has, has_later, has_not, How, Accepted, Begun, Nowhere, Refused, Unanswered, Sort, is_sort, Numbered, Scene, has_request, heard_by, invoked_by, is_open_continue, is_that, own_begin, since_first, there, to_half, told_there, went_elsewhere, with_sort, with_sort_in, AreSame, AreDifferent, HasSort, IsItself, IsOpen, IsToldTo}
 use Rattle.tcap_msg.specs.declared.kind.Kind.TheVariants as forms
-use Rattle.tcap_msg.specs.declared.message.Message.{Message}
-use Rattle.tcap_msg.specs.Parts.{cause_in, components_in, dialogue_in, dtid_in, kind_in, otid_in}
-use Rattle.tcap_end.specs.Dialogue.{is_response}
-use Rattle.tcap_end.proofs.StepLaws.{none_is}
-use Rattle.tcap_model.proofs.ListLaws.{contains_first}
-use Rattle.tcap_refute.specs.EarlierMessages.{is_a}
-use Rattle.tcap_faults.specs.SentToId.{goes_on_to}
-use Rattle.tcap_faults.specs.ClosedHalves.{is_surely_open}
-use Rattle.tcap_faults.proofs.list_laws.FindLaws.{filter_is, find_has}
-use Rattle.tcap_refute.proofs.Members.{has_later, has_not}
-use Rattle.tcap_faults.specs.declared.dialogue.half_origin.How.{How}
-use Rattle.tcap_faults.specs.declared.dialogue.half_origin.How.TheVariants.{Accepted, Begun, Nowhere, Refused, Unanswered}
-use Rattle.tcap_faults.specs.declared.component.component_sort.Sort.{Sort}
-use Rattle.tcap_faults.specs.InvokeCounts.{is_sort}
-use Rattle.tcap_evidence.specs.NumberedMessages.{Numbered}
-use Rattle.tcap_evidence.specs.Scene.{Scene, has_request, heard_by, invoked_by, is_open_continue, is_that, own_begin, since_first, there, to_half, told_there, went_elsewhere, with_sort, with_sort_in}
-use Rattle.tcap_grounds.specs.ListedEntries.{AreSame, AreDifferent, HasSort, IsHeardBy, IsInvokedIn, IsItself, IsOpen, IsToldTo}
+use Rattle.tcap_grounds.specs.ListedEntries.{IsHeardBy, IsInvokedIn}
 use Rattle.tcap_grounds.proofs.NumberedLists.{map_is, with_is}
 use Rattle.tcap_grounds.proofs.MessageTests.{elsewhere_is, form_is, one_is}
 

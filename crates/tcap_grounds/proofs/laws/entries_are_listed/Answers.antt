@@ -1,5 +1,4 @@
-use Rattle.std.proofs.Common.{refl}
-use Rattle.tcap_evidence.specs.Evidence.{mark_scene, scene_of}
+use Rattle.tcap_grounds.proofs.Common.{refl, mark_scene, scene_of}
 use Rattle.tcap_grounds.proofs.ListedLaws.{is_listed}
 use Rattle.tcap_grounds.proofs.laws.entries_are_listed.Goals as goal
 
