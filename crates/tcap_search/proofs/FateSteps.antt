@@ -1,26 +1,89 @@
 -- The loops that find fates: one more entry, or one more tie.
-use Rattle.std.proofs.Common.{◌≡◌, ℕ, ◌+◌, ◌^◌, ◌<◌, ◌≤◌, max, ◌==◌, Bool, true, false, cond, List, [], ◌∷◌, ◌++◌, map, length, take, drop, set, get_or, Option, Some, None, refl, sym, ap, ◌∙◌, arith, append_assoc}
-use Rattle.std.specs.Prelude.{◌&&◌, slice_get}
-use Rattle.std.proofs.lemmas.List.{drop_all, drop_more, get_or-map, get_or-take, get_or_append_left, get_or_default, length-take-le, map-append, set_at, take_all, take_more}
+use Rattle.std.proofs.Common.{◌≡◌, ℕ, ◌+◌, ◌<◌, ◌≤◌, List, [], ◌∷◌, ◌++◌, reverse, length, Option, Some, None, refl, sym, subst, arith, ◌^◌, max, Bool, true, false, cond, map, take, drop, set, get_or, ap, ◌∙◌, append_assoc}
+use Rattle.std.specs.Prelude.{◌==◌, option_map, ◌&&◌, slice_get}
+use Rattle.std.specs.List.{AllByRecursion}
+use Rattle.std.proofs.lemmas.List.{reverse-append, drop_all, drop_more, get_or-map, get_or-take, get_or_append_left, get_or_default, length-take-le, map-append, set_at, take_all, take_more}
+use Rattle.tcap_msg.specs.declared.message.AbortReason.TheVariants.{Cause, Dialogue}
+use Rattle.tcap_msg.specs.declared.message.Message.{Message}
+use Rattle.tcap_msg.specs.declared.message.Message.TheVariants.{Unidirectional, Begin, Continue, End, Abort}
+use Rattle.tcap_record.specs.declared.entry.Entry.{Entry}
+use Rattle.tcap_model.proofs.ListLaws.{all_more}
+use Rattle.tcap_search.specs.declared.tie.Tie.{Tie}
+use Rattle.tcap_search.specs.SegmentEntries.{Line, last, lines_of, message_of, is_end}
+use Rattle.tcap_search.specs.ProposedCertificate.{answered_line, gap_behind_reply, reply_of, ties_from, with_tie_by, Fated, fate_before, fate_of, fated, holds_back, with_losses}
+use Rattle.tcap_search.specs.SegmentLists.{AreTies, AreTransactions}
+use Rattle.tcap_search.proofs.LatestLaws.{last_among}
+use Rattle.tcap_search.proofs.LineLaws.{count_lines, count_transactions, AreNumbered, lines_numbered, entries_of_lines, line_at, line_more, transaction_within}
 use Rattle.std.proofs.lemmas.Option.{get_or_from_slice_get}
 use Rattle.tcap_record.specs.declared.entry.End.{End as Side}
-use Rattle.tcap_record.specs.declared.entry.Entry.{Entry}
 use Rattle.tcap_record.specs.Ends.{other}
 use Rattle.tcap_certificate.specs.declared.certificate.Fate.{Fate}
 use Rattle.tcap_certificate.specs.declared.certificate.Fate.TheVariants.{Gap}
 use Rattle.tcap_certificate.specs.Replay.{time_of}
 use Rattle.tcap_search.specs.declared.end_values.PerEnd.{PerEnd}
-use Rattle.tcap_search.specs.declared.tie.Tie.{Tie}
-use Rattle.tcap_search.specs.SegmentEntries.{Line, is_end, lines_of, message_of}
-use Rattle.tcap_search.specs.ProposedCertificate.{Fated, fate_before, fate_of, fated, gap_behind_reply, holds_back, reply_of, with_losses}
-use Rattle.tcap_search.specs.SegmentLists.{AreTies, AreTransactions}
 use Rattle.tcap_search.specs.EndValues.{at_end}
 use Rattle.tcap_search.specs.Fates.{fate_behind_least, fate_from, gap_behind_last, gap_kept, gap_raised, highest, is_of, least_time, receiver_gap, sooner, time_kept}
 use Rattle.tcap_search.proofs.GapLaws.{fate_is, gap_more, gap_of_receiver, gap_so_far, highest_more, reply_more}
 use Rattle.tcap_search.proofs.LossLaws.{count_fated, entries_fated, fate_before_is, fates_fated, least_so_far}
-use Rattle.tcap_search.proofs.LineLaws.{count_lines, count_transactions}
-use Rattle.tcap_search.proofs.NumberedLaws.{entries_of_lines, line_at, line_more, lines_numbered, transaction_within}
-use Rattle.tcap_search.proofs.ReplyLaws.{behind_reply, replies_below}
+
+abbrev pub RepliesBelow : ℕ → List Tie → Type 0
+RepliesBelow n ties = AllByRecursion (λ t. t.reply < n) ties
+
+with_below : (n : ℕ) (earlier : List Line) (ties : List Tie) (x : Line) (m : Option Message) → x.number < n
+    → RepliesBelow n ties → RepliesBelow n (with_tie_by earlier ties x m)
+with_below n earlier ties x None within all = all
+with_below n earlier ties x (Some (Unidirectional dialogue components)) within all = all
+with_below n earlier ties x (Some (Begin otid dialogue components)) within all = all
+with_below n earlier ties x (Some (Continue otid dtid dialogue components)) within all = all
+with_below n earlier ties x (Some (End dtid dialogue components)) within all = all
+with_below n earlier ties x (Some (Abort dtid None)) within all = all
+with_below n earlier ties x (Some (Abort dtid (Some (Dialogue dialogue)))) within all = all
+with_below n earlier ties x (Some (Abort dtid (Some (Cause cause)))) within all =
+    by (answered_line earlier ties x.entry dtid cause) refl
+  where
+    by : (o : Option Line) → answered_line earlier ties x.entry dtid cause ≡ o
+        → RepliesBelow n (with_tie_by earlier ties x (Some (Abort dtid (Some (Cause cause)))))
+    by None at = rw at all
+    by (Some answered) at = rw at (within, all)
+
+from_below : (n : ℕ) (lines : List Line) (ties : List Tie) → AllByRecursion (λ x. x.number < n) lines
+    → RepliesBelow n ties → RepliesBelow n (ties_from lines ties)
+from_below n [] ties numbers all = all
+from_below n (x ∷ lines) ties numbers all = from_below n lines (with_tie_by (reverse lines) ties x (message_of x.entry))
+    numbers.1 (with_below n (reverse lines) ties x (message_of x.entry) numbers.0 all)
+
+pub numbers_below : (n k : ℕ) (lines : List Line) → AreNumbered k lines → k + length lines ≤ n
+    → AllByRecursion (λ x. x.number < n) lines
+numbers_below n k [] are within = tt
+numbers_below n k (x ∷ lines) are within =
+    (omega (arith, are.0), numbers_below n (k + 1) lines are.1 (omega arith))
+
+reversed : (x : Line) (lines : List Line) → reverse (x ∷ lines) ≡ reverse lines ++ x ∷ []
+reversed x lines = reverse-append (x ∷ []) lines
+
+all_reversed : (P : Line → Type 0) (lines : List Line) → AllByRecursion P lines → AllByRecursion P (reverse lines)
+all_reversed P [] all = tt
+all_reversed P (x ∷ lines) all = subst (λ (xs : List Line). AllByRecursion P xs) (sym (reversed x lines))
+    (all_more P (reverse lines) x (all_reversed P lines all.1) all.0)
+
+-- The reply of each tie is the number of an entry.
+pub replies_below : (entries : List Entry) (ties : List Tie) → AreTies entries ties → RepliesBelow (length entries) ties
+replies_below entries ties are =
+    let count : length (lines_of entries) ≡ length entries = count_lines entries in
+    subst (λ (ts : List Tie). RepliesBelow (length entries) ts) (sym are)
+    (from_below (length entries) (reverse (lines_of entries)) []
+    (all_reversed (λ x. x.number < length entries) (lines_of entries)
+    (numbers_below (length entries) 0 (lines_of entries) (lines_numbered entries) (omega arith))) tt)
+
+-- The gap after a reply is one of the segment.
+pub behind_reply : (n : ℕ) (ties : List Tie) (number : ℕ) → RepliesBelow n ties
+    → gap_behind_reply (reply_of ties number) ≤ n
+behind_reply n ties number below = by (last (λ t. t.entry == number) ties) refl
+  where
+    by : (o : Option Tie) → last (λ t. t.entry == number) ties ≡ o → gap_behind_reply (option_map (λ t. t.reply) o) ≤ n
+    by None at = omega arith
+    by (Some t) at =
+        let reply : t.reply < n = last_among (λ t. t.reply < n) (λ t. t.entry == number) ties t below at in omega arith
 
 -- ---- replies
 

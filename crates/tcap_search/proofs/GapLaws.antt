@@ -14,11 +14,9 @@ use Rattle.tcap_search.specs.declared.tie.Tie.{Tie}
 use Rattle.tcap_search.specs.SegmentEntries.{Line, is_end, is_of_peer, last, message_of, or_else, share_transaction}
 use Rattle.tcap_search.specs.ProposedCertificate.{fate_by, fate_of, first_gap, first_gap_by, gap_behind, gap_behind_reply, holds_back, last_of_receiver, raised, reply_of}
 use Rattle.tcap_search.specs.Fates.{earliest, fate_from, gap_behind_last, gap_behind_line, highest, holds_back_in, is_line_of, is_of, untied_fate}
-use Rattle.tcap_search.proofs.LastLaws.{last_never, last_same}
-use Rattle.tcap_search.proofs.LineLaws.{last_push}
-use Rattle.tcap_search.proofs.NumberedLaws.{AreNumbered}
-use Rattle.tcap_search.proofs.PeerLaws.{of_peer, of_peer_none, one_end, one_end_none}
-use Rattle.tcap_search.proofs.TestLaws.{and_and, and_false, and_swap}
+use Rattle.tcap_search.proofs.LatestLaws.{last_never, last_same}
+use Rattle.tcap_search.proofs.LineLaws.{last_push, AreNumbered}
+use Rattle.tcap_search.proofs.TestLaws.{of_peer, of_peer_none, one_end, one_end_none, and_and, and_false, and_swap}
 
 -- ---- ends and transactions
 

@@ -1,5 +1,13 @@
--- The map of the lines so far gives the transaction of the next one.
-use Rattle.std.proofs.Common.{◌≡◌, ℕ, ◌&&◌, Bool, true, false, cond, List, [], ◌∷◌, ◌++◌, length, map, take, get_or, Option, Some, None, refl, sym, ap, ◌∙◌, ◌<◌, ◌+◌, arith}
+-- The last element of a list that passes a test, the last value that a function gives, and the map of the lines so far.
+use Rattle.std.proofs.Common.{◌≡◌, Bool, true, false, List, [], ◌∷◌, Option, Some, None, refl, ap, subst, ◌∙◌, ℕ, zero, suc, ◌+◌, ◌≤◌, ◌++◌, take, sym, arith, cond, length, map, get_or, ◌<◌}
+use Rattle.std.specs.List.{AllByRecursion}
+use Rattle.std.proofs.lemmas.Option.{none-some, same_Some}
+use Rattle.tcap_model.specs.Run.{where_so, then_so}
+use Rattle.tcap_search.specs.SegmentEntries.{last, or_else, Line, is_end, is_from, line_behind, lines_of, message_of, transaction_by, transaction_from}
+use Rattle.std.specs.Prelude.{◌&&◌, is_some, nat_lt}
+use Rattle.std.proofs.lemmas.Bool.{false≢true, le-ltb, lt-ltb}
+use Rattle.tcap_search.specs.Sweep.{last_given}
+use Rattle.tcap_search.proofs.LineLaws.{AreNumbered, count_taken, last_none, last_push, lines_more}
 use Rattle.std.specs.BTreeMap.{is_at}
 use Rattle.std.specs.Map.{lookup}
 use Rattle.std.specs.Str.{bytes_eq}
@@ -12,12 +20,118 @@ use Rattle.tcap_record.specs.declared.entry.Entry.{Entry}
 use Rattle.tcap_end.specs.Table.{octets_cmp}
 use Rattle.tcap_record.specs.Ends.{other}
 use Rattle.tcap_model.specs.World.{is_side}
-use Rattle.tcap_model.specs.Run.{then_so}
 use Rattle.tcap_search.specs.declared.lines.Latest.{Latest}
 use Rattle.tcap_search.specs.LastEntries.{belongs, belongs_by, latest_asked, latest_at, latest_of}
-use Rattle.tcap_search.specs.SegmentEntries.{Line, is_end, is_from, last, line_behind, lines_of, message_of, transaction_by, transaction_from}
-use Rattle.tcap_search.proofs.IdLaws.{same_id}
-use Rattle.tcap_search.proofs.LineLaws.{count_taken, last_none, last_push, lines_more}
+use Rattle.tcap_search.proofs.TestLaws.{same_id}
+
+-- None is a right unit of `or_else`.
+pub or_none : {A : Type 0} (o : Option A) → or_else o None ≡ o
+or_none None = refl
+or_none (Some a) = refl
+
+-- `or_else` is associative.
+pub or_or : {A : Type 0} (o p q : Option A) → or_else (or_else o p) q ≡ or_else o (or_else p q)
+or_or None p q = refl
+or_or (Some a) p q = refl
+
+-- Tests that agree have the same last.
+pub last_same : {A : Type 0} (P Q : A → Bool) → ((x : A) → P x ≡ Q x) → (xs : List A) → last P xs ≡ last Q xs
+last_same P Q same [] = refl
+last_same P Q same (x ∷ xs) =
+    ap (λ b. or_else (last P xs) (where_so b (Some x))) (same x)
+    ∙ ap (λ o. or_else o (where_so (Q x) (Some x))) (last_same P Q same xs)
+
+-- A property of all elements holds for the last.
+pub last_among : {A : Type 0} (P : A → Type 0) (passes : A → Bool) (xs : List A) (x : A)
+    → AllByRecursion P xs → last passes xs ≡ Some x → P x
+last_among P passes [] x all found = absurd (none-some x found)
+last_among {A = A} P passes (a ∷ xs) x all found =
+    by (last passes xs) (last_among P passes xs x all.1) (passes a) found
+  where
+    by : (o : Option A) → (o ≡ Some x → P x) → (b : Bool) → or_else o (where_so b (Some a)) ≡ Some x → P x
+    by None more false is = absurd (none-some x is)
+    by None more true is = subst P (same_Some a x is) all.0
+    by (Some y) more b is = more is
+
+-- The last passes the test.
+pub last_passes : {A : Type 0} (passes : A → Bool) (xs : List A) (x : A) → last passes xs ≡ Some x → passes x ≡ true
+last_passes passes [] x found = absurd (none-some x found)
+last_passes {A = A} passes (a ∷ xs) x found =
+    by (last passes xs) (last_passes passes xs x) (passes a) refl found
+  where
+    by : (o : Option A) → (o ≡ Some x → passes x ≡ true) → (b : Bool) → passes a ≡ b
+        → or_else o (where_so b (Some a)) ≡ Some x → passes x ≡ true
+    by None more false test is = absurd (none-some x is)
+    by None more true test is = subst (λ (y : A). passes y ≡ true) (same_Some a x is) test
+    by (Some y) more b test is = more is
+
+-- If no element passes, there is no last.
+pub last_never : {A : Type 0} (passes : A → Bool) (xs : List A) → ((x : A) → passes x ≡ false) → last passes xs ≡ None
+last_never passes [] never = refl
+last_never passes (x ∷ xs) never = rw (last_never passes xs never, never x) refl
+
+-- ---- the last value that a function gives for the elements of a list
+
+-- A further element comes first.
+pub given_more : {A B : Type 0} (f : A → Option B) (xs : List A) (x : A)
+    → last_given f (xs ++ x ∷ []) ≡ or_else (f x) (last_given f xs)
+given_more f [] x = sym (or_none (f x))
+given_more f (y ∷ xs) x =
+    ap (λ o. or_else o (f y)) (given_more f xs x) ∙ or_or (f x) (last_given f xs) (f y)
+
+-- Equal functions give equal values.
+pub given_same : {A B : Type 0} (f g : A → Option B) → ((x : A) → f x ≡ g x)
+    → (xs : List A) → last_given f xs ≡ last_given g xs
+given_same f g same [] = refl
+given_same f g same (x ∷ xs) =
+    ap (λ o. or_else o (f x)) (given_same f g same xs) ∙ ap (or_else (last_given g xs)) (same x)
+
+or_some : {B : Type 0} (o p q : Option B) → is_some o ≡ true → o ≡ p → o ≡ or_else p q
+or_some None p q some is = absurd (false≢true some)
+or_some (Some b) p q some is = rw (← is) refl
+
+-- `last` and then a function, if the function gives a value for each element that passes.
+pub given_is : {A B : Type 0} (passes : A → Bool) (f : A → Option B)
+    → ((x : A) → passes x ≡ true → is_some (f x) ≡ true)
+    → (xs : List A) → then_so (last passes xs) f ≡ last_given (λ x. where_so (passes x) (f x)) xs
+given_is passes f gives [] = refl
+given_is {A = A} {B = B} passes f gives (x ∷ xs) =
+    by (last passes xs) (last_passes passes xs) (given_is passes f gives xs)
+  where
+    alone : (b : Bool) → then_so (where_so b (Some x)) f ≡ where_so b (f x)
+    alone true = refl
+    alone false = refl
+
+    by : (o : Option A) → ((y : A) → o ≡ Some y → passes y ≡ true)
+        → then_so o f ≡ last_given (λ x. where_so (passes x) (f x)) xs
+        → then_so (or_else o (where_so (passes x) (Some x))) f
+        ≡ or_else (last_given (λ x. where_so (passes x) (f x)) xs) (where_so (passes x) (f x))
+    by None test is = rw (← is) (alone (passes x))
+    by (Some y) test is =
+        or_some (f y) (last_given (λ x. where_so (passes x) (f x)) xs) (where_so (passes x) (f x))
+        (gives y (test y refl)) is
+
+-- ---- earlier lines
+
+never_late : (k n : ℕ) (lines : List Line) (passes : Line → Bool) → AreNumbered n lines → k ≤ n
+    → last (λ y. nat_lt y.number k && passes y) lines ≡ None
+never_late k n [] passes are past = refl
+never_late k n (x ∷ lines) passes are past =
+    let late : nat_lt x.number k ≡ false = le-ltb x.number k (omega (arith, are.0)) in
+    rw (never_late k (n + 1) lines passes are.1 (omega arith), late) refl
+
+earlier_from : (i k n : ℕ) (lines : List Line) (passes : Line → Bool) → AreNumbered n lines → k ≡ n + i
+    → last (λ y. nat_lt y.number k && passes y) lines ≡ last passes (take i lines)
+earlier_from zero k n lines passes are is = never_late k n lines passes are (omega arith)
+earlier_from (suc i) k n [] passes are is = refl
+earlier_from (suc i) k n (x ∷ lines) passes are is =
+    let early : nat_lt x.number k ≡ true = lt-ltb x.number k (omega (arith, are.0)) in
+    rw (earlier_from i k (n + 1) lines passes are.1 (omega arith), early) refl
+
+-- The last earlier line that passes is the last that passes among the first lines.
+pub last_earlier : (k : ℕ) (lines : List Line) (passes : Line → Bool) → AreNumbered 0 lines
+    → last (λ y. nat_lt y.number k && passes y) lines ≡ last passes (take k lines)
+last_earlier k lines passes are = earlier_from k k 0 lines passes are (omega arith)
 
 -- ---- one more entry in a map
 
@@ -108,10 +222,6 @@ latest_more lines old new e transaction is has noted side id =
 pub record Noted (entries : List Entry) (count : ℕ) (l : Latest) (found : List (Option ℕ)) : Type 0 where
   pub latest : IsLatest (lines_of (take count entries)) l
   pub transactions : found ≡ map (λ x. x.transaction) (lines_of (take count entries))
-
-pub noted_none : (entries : List Entry) (latest : Latest)
-    → ((side : Side) (id : List ℕ) → latest_at side id latest ≡ None) → Noted entries 0 latest []
-noted_none entries latest empty = record { latest = empty; transactions = refl }
 
 pub belongs_next : (entries : List Entry) (i : ℕ) (latest : Latest) (transactions : List (Option ℕ)) (e : Entry)
     → i < length entries → Noted entries i latest transactions

@@ -21,12 +21,11 @@ use Rattle.tcap_search.specs.declared.tie.Tie.{Tie}
 use Rattle.tcap_search.specs.SegmentEntries.{Line, are_of_one_end, is_end, or_else, lines_of, message_of}
 use Rattle.tcap_search.specs.ProposedCertificate.{Fated, all_fated, closing_behind, closing_by, closings_from, expiries_by, expiries_from, expiry_behind, expiry_by, expiry_in, fate_before, fate_behind, fate_by, fate_of, fated, first_fates, first_gap, first_gap_by, gap_behind, gap_behind_reply, gap_in, invocation_at, is_closing_of, is_continue, is_expiry_of, is_gap, is_invoke_of, is_overtaken, is_unanswered, last_invocation, last_invoke, last_of_receiver, may_invoke, components_at, number_limit, of_stretch, raised, rejected_line, reply_of, ties_of, unrecognized, was_ended, was_told, with_closing, with_expiry, with_losses, without_unanswered}
 use Rattle.tcap_search.specs.SegmentLists.{AreFates}
-use Rattle.tcap_search.proofs.LastLaws.{last_among}
+use Rattle.tcap_search.proofs.LatestLaws.{last_among}
 use Rattle.tcap_search.proofs.LossLaws.{before_losses, count_fates}
-use Rattle.tcap_search.proofs.NumberedLaws.{lines_numbered}
-use Rattle.tcap_search.proofs.ReplyLaws.{RepliesBelow, behind_reply, numbers_below, replies_below}
-use Rattle.tcap_search.proofs.LineLaws.{count_lines, transaction_below}
-use Rattle.tcap_search.proofs.SweepSteps.{first_invoke}
+use Rattle.tcap_search.proofs.LineLaws.{lines_numbered, count_lines, transaction_below}
+use Rattle.tcap_search.proofs.FateSteps.{RepliesBelow, behind_reply, numbers_below, replies_below}
+use Rattle.tcap_search.proofs.SweepLaws.{first_invoke}
 
 -- ---- numbers within a segment
 

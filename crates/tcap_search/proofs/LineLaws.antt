@@ -1,15 +1,16 @@
--- The lines of entries: one for each, in order.
-use Rattle.std.proofs.Common.{◌≡◌, ℕ, zero, suc, ◌+◌, ◌<◌, ◌≤◌, Bool, true, false, cond, List, [], ◌∷◌, ◌++◌, length, take, get_or, reverse, Option, Some, None, refl, sym, ap, ◌∙◌, arith}
+-- The lines of entries: one for each, in order, numbered from 0, and their transactions.
+use Rattle.std.proofs.Common.{◌≡◌, ℕ, zero, suc, ◌+◌, ◌<◌, ◌≤◌, Bool, true, false, cond, List, [], ◌∷◌, ◌++◌, length, take, get_or, reverse, Option, Some, None, refl, sym, ap, ◌∙◌, arith, map, append_assoc}
 use Rattle.std.specs.Prelude.{IfSome, slice_get, option_map}
 use Rattle.std.specs.List.{AllByRecursion}
-use Rattle.std.proofs.lemmas.List.{length-take-le, length_push, reverse-append, take_more, length-map}
+use Rattle.std.proofs.lemmas.List.{length-take-le, length_push, reverse-append, take_more, length-map, append-nil, get_or-map, map-append}
 use Rattle.tcap_msg.specs.declared.message.Message.{Message}
 use Rattle.tcap_msg.specs.declared.message.Message.TheVariants.{Unidirectional, Begin, Continue, End as EndMessage, Abort}
 use Rattle.tcap_record.specs.declared.entry.Entry.{Entry}
 use Rattle.tcap_model.specs.Run.{where_so}
+use Rattle.tcap_model.proofs.ListLaws.{all_more}
 use Rattle.tcap_search.specs.SegmentEntries.{Line, is_asked_from, last, line_behind, lines_behind, lines_of, message_of, or_else, transaction_by, transaction_from}
 use Rattle.tcap_search.specs.SegmentLists.{AreTransactions}
-use Rattle.std.proofs.lemmas.Option.{get_or_from_slice_get, slice_get-map, slice_get_read}
+use Rattle.std.proofs.lemmas.Option.{get_or_from_slice_get, slice_get-map, slice_get_read, none-some, same_Some}
 
 -- ---- one more entry
 
@@ -82,9 +83,9 @@ line_from earlier (f ∷ es) (suc i) e is =
     ap (slice_get (lines_behind (earlier ++ line_behind earlier f ∷ []) es)) here
     ∙ line_from (earlier ++ line_behind earlier f ∷ []) es i e is
 
-pub line_at : (es : List Entry) (i : ℕ) (e : Entry) → slice_get es i ≡ Some e
+pub entry_line : (es : List Entry) (i : ℕ) (e : Entry) → slice_get es i ≡ Some e
     → slice_get (lines_of es) i ≡ Some (line_behind (lines_of (take i es)) e)
-line_at es i e is =
+entry_line es i e is =
     let here : i ≡ 0 + i = omega arith in
     ap (slice_get (lines_of es)) here ∙ line_from [] es i e is
 
@@ -155,11 +156,6 @@ number_behind count earlier e message room all = by message
     by (Some (EndMessage dtid dialogue components)) = from (Some dtid)
     by (Some (Abort dtid reason)) = from (Some dtid)
 
-push_all : {A : Type 0} (P : A → Type 0) (xs : List A) (x : A) → AllByRecursion P xs → P x
-    → AllByRecursion P (xs ++ x ∷ [])
-push_all P [] x all new = (new, tt)
-push_all P (y ∷ xs) x all new = (all.0, push_all P xs x all.1 new)
-
 numbers_behind : (count : ℕ) (earlier : List Line) (es : List Entry) → length earlier + length es ≤ count
     → AllByRecursion (λ x. IsNumber count x.transaction) earlier
     → AllByRecursion (λ x. IsNumber count x.transaction) (lines_behind earlier es)
@@ -168,7 +164,7 @@ numbers_behind count earlier (e ∷ es) room all =
     let one : length (earlier ++ line_behind earlier e ∷ []) ≡ length earlier + 1 =
     length_push earlier (line_behind earlier e) in
     numbers_behind count (earlier ++ line_behind earlier e ∷ []) es (omega arith)
-    (push_all (λ (x : Line). IsNumber count x.transaction) earlier (line_behind earlier e) all
+    (all_more (λ (x : Line). IsNumber count x.transaction) earlier (line_behind earlier e) all
     (number_behind count earlier e (message_of e) (omega arith) all))
 
 pub transaction_below : (es : List Entry) (k : ℕ) (x : Line) (transaction : ℕ) → slice_get (lines_of es) k ≡ Some x
@@ -189,8 +185,105 @@ pub transaction_is : (entries : List Entry) (transactions : List (Option ℕ)) (
     → AreTransactions entries transactions → i < length entries → e ≡ get_or entries i e
     → get_or transactions i None ≡ (line_behind (lines_of (take i entries)) e).transaction
 transaction_is entries transactions i e are below read =
-    let there = line_at entries i e (slice_get_read entries (length entries) i e refl below read) in
+    let there = entry_line entries i e (slice_get_read entries (length entries) i e refl below read) in
     get_or_from_slice_get transactions i (line_behind (lines_of (take i entries)) e).transaction None
     (ap (λ (ts : List (Option ℕ)). slice_get ts i) are
     ∙ (slice_get-map (λ (x : Line). x.transaction) (lines_of entries) i
     ∙ ap (option_map (λ (x : Line). x.transaction)) there))
+
+-- ---- entries
+
+-- the entries of the lines
+lines_entries : (earlier : List Line) (entries : List Entry)
+    → map (λ x. x.entry) (lines_behind earlier entries) ≡ map (λ x. x.entry) earlier ++ entries
+lines_entries earlier [] = sym (append-nil (map (λ x. x.entry) earlier))
+lines_entries earlier (e ∷ entries) =
+    lines_entries (earlier ++ line_behind earlier e ∷ []) entries
+    ∙ ap (λ es. es ++ entries) (map-append (λ x. x.entry) earlier (line_behind earlier e ∷ []))
+    ∙ append_assoc (map (λ x. x.entry) earlier) (e ∷ []) entries
+
+pub entries_of_lines : (entries : List Entry) → map (λ x. x.entry) (lines_of entries) ≡ entries
+entries_of_lines entries = lines_entries [] entries
+
+-- ---- numbers
+
+-- The lines are numbered from n.
+abbrev pub AreNumbered : ℕ → List Line → Type 0
+AreNumbered n [] = Unit {0}
+AreNumbered n (x ∷ lines) = (x.number ≡ n) × AreNumbered (n + 1) lines
+
+numbered_more : (n : ℕ) (lines : List Line) (x : Line) → AreNumbered n lines → x.number ≡ n + length lines
+    → AreNumbered n (lines ++ x ∷ [])
+numbered_more n [] x are is = (omega arith, tt)
+numbered_more n (y ∷ lines) x are is = (are.0, numbered_more (n + 1) lines x are.1 (omega arith))
+
+numbered_behind : (earlier : List Line) (entries : List Entry) → AreNumbered 0 earlier
+    → AreNumbered 0 (lines_behind earlier entries)
+numbered_behind earlier [] are = are
+numbered_behind earlier (e ∷ entries) are =
+    numbered_behind (earlier ++ line_behind earlier e ∷ []) entries
+    (numbered_more 0 earlier (line_behind earlier e) are (omega arith))
+
+-- The lines of entries are numbered from 0.
+pub lines_numbered : (entries : List Entry) → AreNumbered 0 (lines_of entries)
+lines_numbered entries = numbered_behind [] entries tt
+
+number_at : (n : ℕ) (lines : List Line) (i : ℕ) (d : Line) → AreNumbered n lines → i < length lines
+    → (get_or lines i d).number ≡ n + i
+number_at n [] i d are within = absurd (omega arith)
+number_at n (x ∷ lines) zero d are within = omega (arith, are.0)
+number_at n (x ∷ lines) (suc i) d are within =
+    let next : (get_or lines i d).number ≡ (n + 1) + i =
+    number_at (n + 1) lines i d are.1 (omega arith) in omega (arith, next)
+
+-- ---- the line at a place
+
+abbrev pub line_at : ℕ → Entry → Option ℕ → Line
+line_at number e transaction = record { number = number; entry = e; transaction = transaction }
+
+line_is : (x : Line) (n : ℕ) (e : Entry) (t : Option ℕ) → x.number ≡ n → x.entry ≡ e → x.transaction ≡ t
+    → x ≡ line_at n e t
+line_is x n e t p q r = λ i. record { number = p i; entry = q i; transaction = r i }
+
+module _ (entries : List Entry) (transactions : List (Option ℕ)) (are : AreTransactions entries transactions)
+    (i : ℕ) (within : i < length entries) (e : Entry) (t : Option ℕ)
+    (is_entry : e ≡ get_or entries i e) (is_transaction : t ≡ get_or transactions i t) where
+  there : Line
+  there = get_or (lines_of entries) i (line_at i e t)
+
+  within_lines : i < length (lines_of entries)
+  within_lines = let n : length (lines_of entries) ≡ length entries = count_lines entries in omega arith
+
+  -- The line at a place has this number, entry and transaction.
+  pub line_there : get_or (lines_of entries) i (line_at i e t) ≡ line_at i e t
+  line_there = line_is (get_or (lines_of entries) i (line_at i e t)) i e t
+      (number_at 0 (lines_of entries) i (line_at i e t) (lines_numbered entries) within_lines ∙ omega arith)
+      (sym (get_or-map (λ x. x.entry) (lines_of entries) i (line_at i e t) e within_lines)
+      ∙ ap (λ (es : List Entry). get_or es i e) (entries_of_lines entries) ∙ sym is_entry)
+      (sym (get_or-map (λ x. x.transaction) (lines_of entries) i (line_at i e t) t within_lines)
+      ∙ ap (λ (ts : List (Option ℕ)). get_or ts i t) (sym are) ∙ sym is_transaction)
+
+  -- One more line.
+  pub line_more : take (i + 1) (lines_of entries) ≡ take i (lines_of entries) ++ line_at i e t ∷ []
+  line_more = take_more (lines_of entries) i (line_at i e t) within_lines
+      ∙ ap (λ (x : Line). take i (lines_of entries) ++ x ∷ []) line_there
+
+-- ---- transactions are numbers of entries
+
+-- Each transaction is the number of an entry.
+pub transaction_within : (entries : List Entry) (transactions : List (Option ℕ)) → AreTransactions entries transactions
+    → (i t : ℕ) → i < length entries → Some t ≡ get_or transactions i (Some t) → t < length entries
+transaction_within entries transactions are i t within is = by (slice_get (lines_of entries) i) refl there
+  where
+    count : length transactions ≡ length entries
+    count = count_transactions entries transactions are
+
+    there : option_map (λ (x : Line). x.transaction) (slice_get (lines_of entries) i) ≡ Some (Some t)
+    there = sym (slice_get-map (λ (x : Line). x.transaction) (lines_of entries) i)
+        ∙ ap (λ (ts : List (Option ℕ)). slice_get ts i) (sym are)
+        ∙ slice_get_read transactions (length transactions) i (Some t) refl (omega (arith, count)) is
+
+    by : (o : Option Line) → slice_get (lines_of entries) i ≡ o
+        → option_map (λ (x : Line). x.transaction) o ≡ Some (Some t) → t < length entries
+    by None at has = absurd (none-some (Some t) has)
+    by (Some x) at has = transaction_below entries i x t at (same_Some x.transaction (Some t) has)

@@ -2,7 +2,6 @@
 use Rattle.std.proofs.Common.{◌≡◌, ℕ, ◌==◌, ◌&&◌, ◌||◌, Bool, true, false, cond, List, [], ◌∷◌, ◌++◌, Option, Some, None, refl, sym, ap, ◌∙◌, arith}
 use Rattle.std.specs.Prelude.{nat_le, nat_lt}
 use Rattle.std.specs.List.{list_any}
-use Rattle.std.proofs.lemmas.Bool.{eq-eqb, eqb-false, eqb-true, ne_eqb}
 use Rattle.std.proofs.lemmas.Bool.Decides.{nat_tests}
 use Rattle.std.proofs.lemmas.List.Folds.{list_any-append}
 use Rattle.tcap_record.specs.Ends.{other}
@@ -23,11 +22,7 @@ within_lesser limit number None = refl
 within_lesser limit number (Some least) = grind (arith, nat_tests)
 
 pub eqb_turned : (m n : ℕ) → (m == n) ≡ (n == m)
-eqb_turned m n = by (m == n) refl
-  where
-    by : (b : Bool) → (m == n) ≡ b → b ≡ (n == m)
-    by true is = sym (eq-eqb n m (sym (eqb-true m n is)))
-    by false is = sym (ne_eqb n m (λ same. eqb-false m n is (sym same)))
+eqb_turned m n = grind (arith, nat_tests)
 
 -- A test of the least number, after a number is noted or not.
 pub test_noted : (test : Option ℕ → Bool) (first second number : Bool) (new old : Option ℕ) (least : Option ℕ)
@@ -60,18 +55,12 @@ shares x y transaction has =
 -- three equal tests, and a fourth that passes
 pub same_tests : (a b c d x y z : Bool) → a ≡ x → b ≡ y → c ≡ z → d ≡ true → (a && b && c && d) ≡ (x && y && z)
 same_tests a b c d x y z is_x is_y is_z is_true =
-    ap (λ (v : Bool). v && b && c && d) is_x
-    ∙ (ap (λ (v : Bool). x && v && c && d) is_y
-    ∙ (ap (λ (v : Bool). x && y && v && d) is_z
-    ∙ (ap (λ (v : Bool). x && y && z && v) is_true ∙ and_true (x && y && z))))
+    rw (is_x, is_y, is_z, is_true) (and_true (x && y && z))
 
 -- the same tests in another order
 pub turned_tests : (a b c d x y z : Bool) → a ≡ x → b ≡ y → c ≡ true → d ≡ z → (a && b && c && d) ≡ (z && x && y)
 turned_tests a b c d x y z is_x is_y is_true is_z =
-    ap (λ (v : Bool). v && b && c && d) is_x
-    ∙ (ap (λ (v : Bool). x && v && c && d) is_y
-    ∙ (ap (λ (v : Bool). x && y && v && d) is_true
-    ∙ (ap (λ (v : Bool). x && y && true && v) is_z ∙ by x y z)))
+    rw (is_x, is_y, is_true, is_z) (by x y z)
   where
     by : (x y z : Bool) → (x && y && true && z) ≡ (z && x && y)
     by true true true = refl

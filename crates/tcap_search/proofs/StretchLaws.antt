@@ -8,7 +8,7 @@ use Rattle.std.proofs.Math.Seq.{drop-nil, take-length}
 use Rattle.tcap_record.specs.declared.entry.End.{End as Side}
 use Rattle.tcap_record.specs.declared.entry.Entry.{Entry}
 use Rattle.tcap_certificate.specs.Certificate.{Certificate}
-use Rattle.tcap_search.specs.ProposedCertificate.{behind, fate_behind, is_mark, of_mark, of_stretch, of_stretches, stretches, then_certificate, with_entry}
+use Rattle.tcap_search.specs.ProposedCertificate.{behind, fate_behind, is_mark, of_mark, of_stretch, of_stretches, stretches, then_certificate, with_entry, proposed_by}
 use Rattle.tcap_search.proofs.LimitLaws.{count_of_stretch}
 
 abbrev pub has_mark : List Entry → Bool
@@ -238,3 +238,60 @@ module _ (judged : Option Side) where
 pub answers_so : {A E : Type 0} (P Q : A → Type 0) (r : Result A E) → ((x : A) → P x → Q x) → IfOk r P → IfOk r Q
 answers_so P Q (Ok x) so is = so x is
 answers_so P Q (Err e) so is = is
+
+-- ---- the certificate found along the entries
+
+-- The certificate found before a segment has the fates of the entries before it. With the certificate proposed from
+-- this segment on, it is the whole.
+pub record IsBefore (judged : Option Side) (entries : List Entry) (first : ℕ) (found : Certificate) : Type 0 where
+  pub count : length found.fates ≡ first
+  pub is : then_certificate found (of_stretches judged first (stretches (drop first entries)))
+      ≡ proposed_by judged entries
+
+-- The present segment begins at `first`, and has no mark up to `i`.
+pub record IsSegment (entries : List Entry) (first i : ℕ) : Type 0 where
+  pub begun : first ≤ i
+  pub within : i ≤ length entries
+  pub none : has_mark (take (i - first) (drop first entries)) ≡ false
+
+-- A segment begins after a mark.
+pub segment_begins : (entries : List Entry) (i : ℕ) → i < length entries → IsSegment entries (i + 1) (i + 1)
+segment_begins entries i below = record {
+  begun = omega arith;
+  within = omega (arith, below);
+  none = let nothing : (i + 1) - (i + 1) ≡ 0 = omega arith in rw nothing refl;
+}
+
+-- It goes on over an entry that is no mark.
+pub segment_goes_on : (entries : List Entry) (first i : ℕ) (e : Entry) → IsSegment entries first i → i < length entries
+    → e ≡ get_or entries i e → is_mark e.body ≡ false → IsSegment entries first (i + 1)
+segment_goes_on entries first i e so below is unmarked = record {
+  begun = omega (arith, so.begun);
+  within = omega (arith, below);
+  none = goes_on_at entries first i so.begun e below is unmarked so.none;
+}
+
+module _ (judged : Option Side) (entries : List Entry) (first i : ℕ) (so : IsSegment entries first i) (found : Certificate)
+    (before : IsBefore judged entries first found) where
+  -- This holds after another segment and its mark.
+  pub mark_is_before : (e : Entry) → i < length entries → e ≡ get_or entries i e → is_mark e.body ≡ true
+      → (stretch new : Certificate)
+      → stretch ≡ then_certificate found (behind first (of_stretch judged true (take (i - first) (drop first entries))))
+      → new ≡ then_certificate stretch (of_mark i)
+      → IsBefore judged entries (i + 1) new
+  mark_is_before e within is mark stretch new stretch_is new_is = record {
+    count = rw (new_is, stretch_is) (count_begins judged entries found first i so.begun within before.count);
+    is =
+        rw (new_is, stretch_is)
+        (sym (begins_at entries first i so.begun judged e found within is mark so.none) ∙ before.is);
+  }
+
+  -- After the last segment, the certificate is the whole.
+  pub all_found : length entries ≤ i → (new : Certificate)
+      → new ≡ then_certificate found (behind first
+      (of_stretch judged false (take (length entries - first) (drop first entries))))
+      → (new ≡ proposed_by judged entries) × (length new.fates ≡ length entries)
+  all_found past new is = let all : i ≡ length entries = omega (arith, so.within, past) in (
+    is ∙ sym (ends_at entries first i so.begun judged found all so.none) ∙ before.is,
+    rw is (count_ends judged entries found first (omega (arith, so.begun, all)) before.count),
+  )

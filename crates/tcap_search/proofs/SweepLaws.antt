@@ -1,29 +1,95 @@
--- What a sweep keeps, gap by gap and entry by entry.
-use Rattle.std.proofs.Common.{◌≡◌, ℕ, ℤ, suc, ◌+◌, ◌≤◌, ◌==◌, Bool, true, false, cond, List, [], ◌∷◌, ◌++◌, map, take, Option, Some, None, refl, sym, ap, ◌∙◌, arith}
-use Rattle.std.specs.Prelude.{◌&&◌, ◌||◌, is_some, nat_lt, slice_get}
+-- What a sweep keeps, component by component, gap by gap and entry by entry.
+use Rattle.std.proofs.Common.{◌≡◌, ℕ, ℤ, ◌+◌, ◌<◌, ◌≤◌, ◌==◌, Bool, true, false, cond, List, ◌∷◌, length, drop, get_or, Option, Some, None, refl, sym, ap, ◌∙◌, suc, [], ◌++◌, map, take, arith, zero, Vec, ap₂}
+use Rattle.std.specs.Prelude.{◌&&◌, nat_le, option_map, ◌||◌, is_some, nat_lt, slice_get}
+use Rattle.std.proofs.lemmas.List.{at_drop_more, drop_all}
+use Rattle.tcap_parts.specs.declared.component.Component.{Component}
+use Rattle.tcap_record.specs.declared.entry.End.{End as Side}
+use Rattle.tcap_record.specs.declared.entry.Entry.{Entry}
+use Rattle.tcap_model.specs.World.{is_side}
+use Rattle.tcap_model.specs.Run.{where_so}
+use Rattle.tcap_search.specs.SegmentEntries.{message_of, or_else, Line, are_of_one_end, is_end}
+use Rattle.tcap_search.specs.ProposedCertificate.{is_invoke_of, last_invoke, may_invoke, number_limit, Fated, components_at, invocation_at, is_answer_of, is_expiry_of, with_expiry}
+use Rattle.tcap_search.specs.Fates.{is_of, is_line_of}
+use Rattle.tcap_search.specs.Sweep.{components_of, invoked_by, answer_at, answers, answers_at, invoked_in, last_given, message_components}
+use Rattle.tcap_search.proofs.TestLaws.{and_swap, and_false, and_true, then_equal}
 use Rattle.std.specs.List.{AllByRecursion, list_any}
 use Rattle.std.proofs.lemmas.Bool.{and_parts, eqb-true, le-ltb, lt-ltb}
 use Rattle.std.proofs.lemmas.Bool.Decides.{nat_tests}
 use Rattle.std.proofs.lemmas.Option.{slice_get-map}
-use Rattle.tcap_parts.specs.declared.component.Component.{Component}
 use Rattle.tcap_msg.specs.declared.message.Message.{Message}
-use Rattle.tcap_record.specs.declared.entry.End.{End as Side}
 use Rattle.tcap_record.specs.declared.entry.End.TheVariants as sides
-use Rattle.tcap_record.specs.declared.entry.Entry.{Entry}
 use Rattle.tcap_record.specs.Ends.{other}
-use Rattle.tcap_model.specs.World.{is_side}
-use Rattle.tcap_model.specs.Run.{where_so}
 use Rattle.tcap_certificate.specs.declared.certificate.Fate.{Fate}
 use Rattle.tcap_certificate.specs.declared.certificate.Fate.TheVariants.{Gap, Lost, By}
-use Rattle.tcap_search.specs.GapDeliveries.{due_in}
+use Rattle.tcap_search.specs.GapDeliveries.{due_in, due_at}
 use Rattle.tcap_search.specs.declared.sweep.Answer.{Answer}
-use Rattle.tcap_search.specs.SegmentEntries.{Line, are_of_one_end, is_end, message_of, or_else}
-use Rattle.tcap_search.specs.ProposedCertificate.{Fated, components_at, invocation_at, is_answer_of}
 use Rattle.tcap_search.specs.DeliveryOrder.{AreInOrder, ComesNoEarlier}
-use Rattle.tcap_search.specs.Fates.{is_line_of, is_of}
-use Rattle.tcap_search.specs.Sweep.{answer_at, answers, answers_at, components_of, invoked_by, invoked_in, last_given, message_components}
-use Rattle.tcap_search.proofs.LastGivenLaws.{given_more}
-use Rattle.tcap_search.proofs.TestLaws.{and_false, and_true}
+use Rattle.tcap_search.proofs.LatestLaws.{given_more}
+use Rattle.std.specs.BTreeMap.{is_at}
+use Rattle.std.specs.Ordering.{is_eq, nat_cmp}
+use Rattle.std.proofs.lemmas.List.Folds.{list_any-append}
+use Rattle.tcap_certificate.specs.declared.certificate.Expiry.{Expiry}
+use Rattle.tcap_search.specs.ListedExpiries.{pair_cmp}
+
+-- The last Invoke is that after the first component, or else the first.
+pub first_invoke : (id : ℤ) (place : ℕ) (c : Component) (more : List Component)
+    → last_invoke id place (c ∷ more)
+    ≡ or_else (last_invoke id (place + 1) more) (where_so (is_invoke_of id c && nat_le place number_limit) (Some place))
+first_invoke id place c more = by (last_invoke id (place + 1) more) refl
+  where
+    by : (o : Option ℕ) → last_invoke id (place + 1) more ≡ o
+        → last_invoke id place (c ∷ more)
+        ≡ or_else o (where_so (is_invoke_of id c && nat_le place number_limit) (Some place))
+    by None at = rw at refl
+    by (Some later) at = rw at refl
+
+-- the Invoke kept after these components
+abbrev pub kept_behind : Bool → ℕ → Option ℕ → Option (ℕ × ℕ) → Option (ℕ × ℕ)
+kept_behind here number invoked kept = or_else (where_so here (option_map (λ place. (number, place)) invoked)) kept
+
+-- one more component
+pub invoke_step : (here : Bool) (number : ℕ) (id : ℤ) (components : List Component) (place : ℕ) (d : Component)
+    (kept : Option (ℕ × ℕ)) → place < length components → d ≡ get_or components place d
+    → kept_behind here number (last_invoke id (place + 1) (drop (place + 1) components))
+    (cond (here && (is_invoke_of id d && nat_le place number_limit)) (Some (number, place)) kept)
+    ≡ kept_behind here number (last_invoke id place (drop place components)) kept
+invoke_step here number id components place d kept within is =
+    by here (last_invoke id (place + 1) (drop (place + 1) components)) (is_invoke_of id d && nat_le place number_limit)
+    ∙ ap (λ (o : Option ℕ). kept_behind here number o kept) (sym first)
+  where
+    first : last_invoke id place (drop place components)
+        ≡ or_else (last_invoke id (place + 1) (drop (place + 1) components))
+        (where_so (is_invoke_of id d && nat_le place number_limit) (Some place))
+    first = at_drop_more (last_invoke id place) components place d within
+        ∙ ap (λ (c : Component). last_invoke id place (c ∷ drop (place + 1) components)) (sym is)
+        ∙ first_invoke id place d (drop (place + 1) components)
+
+    by : (b : Bool) (o : Option ℕ) (c : Bool) → kept_behind b number o (cond (b && c) (Some (number, place)) kept)
+        ≡ kept_behind b number (or_else o (where_so c (Some place))) kept
+    by false o c = refl
+    by true (Some later) c = refl
+    by true None true = refl
+    by true None false = refl
+
+-- After the last component nothing is left.
+pub invoke_end : (here : Bool) (number : ℕ) (id : ℤ) (components : List Component) (place : ℕ) (kept : Option (ℕ × ℕ))
+    → length components ≤ place → kept ≡ kept_behind here number (last_invoke id place (drop place components)) kept
+invoke_end here number id components place kept past =
+    by here ∙ ap (λ (cs : List Component). kept_behind here number (last_invoke id place cs) kept)
+    (sym (drop_all place components past))
+  where
+    by : (b : Bool) → kept ≡ kept_behind b number None kept
+    by true = refl
+    by false = refl
+
+-- the Invoke kept after the components of a Begin or a Continue
+pub entry_step : (e : Entry) (number : ℕ) (side s : Side) (transaction t : ℕ) (id : ℤ) (kept : Option (ℕ × ℕ))
+    → e.side ≡ Some side → may_invoke (message_of e) ≡ true
+    → kept_behind (t == transaction && is_side s side) number (last_invoke id 0 (components_of e)) kept
+    ≡ or_else (where_so (is_of s t e (Some transaction)) (invoked_by number e id)) kept
+entry_step e number side s transaction t id kept is may =
+    rw (is, may) (ap (λ (b : Bool). kept_behind b number (last_invoke id 0 (components_of e)) kept)
+    (and_swap (t == transaction) (is_side s side)))
 
 -- ---- components
 
@@ -258,3 +324,50 @@ pub answered_more : (lines : List Line) (all : List Fated) (gap : ℕ) (is_resul
 unfolding below here answer
 answered_more lines all gap is_result t s id order =
     rw (due_is gap is_result t s id all) (sym (gap_more lines gap is_result t s id all order))
+
+-- ---- the list of expiries, and the lists of deliveries
+
+abbrev pub expiry_at : ℕ → ℕ → Side → ℕ → Expiry
+expiry_at gap component side entry = record { gap = gap; component = component; side = side; entry = entry }
+
+-- An invocation that is not listed is added.
+pub adds_new : (listed : List Expiry) (side : Side) (gap entry component : ℕ)
+    → list_any (is_expiry_of (entry, component)) listed ≡ false
+    → listed ++ expiry_at gap component side entry ∷ [] ≡ with_expiry listed (Some side) gap (Some (entry, component))
+adds_new listed side gap entry component new = rw new refl
+
+-- An invocation that is listed is not added.
+pub adds_none : (listed : List Expiry) (side : Side) (gap entry component : ℕ)
+    → list_any (is_expiry_of (entry, component)) listed ≡ true
+    → listed ≡ with_expiry listed (Some side) gap (Some (entry, component))
+adds_none listed side gap entry component old = rw old refl
+
+numbers_equal : (m n : ℕ) → is_eq (nat_cmp m n) ≡ (m == n)
+numbers_equal m n = grind (arith, nat_tests)
+
+pairs_equal : (m n k l : ℕ) → is_at (pair_cmp (m, n)) (k, l) ≡ ((m == k) && (n == l))
+pairs_equal m n k l =
+    then_equal (nat_cmp m k) (nat_cmp n l) ∙ ap₂ (λ (a b : Bool). a && b) (numbers_equal m k) (numbers_equal n l)
+
+-- The set of named invocations, with one more.
+pub named_more : (listed : List Expiry) (side : Side) (gap entry component e c : ℕ) (was : Bool)
+    → was ≡ list_any (is_expiry_of (e, c)) listed
+    → cond (is_at (pair_cmp (entry, component)) (e, c)) true was
+    ≡ list_any (is_expiry_of (e, c)) (listed ++ expiry_at gap component side entry ∷ [])
+named_more listed side gap entry component e c was is = rw (pairs_equal entry component e c, is)
+    (by ((entry == e) && (component == c)) (list_any (is_expiry_of (e, c)) listed)
+    ∙ sym (list_any-append (is_expiry_of (e, c)) listed (expiry_at gap component side entry ∷ [])))
+  where
+    by : (b w : Bool) → cond b true w ≡ (w || (b || false))
+    by true true = refl
+    by true false = refl
+    by false true = refl
+    by false false = refl
+
+-- One more empty list adds no number.
+pub one_more_empty : {A : Type 0} (lists : List (Vec ℕ A)) (list : Vec ℕ A) → list.items ≡ []
+    → ((gap : ℕ) → due_at gap lists ≡ []) → (gap : ℕ) → due_at gap (lists ++ list ∷ []) ≡ []
+one_more_empty [] list is empty zero = is
+one_more_empty [] list is empty (suc gap) = refl
+one_more_empty (first ∷ lists) list is empty zero = empty zero
+one_more_empty (first ∷ lists) list is empty (suc gap) = one_more_empty lists list is (λ k. empty (suc k)) gap

@@ -22,10 +22,9 @@ use Rattle.tcap_search.specs.SegmentEntries.{Line, is_end, lines_of, message_of}
 use Rattle.tcap_search.specs.ProposedCertificate.{Fated, fate_unanswered, fated, goes_on_from, is_gap, is_unanswered, speaks_to, without_unanswered}
 use Rattle.tcap_search.specs.UnansweredIds.{IsSpoken, fate_heard, unanswered_by}
 use Rattle.tcap_search.proofs.FateSteps.{entry_here, fate_here}
-use Rattle.tcap_search.proofs.IdLaws.{same_id}
-use Rattle.tcap_search.proofs.LineLaws.{count_lines}
+use Rattle.tcap_search.proofs.TestLaws.{same_id}
+use Rattle.tcap_search.proofs.LineLaws.{count_lines, entries_of_lines, line_at}
 use Rattle.tcap_search.proofs.LossLaws.{count_fated, fates_fated}
-use Rattle.tcap_search.proofs.NumberedLaws.{entries_of_lines, line_at}
 
 -- ---- IDs
 

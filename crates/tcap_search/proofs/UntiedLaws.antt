@@ -1,15 +1,93 @@
--- Untied lines, newest first, and the effect of one more tie.
-use Rattle.std.proofs.Common.{◌≡◌, ℕ, ◌<◌, ◌≤◌, ◌==◌, ◌&&◌, ◌||◌, not, Bool, true, false, cond, List, [], ◌∷◌, ◌++◌, length, map, reverse, Option, Some, None, refl, sym, ap, ◌∙◌, arith}
-use Rattle.std.specs.Prelude.{filter, option_map}
-use Rattle.std.specs.List.{AllByRecursion}
-use Rattle.std.proofs.lemmas.Bool.{and_right, eq-eqb, ne_eqb}
-use Rattle.std.proofs.lemmas.List.{length-reverse, reverse-append}
+-- The stacks of numbers, and which lines are untied.
+use Rattle.std.proofs.Common.{◌≡◌, ℕ, ◌+◌, Bool, true, false, cond, List, [], ◌∷◌, ◌++◌, length, reverse, Option, Some, None, Vec, refl, sym, ap, ◌∙◌, arith, ◌<◌, ◌≤◌, ◌==◌, ◌&&◌, ◌||◌, not, map}
+use Rattle.std.specs.Prelude.{MatchOption, filter, option_map}
+use Rattle.std.specs.BTreeMap.{is_at}
+use Rattle.std.specs.Map.{lookup}
+use Rattle.std.specs.Option.{option_to_list}
+use Rattle.std.specs.Str.{bytes_eq}
+use Rattle.std.proofs.lemmas.List.{append-nil, length-reverse, reverse-append}
+use Rattle.std.proofs.lemmas.Slice.Eq.{bytes_eq-Decides}
+use Rattle.tcap_end.specs.Table.{octets_cmp}
+use Rattle.tcap_search.specs.Candidates.{is_top, numbers_of, stack_in, under_top, without, top}
+use Rattle.tcap_search.proofs.TestLaws.{same_id}
+use Rattle.tcap_search.proofs.LineLaws.{reverse_push, last_push}
+use Rattle.std.specs.List.{AllByRecursion, list_any}
+use Rattle.std.proofs.lemmas.Bool.{and_right, eq-eqb, ne_eqb, or_parts}
 use Rattle.tcap_record.specs.declared.entry.Entry.{Entry}
 use Rattle.tcap_search.specs.declared.tie.Tie.{Tie}
-use Rattle.tcap_search.specs.Candidates.{top}
-use Rattle.tcap_search.specs.SegmentEntries.{Line, last, line_behind, lines_behind, lines_of}
-use Rattle.tcap_search.specs.ProposedCertificate.{is_tied}
-use Rattle.tcap_search.proofs.LineLaws.{last_push, reverse_push}
+use Rattle.tcap_search.specs.SegmentEntries.{Line, last, line_behind, lines_behind, lines_of, message_of}
+use Rattle.tcap_search.specs.ProposedCertificate.{is_tied, is_provider_abort, ties_from, with_tie_by}
+use Rattle.std.proofs.lemmas.List.Folds.{list_any-append}
+use Rattle.tcap_msg.specs.declared.message.AbortReason.TheVariants as reasons
+use Rattle.tcap_msg.specs.declared.message.Message.{Message}
+use Rattle.tcap_msg.specs.declared.message.Message.TheVariants.{Unidirectional, Begin, Continue, End, Abort}
+use Rattle.tcap_search.specs.Aborts.{aborts_by_provider}
+use Rattle.tcap_search.specs.SegmentLists.{AreTies}
+use Rattle.tcap_search.proofs.UnansweredLaws.{any_line}
+
+-- ---- one map
+
+-- A stack put at an ID changes no other.
+pub put_stack : {A : Type 0} (step : List ℕ → List ℕ) (id : List ℕ) (old new : List (List ℕ × Vec ℕ A))
+    (stack : Vec ℕ A)
+    → ((key : List ℕ) → lookup (is_at (octets_cmp key)) new
+    ≡ cond (is_at (octets_cmp id) key) (Some stack) (lookup (is_at (octets_cmp key)) old))
+    → reverse stack.items ≡ step (stack_in id old)
+    → (key : List ℕ) → stack_in key new ≡ cond (bytes_eq key id) (step (stack_in key old)) (stack_in key old)
+put_stack {A} step id old new stack put is key =
+    ap numbers_of (put key ∙ ap (λ (b : Bool). cond b (Some stack) (lookup (is_at (octets_cmp key)) old))
+    (same_id id key))
+    ∙ by (bytes_eq key id) refl
+  where
+    by : (b : Bool) → bytes_eq key id ≡ b
+        → numbers_of (cond b (Some stack) (lookup (is_at (octets_cmp key)) old))
+        ≡ cond b (step (stack_in key old)) (stack_in key old)
+    by true same = let one : key ≡ id = (bytes_eq-Decides key id).0 same in rw one is
+    by false apart = refl
+
+-- A step that changes nothing at an ID needs no change.
+pub same_stack : {A : Type 0} (step : List ℕ → List ℕ) (id : List ℕ) (old new : List (List ℕ × Vec ℕ A)) → new ≡ old
+    → stack_in id old ≡ step (stack_in id old)
+    → (key : List ℕ) → stack_in key new ≡ cond (bytes_eq key id) (step (stack_in key old)) (stack_in key old)
+same_stack {A} step id old new same is key =
+    ap (λ (es : List (List ℕ × Vec ℕ A)). stack_in key es) same ∙ by (bytes_eq key id) refl
+  where
+    by : (b : Bool) → bytes_eq key id ≡ b → stack_in key old ≡ cond b (step (stack_in key old)) (stack_in key old)
+    by true found = let one : key ≡ id = (bytes_eq-Decides key id).0 found in rw one is
+    by false apart = refl
+
+-- ---- one stack
+
+-- one more number
+pub pushed : {A : Type 0} (number : ℕ) (o : Option (Vec ℕ A)) (old new : Vec ℕ A) → Some old ≡ o
+    → new.items ≡ old.items ++ number ∷ [] → reverse new.items ≡ number ∷ numbers_of o
+pushed {A} number o old new is more =
+    ap (reverse {A = ℕ}) more
+    ∙ (reverse_push old.items number ∙ ap (λ (v : Option (Vec ℕ A)). number ∷ numbers_of v) is)
+
+pub pushed_first : {A : Type 0} (number : ℕ) (o : Option (Vec ℕ A)) (items left : List ℕ) → None ≡ o → items ≡ []
+    → left ≡ items ++ number ∷ [] → reverse left ≡ number ∷ numbers_of o
+pushed_first {A} number o items left is empty more =
+    ap (reverse {A = ℕ}) (more ∙ ap (λ (ns : List ℕ). ns ++ number ∷ []) empty)
+    ∙ ap (λ (v : Option (Vec ℕ A)). number ∷ numbers_of v) is
+
+-- one number less
+pub popped : (items left : List ℕ) (number : Option ℕ) (count left_count : ℕ) → count ≡ length items
+    → items ≡ left ++ option_to_list number
+    → MatchOption number ((count ≡ 0) × (left_count ≡ 0)) (λ n. left_count + 1 ≡ count)
+    → reverse left ≡ under_top (reverse items)
+popped items left (Some n) count left_count counted is some =
+    sym (ap (λ (ns : List ℕ). under_top (reverse ns)) is ∙ ap under_top (reverse_push left n))
+popped [] left None count left_count counted is none =
+    let same : left ≡ [] = sym (is ∙ append-nil left) in ap (reverse {A = ℕ}) same
+popped (x ∷ items) left None count left_count counted is none = absurd (omega arith)
+
+-- one number less if it is on top, else the same
+pub taken_off : (number : ℕ) (stack : List ℕ) → is_top number stack ≡ true → under_top stack ≡ without number stack
+taken_off number stack is = sym (ap (λ (b : Bool). cond b (under_top stack) stack) is)
+
+pub left_on : (number : ℕ) (stack : List ℕ) → is_top number stack ≡ false → stack ≡ without number stack
+left_on number stack is = sym (ap (λ (b : Bool). cond b (under_top stack) stack) is)
 
 -- ---- the numbers of lines, newest first, fall to 0
 
@@ -171,3 +249,39 @@ module _ (t : Tie) (ties : List Tie) where
           same_left (is_left passes (t ∷ ties) x) (is_left passes ties x) x (left passes (t ∷ ties) lines)
           (left passes ties lines)
           (not_its passes x (λ same. let at : x.number ≡ length lines = falls.0 in omega arith)) (more is)
+
+-- ---- no provider's Abort
+
+none_reversed : {A : Type 0} (test : A → Bool) (xs : List A) → list_any test xs ≡ false
+    → list_any test (reverse xs) ≡ false
+none_reversed test [] none = refl
+none_reversed test (x ∷ xs) none =
+    let (here, later) = or_parts (test x) (list_any test xs) none in
+    ap (list_any test) (reverse-append (x ∷ []) xs)
+    ∙ list_any-append test (reverse xs) (x ∷ [])
+    ∙ rw (none_reversed test xs later, here) refl
+
+ties_nothing : (earlier : List Line) (ties : List Tie) (x : Line) (message : Option Message)
+    → is_provider_abort message ≡ false → with_tie_by earlier ties x message ≡ ties
+ties_nothing earlier ties x None none = refl
+ties_nothing earlier ties x (Some (Unidirectional dialogue components)) none = refl
+ties_nothing earlier ties x (Some (Begin otid dialogue components)) none = refl
+ties_nothing earlier ties x (Some (Continue otid dtid dialogue components)) none = refl
+ties_nothing earlier ties x (Some (End dtid dialogue components)) none = refl
+ties_nothing earlier ties x (Some (Abort dtid None)) none = refl
+ties_nothing earlier ties x (Some (Abort dtid (Some (reasons.Cause cause)))) none = cc
+ties_nothing earlier ties x (Some (Abort dtid (Some (reasons.Dialogue dialogue)))) none = refl
+
+none_tied : (lines : List Line) (ties : List Tie) → list_any (λ x. aborts_by_provider x.entry) lines ≡ false
+    → ties_from lines ties ≡ ties
+none_tied [] ties none = refl
+none_tied (x ∷ earlier) ties none =
+    let (here, later) = or_parts (aborts_by_provider x.entry) (list_any (λ y. aborts_by_provider y.entry) earlier) none
+    in
+    ap (ties_from earlier) (ties_nothing (reverse earlier) ties x (message_of x.entry) here)
+    ∙ none_tied earlier ties later
+
+pub no_ties : (entries : List Entry) → list_any aborts_by_provider entries ≡ false → AreTies entries []
+no_ties entries none =
+    sym (none_tied (reverse (lines_of entries)) []
+    (none_reversed (λ x. aborts_by_provider x.entry) (lines_of entries) (any_line aborts_by_provider entries ∙ none)))

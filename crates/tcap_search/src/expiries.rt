@@ -203,7 +203,7 @@ fn swept_expiries(
     Ok(expiries)
 }
 
-#[tactic(auto, using(crate::proofs::RejectedLaws::no_expiries))]
+#[tactic(auto, using(crate::proofs::ExpiryLaws::no_expiries))]
 /// Finds the expiries of a segment with these fates. If no answer is rejected as unrecognized, there are none, and no
 /// memory is allocated. Fails if memory runs out.
 pub(crate) fn expiries_of(

@@ -61,7 +61,7 @@ fn traced_ties(alloc: Global, entries: &[Entry]) -> Result<Vec<Tie>, AllocError>
     Ok(ties)
 }
 
-#[tactic(auto, using(crate::proofs::AbortLaws::no_ties))]
+#[tactic(auto, using(crate::proofs::UntiedLaws::no_ties))]
 /// Finds the ties of a segment, in the order of the Aborts. Without a provider's Abort there are none, and no memory is
 /// allocated. Fails if memory runs out.
 pub(crate) fn ties_of(alloc: Global, entries: &[Entry]) -> Result<Vec<Tie>, AllocError>

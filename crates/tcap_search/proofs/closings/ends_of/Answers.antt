@@ -1,5 +1,5 @@
 use Rattle.std.proofs.Common.{length, get_or, None, sym, ◌∙◌, arith}
-use Rattle.tcap_search.proofs.EndedLaws.{ended_all, ended_more, ended_other}
+use Rattle.tcap_search.proofs.ClosingLaws.{ended_all, ended_more, ended_other}
 use Rattle.tcap_search.proofs.LineLaws.{count_transactions, transaction_is}
 use Rattle.tcap_search.proofs.closings.ends_of.Goals.{then-ends, else-ends}
 use Rattle.tcap_search.proofs.closings.ends_of.Goals as goal

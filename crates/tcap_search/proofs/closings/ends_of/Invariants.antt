@@ -1,5 +1,5 @@
 -- the numbers noted for the entries so far
-use Rattle.tcap_search.proofs.EndedLaws.{Ended}
+use Rattle.tcap_search.proofs.ClosingLaws.{Ended}
 use Rattle.tcap_search.proofs.closings.ends_of.Given as goal
 
 abbrev pub invariant-loop-number : goal.invariant-loop-number

@@ -1,7 +1,7 @@
 use Rattle.std.proofs.Common.{length, get_or, None, refl, sym, arith}
 use Rattle.tcap_certificate.specs.declared.certificate.Fate.TheVariants.{Gap}
 use Rattle.tcap_search.proofs.LineLaws.{count_transactions, transaction_is}
-use Rattle.tcap_search.proofs.ToldLaws.{told_all, told_more, told_other}
+use Rattle.tcap_search.proofs.ClosingLaws.{told_all, told_more, told_other}
 use Rattle.tcap_search.proofs.closings.told_of.Goals.{in-Some, in_default}
 use Rattle.tcap_search.proofs.closings.told_of.Goals as goal
 

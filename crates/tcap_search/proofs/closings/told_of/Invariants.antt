@@ -1,5 +1,5 @@
 -- the gaps noted for the entries so far
-use Rattle.tcap_search.proofs.ToldLaws.{Told}
+use Rattle.tcap_search.proofs.ClosingLaws.{Told}
 use Rattle.tcap_search.proofs.closings.told_of.Given as goal
 
 abbrev pub invariant-loop-number : goal.invariant-loop-number

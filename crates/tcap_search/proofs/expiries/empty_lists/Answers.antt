@@ -1,6 +1,6 @@
 -- One more empty list.
 use Rattle.std.proofs.Common.{arith, length-append}
-use Rattle.tcap_search.proofs.ListedLaws.{one_more_empty}
+use Rattle.tcap_search.proofs.SweepLaws.{one_more_empty}
 use Rattle.tcap_search.proofs.expiries.empty_lists.Goals as goal
 
 pub loop-preserved : goal.loop-preserved

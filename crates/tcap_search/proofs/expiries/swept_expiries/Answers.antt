@@ -6,7 +6,7 @@ use Rattle.tcap_search.specs.ProposedCertificate.{expiries_from, fated}
 use Rattle.tcap_search.specs.InvocationMap.{kept_at}
 use Rattle.tcap_search.specs.GapDeliveries.{due_at, due_in}
 use Rattle.tcap_search.specs.Sweep.{answer_kept}
-use Rattle.tcap_search.proofs.ExpirySteps.{answers_start, answers_stay, answers_step, invokes_step, listed_step}
+use Rattle.tcap_search.proofs.ExpiryLaws.{answers_start, answers_stay, answers_step, invokes_step, listed_step}
 use Rattle.tcap_search.proofs.FateSteps.{all_lines}
 use Rattle.tcap_search.proofs.LineLaws.{count_transactions}
 use Rattle.tcap_search.proofs.SweepLaws.{answered_in}

@@ -1,6 +1,6 @@
 use Rattle.std.proofs.Common.{Vec, Global, Option, ℕ, reverse, refl, ap, sym, ◌∙◌}
 use Rattle.tcap_search.specs.Candidates.{numbers_of, without}
-use Rattle.tcap_search.proofs.StackLaws.{left_on, popped, put_stack, same_stack, taken_off}
+use Rattle.tcap_search.proofs.UntiedLaws.{left_on, popped, put_stack, same_stack, taken_off}
 use Rattle.tcap_search.proofs.stacks.drop_from.Goals as goal
 
 pub returns-then-is_top : goal.returns-then-is_top

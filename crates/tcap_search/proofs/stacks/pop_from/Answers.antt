@@ -1,6 +1,6 @@
 use Rattle.std.proofs.Common.{Vec, Global, Option, ℕ, refl, ap, ◌∙◌}
 use Rattle.tcap_search.specs.Candidates.{numbers_of, under_top}
-use Rattle.tcap_search.proofs.StackLaws.{popped, put_stack, same_stack}
+use Rattle.tcap_search.proofs.UntiedLaws.{popped, put_stack, same_stack}
 use Rattle.tcap_search.proofs.stacks.pop_from.Goals as goal
 
 pub returns-in_err-get_mut-clause-left : goal.returns-in_err-get_mut-clause-left

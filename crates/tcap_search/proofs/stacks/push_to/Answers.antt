@@ -1,5 +1,5 @@
 use Rattle.std.proofs.Common.{ℕ, List, ◌∷◌, refl}
-use Rattle.tcap_search.proofs.StackLaws.{pushed, pushed_first, put_stack}
+use Rattle.tcap_search.proofs.UntiedLaws.{pushed, pushed_first, put_stack}
 use Rattle.tcap_search.proofs.stacks.push_to.Goals as goal
 
 pub returns-in_ok-push-in-Some : goal.returns-in_ok-push-in-Some

@@ -1,7 +1,7 @@
 -- Keys are equal if their parts are.
 use Rattle.std.proofs.Common.{Bool, Some, SFits, ap, cond, rules, to_z-of_z, w8, ◌∙◌}
 use Rattle.tcap_search.specs.InvocationMap.{kept_at, key_of}
-use Rattle.tcap_search.proofs.KeyLaws.{same_key}
+use Rattle.tcap_search.proofs.TestLaws.{same_key}
 use Rattle.tcap_search.proofs.by_invocation.ByInvocation.put.Goals as goal
 
 pub returns : goal.returns

@@ -1,6 +1,5 @@
 use Rattle.std.proofs.Common.{sym, ◌∙◌}
-use Rattle.tcap_search.proofs.FoundLaws.{certificate_is}
-use Rattle.tcap_search.proofs.SameLaws.{same_closings, same_expiries, same_fates}
+use Rattle.tcap_search.proofs.FoundLaws.{certificate_is, same_closings, same_expiries, same_fates}
 use Rattle.tcap_search.proofs.certificate_so_far.Found.is_same.Goals.{then-eq, else-eq}
 use Rattle.tcap_search.proofs.certificate_so_far.Found.is_same.Goals as goal
 

@@ -1,7 +1,6 @@
 use Rattle.std.proofs.Common.{◌∙◌, ap, sym}
 use Rattle.tcap_certificate.specs.Certificate.{Certificate}
-use Rattle.tcap_search.proofs.FoundLaws.{same_as_both}
-use Rattle.tcap_search.proofs.SameLaws.{same_fates}
+use Rattle.tcap_search.proofs.FoundLaws.{same_as_both, same_fates}
 use Rattle.tcap_search.proofs.certificate_so_far.Found.of_end.Goals as goal
 
 pub returns-then-eq : goal.returns-then-eq

@@ -3,7 +3,7 @@ use Rattle.std.proofs.Common.{◌≡◌, true, false, sym, ◌∙◌}
 use Rattle.std.proofs.lemmas.Bool.{not-false, not-true}
 use Rattle.std.specs.List.{list_any}
 use Rattle.tcap_search.specs.ProposedCertificate.{is_expiry_of}
-use Rattle.tcap_search.proofs.ListedLaws.{adds_new, adds_none, named_more}
+use Rattle.tcap_search.proofs.SweepLaws.{adds_new, adds_none, named_more}
 use Rattle.tcap_search.proofs.expiries.Listed.add.Goals as goal
 
 pub returns-in_ok-push-clause-added : goal.returns-in_ok-push-clause-added

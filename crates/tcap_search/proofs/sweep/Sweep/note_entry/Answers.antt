@@ -1,7 +1,7 @@
 -- The Invokes of a Begin or a Continue.
 use Rattle.std.proofs.Common.{sym, ◌∙◌}
 use Rattle.tcap_search.specs.InvocationMap.{kept_at}
-use Rattle.tcap_search.proofs.SweepSteps.{entry_step}
+use Rattle.tcap_search.proofs.SweepLaws.{entry_step}
 use Rattle.tcap_search.proofs.sweep.Sweep.note_entry.Goals as goal
 
 pub returns-clause-noted : goal.returns-clause-noted

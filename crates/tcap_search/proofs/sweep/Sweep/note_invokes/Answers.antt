@@ -3,7 +3,7 @@ use Rattle.std.proofs.Common.{◌==◌, ◌&&◌, ◌+◌, drop, ap, ◌∙◌}
 use Rattle.tcap_model.specs.World.{is_side}
 use Rattle.tcap_search.specs.ProposedCertificate.{last_invoke}
 use Rattle.tcap_search.specs.InvocationMap.{kept_at}
-use Rattle.tcap_search.proofs.SweepSteps.{invoke_end, invoke_step, kept_behind}
+use Rattle.tcap_search.proofs.SweepLaws.{invoke_end, invoke_step, kept_behind}
 use Rattle.tcap_search.proofs.sweep.Sweep.note_invokes.Goals as goal
 
 pub loop-place-preserved : goal.loop-place-preserved
