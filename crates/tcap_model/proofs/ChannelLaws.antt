@@ -12,10 +12,8 @@ use Rattle.tcap_msg.specs.declared.message.Message.{Message}
 use Rattle.tcap_record.specs.declared.entry.End.{End as Side}
 use Rattle.tcap_record.specs.declared.entry.End.TheVariants.{A, B}
 use Rattle.tcap_end.specs.Table.{Table}
-use Rattle.tcap_end.specs.End.{End}
-use Rattle.tcap_record.specs.Ends.{other}
-use Rattle.tcap_model.specs.World.{Item, OnItsWay, Sent, World, channel_from, empty, is_side, with_channel, with_end}
-use Rattle.tcap_model.specs.Run.{Event, Sends, Receives, Replies, Loses, Expires, Closes, Quiet, Tells, Runs, after, joined, numbers_of, numbers_sent, numbers_taken, takes_from}
+use Rattle.tcap_model.specs.World.{Item, OnItsWay, Sent, World, channel_from, empty, is_side}
+use Rattle.tcap_model.specs.Run.{Event, Sends, Receives, Replies, Loses, Expires, Closes, Quiet, Tells, Runs, after, numbers_of, numbers_sent, numbers_taken, takes_from}
 use Rattle.tcap_model.specs.SinceMark.{WasSent}
 use Rattle.tcap_model.proofs.ListLaws.{all_both, all_weaker}
 use Rattle.tcap_model.proofs.RunLaws.{IsQuiet, closing, delivery, expiry, loss, quiet, reply, runs_keep, sending, telling}
@@ -176,52 +174,9 @@ module _ {event : Event} {side : Side} {w next : World} where
 
 -- ---- each kind of step
 
--- The sender's channel gets the message.
-sends_passes : (side sender : Side) (m : Message) (made : End) (w : World)
-    → Passes (Sends sender m) side w (joined sender m (with_end sender made w))
-sends_passes A A m made w = gets m refl refl refl
-sends_passes A B m made w = stays refl refl (inr (B, m, refl, refl))
-sends_passes B A m made w = stays refl refl (inr (A, m, refl, refl))
-sends_passes B B m made w = gets m refl refl refl
-
 -- the number taken is the head's
 head_number : (head : OnItsWay) (number : ℕ) → head.number ≡ number → number ∷ [] ≡ head.number ∷ []
 head_number head number is = rw is refl
-
--- A received message leaves its channel.
-receives_passes : (side receiver : Side) (number : ℕ) (w : World) (made : End) (head : OnItsWay) (more : List OnItsWay)
-    → channel_from (other receiver) w ≡ head ∷ more → head.number ≡ number
-    → Passes (Receives receiver number) side w (with_end receiver made (with_channel (other receiver) more w))
-receives_passes A A number w made head more was is = stays refl refl (inl refl)
-receives_passes A B number w made head more was is = loses_head head more (head_number head number is) was refl (inl refl)
-receives_passes B A number w made head more was is = loses_head head more (head_number head number is) was refl (inl refl)
-receives_passes B B number w made head more was is = stays refl refl (inl refl)
-
--- A lost message leaves its channel.
-loses_passes : (side sender : Side) (number : ℕ) (w : World) (head : OnItsWay) (more : List OnItsWay)
-    → channel_from sender w ≡ head ∷ more → head.number ≡ number
-    → Passes (Loses sender number) side w (with_channel sender more w)
-loses_passes A A number w head more was is = loses_head head more (head_number head number is) was refl (inl refl)
-loses_passes A B number w head more was is = stays refl refl (inl refl)
-loses_passes B A number w head more was is = stays refl refl (inl refl)
-loses_passes B B number w head more was is = loses_head head more (head_number head number is) was refl (inl refl)
-
--- An answered message leaves its channel, and the other channel gets the Abort.
-replies_passes : (side replier : Side) (number : ℕ) (w : World) (abort : Message) (head : OnItsWay) (more : List OnItsWay)
-    → channel_from (other replier) w ≡ head ∷ more → head.number ≡ number
-    → Passes (Replies replier number) side w (joined replier abort (with_channel (other replier) more w))
-replies_passes A A number w abort head more was is = gets abort refl refl refl
-replies_passes A B number w abort head more was is = loses_head head more (head_number head number is) was refl (inr (B, abort, refl, refl))
-replies_passes B A number w abort head more was is = loses_head head more (head_number head number is) was refl (inr (A, abort, refl, refl))
-replies_passes B B number w abort head more was is = gets abort refl refl refl
-
--- A hidden step at an end changes no channel.
-hidden_passes : (side place : Side) (event : Event) (w : World) (made : End) → takes_from side event ≡ []
-    → Passes event side w (with_end place made w)
-hidden_passes A A event w made none = stays none refl (inl refl)
-hidden_passes A B event w made none = stays none refl (inl refl)
-hidden_passes B A event w made none = stays none refl (inl refl)
-hidden_passes B B event w made none = stays none refl (inl refl)
 
 -- A quiet mark leaves the empty channels empty.
 quiet_passes : (side : Side) (w next : World) → IsQuiet w next → Passes Quiet side w next
@@ -240,30 +195,48 @@ quiet_passes side w next is = record {
     empty_at A = (is.from_a, rw is.next_is refl)
     empty_at B = (is.from_b, rw is.next_is refl)
 
--- A message sent by `Tells` joins its sender's channel.
-tells_passes : (side sender : Side) (m : Message) (w : World) → Passes (Tells sender m) side w (joined sender m w)
-tells_passes A A m w = gets m refl refl refl
-tells_passes A B m w = stays refl refl (inr (B, m, refl, refl))
-tells_passes B A m w = stays refl refl (inr (A, m, refl, refl))
-tells_passes B B m w = gets m refl refl refl
-
--- Every step does one of these to each channel.
+-- What each step does to each channel.
 passes : (table : Table) (event : Event) (w next : World) → after table event w ≡ Some next → (side : Side) → Passes event side w next
-passes table (Sends sender m) w next is side =
-    let s = sending table sender m w next is in rw (s.next_is) (sends_passes side sender m s.made w)
-passes table (Receives receiver number) w next is side =
-    let d = delivery table receiver number w next is in
-    rw (d.next_is) (receives_passes side receiver number w d.made d.head d.more d.channel d.number_is)
-passes table (Replies replier number) w next is side =
-    let r = reply table replier number w next is in
-    rw (r.next_is) (replies_passes side replier number w r.abort r.head r.more r.channel r.number_is)
-passes table (Loses sender number) w next is side =
-    let l = loss table sender number w next is in rw (l.next_is) (loses_passes side sender number w l.head l.more l.channel l.number_is)
-passes table (Expires place name id) w next is side =
-    let h = expiry table place name id w next is in rw (h.next_is) (hidden_passes side place (Expires place name id) w h.made refl)
-passes table (Closes place name) w next is side =
-    let h = closing table place name w next is in rw (h.next_is) (hidden_passes side place (Closes place name) w h.made refl)
-passes table (Tells sender m) w next is side = rw ((telling table sender m w next is).next_is) (tells_passes side sender m w)
+passes table (Sends A m) w next is A = rw (sending table A m w next is).next_is (gets m refl refl refl)
+passes table (Sends B m) w next is A = rw (sending table B m w next is).next_is (stays refl refl (inr (B, m, refl, refl)))
+passes table (Sends A m) w next is B = rw (sending table A m w next is).next_is (stays refl refl (inr (A, m, refl, refl)))
+passes table (Sends B m) w next is B = rw (sending table B m w next is).next_is (gets m refl refl refl)
+passes table (Receives A number) w next is A = rw (delivery table A number w next is).next_is (stays refl refl (inl refl))
+passes table (Receives B number) w next is A =
+    let d = delivery table B number w next is in
+    rw d.next_is (loses_head d.head d.more (head_number d.head number d.number_is) d.channel refl (inl refl))
+passes table (Receives A number) w next is B =
+    let d = delivery table A number w next is in
+    rw d.next_is (loses_head d.head d.more (head_number d.head number d.number_is) d.channel refl (inl refl))
+passes table (Receives B number) w next is B = rw (delivery table B number w next is).next_is (stays refl refl (inl refl))
+passes table (Replies A number) w next is A = let r = reply table A number w next is in rw r.next_is (gets r.abort refl refl refl)
+passes table (Replies B number) w next is A =
+    let r = reply table B number w next is in
+    rw r.next_is (loses_head r.head r.more (head_number r.head number r.number_is) r.channel refl (inr (B, r.abort, refl, refl)))
+passes table (Replies A number) w next is B =
+    let r = reply table A number w next is in
+    rw r.next_is (loses_head r.head r.more (head_number r.head number r.number_is) r.channel refl (inr (A, r.abort, refl, refl)))
+passes table (Replies B number) w next is B = let r = reply table B number w next is in rw r.next_is (gets r.abort refl refl refl)
+passes table (Loses A number) w next is A =
+    let l = loss table A number w next is in
+    rw l.next_is (loses_head l.head l.more (head_number l.head number l.number_is) l.channel refl (inl refl))
+passes table (Loses B number) w next is A = rw (loss table B number w next is).next_is (stays refl refl (inl refl))
+passes table (Loses A number) w next is B = rw (loss table A number w next is).next_is (stays refl refl (inl refl))
+passes table (Loses B number) w next is B =
+    let l = loss table B number w next is in
+    rw l.next_is (loses_head l.head l.more (head_number l.head number l.number_is) l.channel refl (inl refl))
+passes table (Expires A name id) w next is A = rw (expiry table A name id w next is).next_is (stays refl refl (inl refl))
+passes table (Expires B name id) w next is A = rw (expiry table B name id w next is).next_is (stays refl refl (inl refl))
+passes table (Expires A name id) w next is B = rw (expiry table A name id w next is).next_is (stays refl refl (inl refl))
+passes table (Expires B name id) w next is B = rw (expiry table B name id w next is).next_is (stays refl refl (inl refl))
+passes table (Closes A name) w next is A = rw (closing table A name w next is).next_is (stays refl refl (inl refl))
+passes table (Closes B name) w next is A = rw (closing table B name w next is).next_is (stays refl refl (inl refl))
+passes table (Closes A name) w next is B = rw (closing table A name w next is).next_is (stays refl refl (inl refl))
+passes table (Closes B name) w next is B = rw (closing table B name w next is).next_is (stays refl refl (inl refl))
+passes table (Tells A m) w next is A = rw (telling table A m w next is).next_is (gets m refl refl refl)
+passes table (Tells B m) w next is A = rw (telling table B m w next is).next_is (stays refl refl (inr (B, m, refl, refl)))
+passes table (Tells A m) w next is B = rw (telling table A m w next is).next_is (stays refl refl (inr (A, m, refl, refl)))
+passes table (Tells B m) w next is B = rw (telling table B m w next is).next_is (gets m refl refl refl)
 passes table Quiet w next is side = quiet_passes side w next (quiet table w next is)
 
 -- ---- messages taken from a channel, and those on it

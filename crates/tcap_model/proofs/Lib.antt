@@ -1,6 +1,7 @@
 pub mod ListLaws
 pub mod WorldLaws
 pub mod RunLaws
+pub mod Acts
 pub mod SinceLaws
 pub mod ChannelLaws
 pub mod Moves

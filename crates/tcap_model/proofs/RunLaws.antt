@@ -12,7 +12,7 @@ use Rattle.tcap_end.specs.declared.half.HalfName.{HalfName}
 use Rattle.tcap_end.specs.Table.{Table}
 use Rattle.tcap_end.specs.declared.fault.EndFault.{EndFault}
 use Rattle.tcap_end.specs.declared.fault.EndFault.TheVariants as faults
-use Rattle.tcap_end.specs.End.{End, all_closed, nothing}
+use Rattle.tcap_end.specs.End.{End, all_closed, nothing, quiet as end_quiet}
 use Rattle.tcap_end.specs.Step.{needs, ◌>>◌}
 use Rattle.tcap_end.specs.HiddenSteps.{close, expire}
 use Rattle.tcap_end.specs.Message.{receive, send}
@@ -22,6 +22,7 @@ use Rattle.tcap_end.proofs.StepLaws.{closes, expires, receives, sends}
 use Rattle.tcap_record.specs.Ends.{other}
 use Rattle.tcap_model.specs.World.{Item, OnItsWay, Sent, World, channel_from, empty, end_at, is_side, with_channel, with_end}
 use Rattle.tcap_model.specs.Run.{Adds, Event, Sends, Receives, Replies, Loses, Expires, Closes, Quiet, Tells, Runs, abort_for, after, after_quiet, head_taken, joined, may_refuse, played, reply_to, then_so, where_so}
+use Rattle.tcap_model.proofs.WorldLaws.{end_joined, end_with_channel, sent_joined, sent_with_channel}
 
 -- ---- options and conditions
 
@@ -139,10 +140,12 @@ pub record IsHidden (side : Side) (step : End → Result End EndFault) (w next :
 pub record IsTold (side : Side) (m : Message) (w next : World) : Type 0 where
   pub next_is : next ≡ joined side m w
 
--- A quiet mark: the empty channels before it, and the world after it.
+-- A quiet mark: the empty channels and quiet ends before it, and the world after it.
 pub record IsQuiet (w next : World) : Type 0 where
   pub from_a : w.from_a ≡ []
   pub from_b : w.from_b ≡ []
+  pub quiet_a : end_quiet w.a ≡ Ok nothing
+  pub quiet_b : end_quiet w.b ≡ Ok nothing
   pub next_is : next ≡ record { a = nothing; b = nothing; from_a = []; from_b = []; sent = w.sent ++ Item.Quiet ∷ [] }
 
 -- The message taken is the head of the channel.
@@ -229,14 +232,15 @@ pub telling : (table : Table) (side : Side) (m : Message) (w next : World) → a
     → IsTold side m w next
 telling table side m w next is = record { next_is = let same : joined side m w ≡ next = cc in sym same }
 
--- Both ends are empty at a quiet mark.
+-- Both ends are quiet at a quiet mark, and empty after it.
 both_quiet : (a b : Bool) (x : World) (sent : List Item)
     → then_so (result_ok (needs a faults.StillOpen >> Ok nothing))
     (λ p.
     option_map (λ q. record { a = p; b = q; from_a = []; from_b = []; sent = sent }) (result_ok (needs b faults.StillOpen >> Ok nothing)))
     ≡ Some x
-    → x ≡ record { a = nothing; b = nothing; from_a = []; from_b = []; sent = sent }
-both_quiet true true x sent is = cc
+    → ((needs a faults.StillOpen >> Ok nothing) ≡ Ok nothing) × ((needs b faults.StillOpen >> Ok nothing) ≡ Ok nothing)
+    × (x ≡ record { a = nothing; b = nothing; from_a = []; from_b = []; sent = sent })
+both_quiet true true x sent is = (refl, refl, cc)
 both_quiet true false x sent is = cc
 both_quiet false b x sent is = cc
 
@@ -246,12 +250,10 @@ quiet table w next is = by w.from_a w.from_b is
   where
     by : (a b : List OnItsWay) → after_quiet (record w { from_a = a; from_b = b }) ≡ Some next
         → IsQuiet (record w { from_a = a; from_b = b }) next
-    by [] [] is = record {
-      from_a = refl;
-      from_b = refl;
-      next_is = both_quiet (all_closed w.a.begun && all_closed w.a.accepted) (all_closed w.b.begun && all_closed w.b.accepted) next
-          (w.sent ++ Item.Quiet ∷ []) is;
-    }
+    by [] [] is =
+        let (a, b, next_is) = both_quiet (all_closed w.a.begun && all_closed w.a.accepted) (all_closed w.b.begun && all_closed w.b.accepted)
+        next (w.sent ++ Item.Quiet ∷ []) is in
+        record { from_a = refl; from_b = refl; quiet_a = a; quiet_b = b; next_is = next_is }
     by [] (m ∷ b) is = cc
     by (m ∷ a) b is = cc
 
@@ -266,12 +268,6 @@ reply_is e m abort is = by (abort_for m) is
     by None is = cc
     by (Some found) is = ap Some ((cond_some _ _ abort is).1)
 
--- The Abort joins the sent list.
-sent_behind : (side : Side) (abort : Message) (more : List OnItsWay) (w : World)
-    → (joined side abort (with_channel (other side) more w)).sent ≡ w.sent ++ Sent side abort ∷ []
-sent_behind sides.A abort more w = refl
-sent_behind sides.B abort more w = refl
-
 -- What a step adds to the sent list.
 pub grows : (table : Table) (event : Event) (w next : World) → after table event w ≡ Some next
     → (items : List Item) × Adds w event items × (next.sent ≡ w.sent ++ items)
@@ -279,7 +275,8 @@ grows table (Replies side number) w next is =
     let r = reply table side number w next is in (
       Sent side r.abort ∷ [],
       (r.head, r.more, r.abort, r.channel, r.number_is, reply_is (end_at side w) r.head.message r.abort r.step, refl),
-      ap (λ (v : World). v.sent) r.next_is ∙ sent_behind side r.abort r.more w,
+      ap (λ (v : World). v.sent) r.next_is ∙ sent_joined side r.abort (with_channel (other side) r.more w)
+          ∙ ap (λ sent. sent ++ Sent side r.abort ∷ []) (sent_with_channel (other side) r.more w),
     )
 grows table (Sends side m) w next is = search rules
 grows table (Receives side number) w next is = search rules
@@ -327,17 +324,11 @@ with_sound sides.B made w new old sides.B = new
 
 -- It does not depend on the channels.
 channel_sound : (side : Side) (messages : List OnItsWay) (w : World) → BothSound w → BothSound (with_channel side messages w)
-channel_sound sides.A messages w old sides.A = old sides.A
-channel_sound sides.A messages w old sides.B = old sides.B
-channel_sound sides.B messages w old sides.A = old sides.A
-channel_sound sides.B messages w old sides.B = old sides.B
+channel_sound side messages w old at = rw (end_with_channel at side messages w) (old at)
 
 -- It still holds after a message joins a channel.
 joined_sound : (side : Side) (m : Message) (w : World) → BothSound w → BothSound (joined side m w)
-joined_sound sides.A m w old sides.A = old sides.A
-joined_sound sides.A m w old sides.B = old sides.B
-joined_sound sides.B m w old sides.A = old sides.A
-joined_sound sides.B m w old sides.B = old sides.B
+joined_sound side m w old at = rw (end_joined at side m w) (old at)
 
 -- It holds after a quiet mark.
 quiet_sound : (items : List Item) → BothSound (record { a = nothing; b = nothing; from_a = []; from_b = []; sent = items })

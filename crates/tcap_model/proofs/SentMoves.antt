@@ -62,10 +62,10 @@ found_passes passes e f is = by (first_half passes Begun e.begun) refl
     by (Some g) some = first_passes passes Begun e.begun f (let same = rw some at is in some ∙ same)
 
 -- The half found by an ID has this ID.
-own_is : (e : End) (id : List ℕ) (f : KeptHalf) → with_own e id ≡ Some f → f.half.own ≡ Some id
+pub own_is : (e : End) (id : List ℕ) (f : KeptHalf) → with_own e id ≡ Some f → f.half.own ≡ Some id
 own_is e id f is = id_is id f.half.own (found_passes (λ h. is_id id h.own) e f is)
 
-peer_is : (e : End) (id : List ℕ) (f : KeptHalf) → with_peer e id ≡ Some f → f.half.peer ≡ Some id
+pub peer_is : (e : End) (id : List ℕ) (f : KeptHalf) → with_peer e id ≡ Some f → f.half.peer ≡ Some id
 peer_is e id f is = id_is id f.half.peer (found_passes (λ h. is_id id h.peer) e f is)
 
 -- ---- components

@@ -1,6 +1,6 @@
 -- The IDs that a lawful end sent since the last mark are used, and the dialogues that it ended are closed.
-use Rattle.std.proofs.Common.{◌≡◌, ◌⊎◌, inl, inr, Bool, true, false, List, [], ◌∷◌, ◌++◌, Some, refl, sym, ◌∙◌}
-use Rattle.std.specs.Prelude.{◌||◌}
+use Rattle.std.proofs.Common.{◌≡◌, ◌⊎◌, inl, inr, false, List, [], ◌∷◌, ◌++◌, Some, refl, sym, ◌∙◌}
+use Rattle.std.proofs.lemmas.Bool.{or_parts}
 use Rattle.tcap_msg.specs.declared.message.Message.{Message}
 use Rattle.tcap_msg.specs.declared.message.Message.TheVariants.{Unidirectional, Begin, Continue, End as EndMessage, Abort}
 use Rattle.tcap_record.specs.declared.entry.End.{End as Side}
@@ -17,13 +17,8 @@ use Rattle.tcap_model.proofs.WorldMoves.{Advances, HasEnded, worlds_keep}
 abbrev HasHalves : Side → List Event → World → Type 0
 HasHalves side events w = KeepsRules side events → (m : Message) → SentSince side m w.sent → HasUsed w side m × HasEnded w side m
 
--- A disjunction is false only if both parts are.
-or_parts : (a b : Bool) → (a || b) ≡ false → (a ≡ false) × (b ≡ false)
-or_parts true b is = cc
-or_parts false b is = (refl, is)
-
 -- An end that keeps the rules kept them before the last step, and in it.
-kept_before : (side : Side) (before : List Event) (event : Event) → KeepsRules side (before ++ event ∷ [])
+pub kept_before : (side : Side) (before : List Event) (event : Event) → KeepsRules side (before ++ event ∷ [])
     → KeepsRules side before × (is_told_by side event ≡ false)
 kept_before side [] event keeps = (refl, (or_parts (is_told_by side event) false keeps).0)
 kept_before side (first ∷ before) event keeps =

@@ -68,7 +68,7 @@ Goes table side (item ∷ items) sent e coming =
 
 -- ---- keeping the rules
 
-keeps_both : (side : Side) (xs ys : List Event) → KeepsRules side xs → KeepsRules side ys → KeepsRules side (xs ++ ys)
+pub keeps_both : (side : Side) (xs ys : List Event) → KeepsRules side xs → KeepsRules side ys → KeepsRules side (xs ++ ys)
 keeps_both side [] ys here there = there
 keeps_both side (x ∷ xs) ys here there =
     let (now, later) = or_parts _ (tells side xs) here in or_from _ _ now (keeps_both side xs ys later there)
