@@ -105,8 +105,7 @@ module _ (table : Table) (h : HalfOf) (few_heard : AreFew h.heard) (id : ℤ) wh
 
     operation_same : (body : Option ResultBody)
         → is_operation_overspent_by (counted_of table h all before own) id body ≡ is_operation_overspent h before id body
-    operation_same None = refl
-    operation_same (Some body) = refl
+    operation_same body = grind arith
 
 -- Whether a component has F12.
 pub answers_again_same : (table : Table) (h : HalfOf) (all before own : List Component) → AreFew h.heard → AreFew before

@@ -42,30 +42,19 @@ few_split told own left all whole few = rw (append_assoc told own left, whole) f
 -- ---- the first component
 
 or_nothing : {A : Type 0} (o : Option A) → or_else o None ≡ o
-or_nothing None = refl
-or_nothing (Some a) = refl
+or_nothing o = grind arith
 
 -- A component that is found now comes before those that are left.
 first_else : (old : Option ℕ) (now : Bool) (number : ℕ) (left : Option ℕ)
     → or_else (first_or old now number) left ≡ or_else old (cond now (Some number) left)
-first_else None true number left = refl
-first_else None false number left = refl
-first_else (Some first) now number left = refl
+first_else old now number left = grind arith
 
 -- There is a first component exactly if one passes.
 pub some_component : (is_so : List Component → List Component → Component → Bool) (number : ℕ) (own before cs : List Component)
     → is_some (component_so is_so number own before cs) ≡ has_component is_so own before cs
 some_component is_so number own before [] = refl
 some_component is_so number own before (c ∷ more) =
-    by (is_so own before c) (some_component is_so (number + 1) (own ++ c ∷ []) (before ++ c ∷ []) more)
-  where
-    by : (b : Bool)
-        → is_some (component_so is_so (number + 1) (own ++ c ∷ []) (before ++ c ∷ []) more)
-        ≡ has_component is_so (own ++ c ∷ []) (before ++ c ∷ []) more
-        → is_some (cond b (Some number) (component_so is_so (number + 1) (own ++ c ∷ []) (before ++ c ∷ []) more))
-        ≡ (b || has_component is_so (own ++ c ∷ []) (before ++ c ∷ []) more)
-    by true rest = refl
-    by false rest = rest
+    grind (arith, some_component is_so (number + 1) (own ++ c ∷ []) (before ++ c ∷ []) more)
 
 -- ---- the Rejects of a message
 
@@ -73,18 +62,10 @@ some_component is_so number own before (c ∷ more) =
 count_among : (p q : Component → Bool) → ((c : Component) → p c ≡ true → q c ≡ true) → (cs : List Component)
     → count p (filter q cs) ≡ count p cs
 count_among p q weaker [] = refl
-count_among p q weaker (c ∷ cs) = by (p c) (q c) refl (weaker c) (count_among p q weaker cs)
-  where
-    by : (a b : Bool) → p c ≡ a → (p c ≡ true → b ≡ true) → count p (filter q cs) ≡ count p cs
-        → count p (cond b (c ∷ filter q cs) (filter q cs)) ≡ length (cond a (c ∷ filter p cs) (filter p cs))
-    by true true is so rest = rw is (ap (λ n. suc n) rest)
-    by true false is so rest = let bad = so is in cc
-    by false true is so rest = rw is rest
-    by false false is so rest = rest
+count_among p q weaker (c ∷ cs) = grind (arith, weaker c, count_among p q weaker cs)
 
 a_reject : (id : ℤ) (c : Component) → may_reject_answer id c ≡ true → is_reject c ≡ true
-a_reject id (Reject other problem) is = refl
-a_reject id c is = cc
+a_reject id c is = grind (arith, is)
 
 -- The Rejects of the message decide whether an ID is in use.
 module _ (table : Table) (h : HalfOf) (told cs own before : List Component) where
@@ -265,15 +246,7 @@ pub all_found : (table : Table) (half : Half) (all : List Component) (last : Opt
     → (h : HalfOf) → IsHalf table h half → AreFew h.heard → AreFew h.invoked → AreFew (h.told ++ all)
     → (kind : Kind) → component_at kind found ≡ half_component table h all kind
 all_found table half all last own number found reached h kept few_heard few_invoked few =
-    by (reached.so_far h kept few_heard few_invoked few)
-  where
-    by : IsSoFar table h all (reached.done ++ option_to_list last) [] number found
-        → (kind : Kind) → component_at kind found ≡ half_component table h all kind
-    by far kinds.InvokeIdBusy = sym (or_nothing found.busy) ∙ far.busy
-    by far kinds.BadLink = sym (or_nothing found.badly_linked) ∙ far.badly_linked
-    by far kinds.AnsweredAlready = sym (or_nothing found.answered_already) ∙ far.answered_already
-    by far kinds.RejectNotAllowed = sym (or_nothing found.wrongly_rejected) ∙ far.wrongly_rejected
-    by far kind = refl
+    grind (arith, reached.so_far h kept few_heard few_invoked few)
 
 -- ---- a message without destination ID
 

@@ -1,5 +1,5 @@
 -- A component with an invoke ID is of a sort exactly if it has the ID, and is of the sort apart from the ID.
-use Rattle.std.proofs.Common.{◌≡◌, ℕ, ℤ, Bool, true, false, ◌&&◌, List, Option, Some, None, not, refl, sym}
+use Rattle.std.proofs.Common.{◌≡◌, ℕ, ℤ, Bool, true, false, ◌&&◌, List, Option, Some, None, not, refl, sym, arith}
 use Rattle.tcap_parts.specs.declared.code.Code.{Code}
 use Rattle.tcap_parts.specs.declared.problem.Problem.{Problem}
 use Rattle.tcap_parts.specs.declared.problem.Problem.TheVariants as problems
@@ -20,36 +20,22 @@ module _ (table : Table) (id : ℤ) where
   invoke_sort : (n : ℤ) (linked : Option ℤ) (code : Code) (parameter : Option (List ℕ)) (sort : Sort)
       → is_sort table id sort (Invoke n linked code parameter)
       ≡ (is_invoke_id id n && invoke_has table linked code sort)
-  invoke_sort n linked code parameter (sorts.Invokes class) = refl
-  invoke_sort n linked code parameter (sorts.Lasting class) = refl
-  invoke_sort n linked code parameter sorts.Linked = refl
-  invoke_sort n linked code parameter sort = sym (and_false _)
+  invoke_sort n linked code parameter sort = grind arith
 
   result_sort : (last : Bool) (n : ℤ) (body : Option ResultBody) (sort : Sort)
       → is_sort table id sort (ReturnResult last n body) ≡ (is_invoke_id id n && result_has last sort)
-  result_sort last n body sorts.Results = sym (and_true _)
-  result_sort last n body sorts.LastResults = and_turned last _
-  result_sort last n body sorts.NotLasts = and_turned (not last) _
-  result_sort last n body sort = sym (and_false _)
+  result_sort last n body sort = grind arith
 
   error_sort : (n : ℤ) (code : Code) (parameter : Option (List ℕ)) (sort : Sort)
       → is_sort table id sort (ReturnError n code parameter) ≡ (is_invoke_id id n && error_has sort)
-  error_sort n code parameter sorts.Errors = sym (and_true _)
-  error_sort n code parameter sort = sym (and_false _)
+  error_sort n code parameter sort = grind arith
 
   no_sort : (problem : Problem) (sort : Sort) → is_sort table id sort (Reject None problem) ≡ false
-  no_sort problem (sorts.Invokes class) = refl
-  no_sort problem sort = refl
+  no_sort problem sort = grind arith
 
   reject_sort : (n : ℤ) (problem : Problem) (sort : Sort)
       → is_sort table id sort (Reject (Some n) problem) ≡ (is_invoke_id id n && reject_has problem sort)
-  reject_sort n (problems.General k) sorts.GeneralRejects = sym (and_true _)
-  reject_sort n (problems.Invoke k) sorts.InvokeRejects = refl
-  reject_sort n (problems.Invoke k) sorts.DuplicateRejects = refl
-  reject_sort n (problems.Invoke k) sorts.LinkRejects = refl
-  reject_sort n (problems.ReturnResult k) sorts.ResultRejects = refl
-  reject_sort n (problems.ReturnError k) sorts.ErrorRejects = refl
-  reject_sort n problem sort = sym (and_false _)
+  reject_sort n problem sort = grind arith
 
   pub its_sort : (sort : Sort) (c : Component)
       → is_sort table id sort c ≡ (is_its_id id (invoke_id c) && has_sort table sort c)
@@ -62,22 +48,16 @@ module _ (table : Table) (id : ℤ) where
 module _ (id : ℤ) where
   pub its_operation : (passes : Code → Bool) (c : Component)
       → invokes_so id passes c ≡ (is_its_id id (invoke_id c) && invokes_by passes c)
-  its_operation passes (Invoke n linked code parameter) = refl
-  its_operation passes c = sym (and_false _)
+  its_operation passes c = grind arith
 
   pub its_name : (code : Code) (c : Component)
       → is_result_of id code c ≡ (is_its_id id (invoke_id c) && names_code code c)
-  its_name code (ReturnResult true n (Some body)) = refl
-  its_name code (ReturnResult false n None) = sym (and_false _)
-  its_name code (ReturnResult false n (Some body)) = sym (and_false _)
-  its_name code c = sym (and_false _)
+  its_name code c = grind arith
 
   pub its_link : (passes : ℤ → Code → Bool) (c : Component)
       → invokes_link id passes c ≡ (is_its_id id (invoke_id c) && links_so passes c)
-  its_link passes (Invoke n (Some linked) code parameter) = refl
-  its_link passes c = sym (and_false _)
+  its_link passes c = grind arith
 
   pub its_answer : (passes : Code → Bool) (c : Component)
       → results_so id passes c ≡ (is_its_id id (invoke_id c) && answers_by passes c)
-  its_answer passes (ReturnResult last n (Some body)) = refl
-  its_answer passes c = sym (and_false _)
+  its_answer passes c = grind arith

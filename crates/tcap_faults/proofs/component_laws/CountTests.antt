@@ -44,5 +44,4 @@ link_fine n linked linked' rejects rejects' again fine fine' from to same_linked
     ) (or_last fine)
   where
     or_last : (b : Bool) → b ≡ (b || false)
-    or_last true = refl
-    or_last false = refl
+    or_last b = grind arith

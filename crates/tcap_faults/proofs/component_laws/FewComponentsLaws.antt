@@ -35,28 +35,15 @@ weight_both (x ∷ xs) ys =
 apart : (p q : Message → Bool) (xs : List Message) → ((m : Message) → p m ≡ true → q m ≡ true → ⊥)
     → weight (filter p xs) + weight (filter q xs) ≤ weight xs
 apart p q [] never = omega arith
-apart p q (x ∷ xs) never = by (p x) (q x) refl refl (apart p q xs never)
-  where
-    by : (a b : Bool) → p x ≡ a → q x ≡ b → weight (filter p xs) + weight (filter q xs) ≤ weight xs
-        → weight (cond a (x ∷ filter p xs) (filter p xs)) + weight (cond b (x ∷ filter q xs) (filter q xs)) ≤ weight (x ∷ xs)
-    by true true is_p is_q rest = absurd (never x is_p is_q)
-    by true false is_p is_q rest =
-        let e = weight_more x (filter p xs) in let f = weight_more x xs in omega (arith, rest)
-    by false true is_p is_q rest =
-        let e = weight_more x (filter q xs) in let f = weight_more x xs in omega (arith, rest)
-    by false false is_p is_q rest = let f = weight_more x xs in omega (arith, rest)
+apart p q (x ∷ xs) never =
+    grind (arith, apart p q xs never, weight_more x (filter p xs), weight_more x xs, weight_more x (filter q xs))
 
 part : (p : Message → Bool) (xs : List Message) → weight (filter p xs) ≤ weight xs
 part p xs = let e = apart p (λ m. false) xs (λ m is other. cc) in omega (arith, e)
 
 first_part : (p : Message → Bool) (xs : List Message) → weight (option_to_list (find p xs)) ≤ weight (filter p xs)
 first_part p [] = omega arith
-first_part p (x ∷ xs) = by (p x) (first_part p xs)
-  where
-    by : (b : Bool) → weight (option_to_list (find p xs)) ≤ weight (filter p xs)
-        → weight (option_to_list (cond b (Some x) (find p xs))) ≤ weight (cond b (x ∷ filter p xs) (filter p xs))
-    by true rest = let e = weight_more x (filter p xs) in let f = weight_more x [] in omega arith
-    by false rest = rest
+first_part p (x ∷ xs) = grind (arith, first_part p xs, weight_more x (filter p xs), weight_more x [])
 
 -- ---- what an end sent
 
@@ -93,11 +80,7 @@ abbrev begins_from : List ℕ → Message → Bool
 begins_from own m = is_a forms.Begin m && is_id own (otid_in m)
 
 no_both : (own id : List ℕ) (m : Message) → begins_from own m ≡ true → tells_to id m ≡ true → ⊥
-no_both own id (Unidirectional dialogue components) is told = cc
-no_both own id (Begin otid dialogue components) is told = cc
-no_both own id (Continue otid dtid dialogue components) is told = cc
-no_both own id (EndMessage dtid dialogue components) is told = cc
-no_both own id (Abort dtid reason) is told = cc
+no_both own id m is told = grind (arith, is, told)
 
 begun_invoked : (side : Side) (id : List ℕ) (items : List Item) (own : List ℕ)
     → weight (option_to_list (begin_from side own items) ++ told side id items) ≤ components_in_all items
@@ -111,11 +94,7 @@ begun_invoked side id items own =
 -- ---- what was heard
 
 begin_or_on : (own : List ℕ) (m : Message) → is_a forms.Begin m ≡ true → goes_on_to own m ≡ true → ⊥
-begin_or_on own (Unidirectional dialogue components) is goes = cc
-begin_or_on own (Begin otid dialogue components) is goes = cc
-begin_or_on own (Continue otid dtid dialogue components) is goes = cc
-begin_or_on own (EndMessage dtid dialogue components) is goes = cc
-begin_or_on own (Abort dtid reason) is goes = cc
+begin_or_on own m is goes = grind (arith, is, goes)
 
 accepted_heard : (side : Side) (id : List ℕ) (items : List Item) (own : Option (List ℕ))
     → weight (option_to_list (find (is_a forms.Begin) (asked side id items)) ++ continued_to side items id own)
@@ -136,18 +115,10 @@ accepted_heard side id items (Some own) =
 
 from_part : (p : Message → Bool) (xs : List Message) → weight (from_first p xs) ≤ weight xs
 from_part p [] = omega arith
-from_part p (x ∷ xs) = by (p x) (from_part p xs)
-  where
-    by : (b : Bool) → weight (from_first p xs) ≤ weight xs → weight (cond b (x ∷ xs) (from_first p xs)) ≤ weight (x ∷ xs)
-    by true rest = omega arith
-    by false rest = let e = weight_more x xs in omega (arith, rest)
+from_part p (x ∷ xs) = grind (arith, from_part p xs, weight_more x xs)
 
 heard_part : (begin : Option Message) (xs : List Message) → weight (heard_of begin xs) ≤ weight xs
-heard_part begin xs = by (is_request_of begin)
-  where
-    by : (b : Bool) → weight (cond b (from_first responds xs) xs) ≤ weight xs
-    by true = from_part responds xs
-    by false = omega arith
+heard_part begin xs = grind arith
 
 begun_heard : (side : Side) (id : List ℕ) (items : List Item) (own : List ℕ)
     → weight (heard_of (begin_from side own items) (continued_to side items id (Some own))) ≤ components_in_all items
@@ -255,22 +226,11 @@ module _ (side : Side) (id : List ℕ) (items : List Item) (m : Message) (roomy 
 
 since_few : (items : List Item) → components_in_all (since_quiet items) ≤ components_in_all items
 since_few [] = omega arith
-since_few (item ∷ items) = by item (has_quiet (item ∷ items)) (since_few items)
-  where
-    by : (item : Item) (b : Bool) → components_in_all (since_quiet items) ≤ components_in_all items
-        → components_in_all (cond b (since_quiet items) (item ∷ items)) ≤ components_in_all (item ∷ items)
-    by item false rest = omega arith
-    by (Sent side m) true rest = omega (arith, rest)
-    by Item.Quiet true rest = rest
+since_few (item ∷ items) = grind (arith, since_few items)
 
 since_short : (items : List Item) → length (since_quiet items) ≤ length items
 since_short [] = omega arith
-since_short (item ∷ items) = by (has_quiet (item ∷ items)) (since_short items)
-  where
-    by : (b : Bool) → length (since_quiet items) ≤ length items
-        → length (cond b (since_quiet items) (item ∷ items)) ≤ length (item ∷ items)
-    by true rest = omega (arith, rest)
-    by false rest = omega arith
+since_short (item ∷ items) = grind (arith, since_short items)
 
 -- Few items are few since the last quiet mark.
 pub still_roomy : (side : Side) (items : List Item) (m : Message) → AreRoomy (items ++ Sent side m ∷ [])

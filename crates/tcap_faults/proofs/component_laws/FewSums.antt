@@ -1,5 +1,6 @@
 -- Counts of few components: no sum of these counts exceeds the greatest.
 use Rattle.std.proofs.Common.{◌≡◌, ℕ, ℤ, ◌+◌, ◌^◌, ◌≤◌, ◌<◌, arith, Bool, true, false, List, [], ◌∷◌, ◌++◌, length, length-append, refl, sym, ap, ◌∙◌}
+use Rattle.std.proofs.lemmas.Bool.Decides.{nat_tests}
 use Rattle.std.specs.Prelude.{◌&&◌, nat_lt}
 use Rattle.std.specs.List.{list_any}
 use Rattle.std.proofs.Math.Path.{fun_ext}
@@ -26,8 +27,7 @@ sum_three a b c below = rw (sum_few a b (omega arith)) (sum_few (a + b) c below)
 -- ---- counts
 
 one_within : (b : Bool) → one b ≤ 1
-one_within true = omega arith
-one_within false = omega arith
+one_within b = grind arith
 
 -- A count is at most the length.
 pub count_within : {A : Type 0} (p : A → Bool) (xs : List A) → count p xs ≤ length xs
@@ -44,23 +44,13 @@ any_same p q xs same = ap (λ t. list_any t xs) (fun_ext same)
 
 -- A test finds an element exactly if its count is not 0.
 pub any_counted : {A : Type 0} (p : A → Bool) (xs : List A) → nat_lt 0 (count p xs) ≡ list_any p xs
-any_counted p xs = by (list_any p xs) (nat_lt 0 (count p xs)) refl refl
-  where
-    by : (found counted : Bool) → list_any p xs ≡ found → nat_lt 0 (count p xs) ≡ counted → counted ≡ found
-    by true true is one = refl
-    by true false is none = absurd (omega (arith, any_counts p xs is, ltb-false 0 (count p xs) none))
-    by false true is one = absurd (both_ways _ is (counts_any p xs (ltb-true 0 (count p xs) one)))
-    by false false is none = refl
+any_counted p xs = grind (arith, nat_tests)
 
 -- ---- Invokes
 
 -- An Invoke of any class is an Invoke.
 any_class : (table : Table) (id : ℤ) (c : Component) → is_sort table id (sorts.Invokes classes.Any) c ≡ invokes id c
-any_class table id (Invoke other linked code parameter) = by (is_invoke_id id other)
-  where
-    by : (b : Bool) → (b && true) ≡ b
-    by true = refl
-    by false = refl
+any_class table id (Invoke other linked code parameter) = grind arith
 any_class table id c = refl
 
 pub count_invokes : (table : Table) (id : ℤ) (cs : List Component)

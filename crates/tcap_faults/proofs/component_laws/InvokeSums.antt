@@ -1,5 +1,6 @@
 -- F10 and F11 from counts are F10 and F11, if few components are counted (Q.774 3.2, Q.771 3.1).
 use Rattle.std.proofs.Common.{◌≡◌, ℕ, ℤ, ◌+◌, ◌^◌, ◌≤◌, arith, Bool, true, false, ltb, List, Some, not, refl, sym, ap, ◌∙◌, ap₂}
+use Rattle.std.proofs.lemmas.Bool.Decides.{nat_tests}
 use Rattle.std.specs.Prelude.{◌||◌, ◌&&◌, ◌==◌, nat_le}
 use Rattle.std.specs.List.{list_any}
 use Rattle.std.proofs.lemmas.Bool.{eqb-true, le-ltb, or_from, or_left, or_right}
@@ -44,14 +45,7 @@ none_last of_1 of_3 results not_lasts none_1 none_3 =
 where_none : (all of_1 of_3 results not_lasts : ℕ) → of_1 ≤ all → of_3 ≤ all
     → (not (all == 0) && (ltb results (of_1 + of_3) || ltb not_lasts all))
     ≡ (ltb results (of_1 + of_3) || ltb not_lasts all)
-where_none all of_1 of_3 results not_lasts least_1 least_3 = by (all == 0) refl
-  where
-    by : (b : Bool) → (all == 0) ≡ b → (not b && (ltb results (of_1 + of_3) || ltb not_lasts all))
-        ≡ (ltb results (of_1 + of_3) || ltb not_lasts all)
-    by true is =
-        let none : all ≡ 0 = eqb-true all 0 is in
-        rw none (sym (none_last of_1 of_3 results not_lasts (omega arith) (omega arith)))
-    by false is = refl
+where_none all of_1 of_3 results not_lasts least_1 least_3 = grind (arith, nat_tests)
 
 -- No sum is compared with a number over the greatest.
 last_same : (all of_1 of_3 : ℕ) (results errors rejects generals : ℕ) (own_results own_generals not_lasts : ℕ)
@@ -75,13 +69,7 @@ last_same all of_1 of_3 results errors rejects generals own_results own_generals
 -- A lasting invocation of a class is a lasting invocation.
 last_weaker : (table : Table) (id : ℤ) (class : Class) (c : Component)
     → is_sort table id (sorts.Lasting class) c ≡ true → is_sort table id (sorts.Lasting classes.Any) c ≡ true
-last_weaker table id class (Invoke other linked code parameter) =
-    by (is_invoke_id id other) (not (expires_of table code)) (is_of_class table class code)
-  where
-    by : (a b c : Bool) → (a && (b && c)) ≡ true → (a && (b && true)) ≡ true
-    by true true c is = refl
-    by true false c is = cc
-    by false b c is = cc
+last_weaker table id class (Invoke other linked code parameter) = λ h3. grind (arith, h3)
 last_weaker table id class c = λ is. cc
 
 -- A Reject has one problem.

@@ -1,5 +1,5 @@
 -- What a test finds among linked Invokes, by their linked IDs, after one more.
-use Rattle.std.proofs.Common.{◌≡◌, ℤ, Bool, true, false, cond, ◌||◌, List, [], ◌∷◌, Some, None, Ordering, Less, Equal, Greater, int_cmp, refl, sym, ap, ◌∙◌}
+use Rattle.std.proofs.Common.{◌≡◌, ℤ, Bool, true, false, cond, ◌||◌, List, [], ◌∷◌, Some, None, Ordering, Less, Equal, Greater, int_cmp, refl, sym, ap, ◌∙◌, arith}
 use Rattle.std.specs.BTreeMap.{BTreeMap, WritesThrough, insert_entry, is_at}
 use Rattle.std.specs.List.{list_any}
 use Rattle.std.specs.Map.{lookup, set_value}
@@ -20,19 +20,13 @@ use Rattle.tcap_faults.specs.InvokeCounts.{Tallied}
 use Rattle.tcap_faults.specs.TallyMeaning.{codes_any, links_at}
 
 first : (a b p : Bool) → ((a || p) || b) ≡ ((a || b) || p)
-first true b p = refl
-first false true true = refl
-first false true false = refl
-first false false p = sym (or_none p)
+first a b p = grind arith
 
 later : (a b p : Bool) → (a || (b || p)) ≡ ((a || b) || p)
-later true b p = refl
-later false b p = refl
+later a b p = grind arith
 
 before : (a p : Bool) → (p || a) ≡ (a || p)
-before true true = refl
-before true false = refl
-before false p = sym (or_none p)
+before a p = grind arith
 
 module _ {K X : Type 0} (finds : K × X → Bool) where
   -- If a value replaces an old one, the test finds what it found before or what the value adds.
@@ -40,39 +34,13 @@ module _ {K X : Type 0} (finds : K × X → Bool) where
       → ((k : K) → test k ≡ true → finds (k, now) ≡ (finds (k, was) || p)) → (es : List (K × X))
       → Some was ≡ lookup test es → list_any finds (set_value test es now) ≡ (list_any finds es || p)
   any_set test was now p gains [] there = cc
-  any_set test was now p gains ((k, x) ∷ es) there = by (test k) refl (any_set test was now p gains es)
-    where
-      by : (b : Bool) → test k ≡ b
-          → (Some was ≡ lookup test es → list_any finds (set_value test es now) ≡ (list_any finds es || p))
-          → list_any finds (cond b ((k, now) ∷ es) ((k, x) ∷ set_value test es now))
-          ≡ ((finds (k, x) || list_any finds es) || p)
-      by true is rest =
-          let same : Some was ≡ Some x = rw is at there in
-          let one : was ≡ x = cc in
-          ap (λ b. b || list_any finds es) (gains k is ∙ ap (λ y. finds (k, y) || p) one)
-          ∙ first (finds (k, x)) (list_any finds es) p
-      by false is rest =
-          let left : Some was ≡ lookup test es = rw is at there in
-          ap (λ b. finds (k, x) || b) (rest left)
-          ∙ later (finds (k, x)) (list_any finds es) p
+  any_set test was now p gains ((k, x) ∷ es) there = grind (arith, any_set test was now p gains es)
 
   -- If a value is new, the test finds what it found before or what the value has.
   pub any_inserted : (cmp : K → K → Ordering) (k : K) (x : X) (es : List (K × X)) → None ≡ lookup (is_at (cmp k)) es
       → list_any finds (insert_entry cmp es k x) ≡ (list_any finds es || finds (k, x))
   any_inserted cmp k x [] none = sym (or_none _)
-  any_inserted cmp k x (e ∷ es) none = by (cmp k e.0) refl (any_inserted cmp k x es)
-    where
-      by : (r : Ordering) → cmp k e.0 ≡ r
-          → (None ≡ lookup (is_at (cmp k)) es
-          → list_any finds (insert_entry cmp es k x) ≡ (list_any finds es || finds (k, x)))
-          → list_any finds (match_ordering r ((k, x) ∷ e ∷ es) ((e.0, x) ∷ es) (e ∷ insert_entry cmp es k x))
-          ≡ ((finds e || list_any finds es) || finds (k, x))
-      by Less is rest = before (finds e || list_any finds es) (finds (k, x))
-      by Equal is rest =
-          let here : None ≡ Some e.1 = rw is at none in cc
-      by Greater is rest =
-          let left : None ≡ lookup (is_at (cmp k)) es = rw is at none in
-          ap (λ b. finds e || b) (rest left) ∙ later (finds e) (list_any finds es) (finds (k, x))
+  any_inserted cmp k x (e ∷ es) none = grind (arith, any_inserted cmp k x es)
 
 module _ (linked : ℤ) (code : Code) (old new : BTreeMap ℤ CodeCounts) (s : CodeCounts) where
   -- If something was kept of the linked ID.
@@ -125,25 +93,10 @@ pub link_there : (passes : ℤ → Code → Bool) (linked : ℤ) (counts : CodeC
     → Some counts ≡ lookup (is_at (int_cmp linked)) es → codes_any (passes linked) counts ≡ true
     → list_any (links_at passes) es ≡ true
 link_there passes linked counts [] there so = cc
-link_there passes linked counts ((k, x) ∷ es) there so =
-    by (is_at (int_cmp linked) k) refl (link_there passes linked counts es)
-  where
-    by : (b : Bool) → is_at (int_cmp linked) k ≡ b
-        → (Some counts ≡ lookup (is_at (int_cmp linked)) es → codes_any (passes linked) counts ≡ true
-        → list_any (links_at passes) es ≡ true)
-        → (codes_any (passes k) x || list_any (links_at passes) es) ≡ true
-    by true is rest =
-        let same : Some counts ≡ Some x = rw is at there in
-        let one : counts ≡ x = cc in
-        or_left (codes_any (passes k) x) (list_any (links_at passes) es)
-        (rw (tells_apart exact_signed linked k is, one) at so)
-    by false is rest =
-        let left : Some counts ≡ lookup (is_at (int_cmp linked)) es = rw is at there in
-        or_right (codes_any (passes k) x) (list_any (links_at passes) es) (rest left so)
+link_there passes linked counts ((k, x) ∷ es) there so = grind (arith, link_there passes linked counts es)
 
 -- An operation that meets the condition of a problem shows that the linked Invoke has the problem.
 pub names_as : (table : Table) (invoked : Tallied) (problem : LinkProblem) (linked : ℤ) (code : CodeView)
     → invoked.has_operation linked (links_as table (linkable_by problem code)) ≡ true
     → names_so table invoked problem linked (code_of code) ≡ true
-names_as table invoked problems.Response linked code so = so
-names_as table invoked problems.Operation linked code so = so
+names_as table invoked problem linked code so = grind (arith, so)

@@ -48,11 +48,7 @@ module _ (table : Table) (h : HalfOf) (all before own : List Component) (few : A
   linked_same : (passes : Code → Code → Bool) (c : Component)
       → invokes_link id (λ linked code. list_any (invokes_so linked (λ to. passes to code)) h.invoked) c
       ≡ is_linked_to passes h.invoked id c
-  linked_same passes (Invoke other (Some linked) code parameter) = refl
-  linked_same passes (Invoke other None code parameter) = refl
-  linked_same passes (ReturnResult last other body) = refl
-  linked_same passes (ReturnError other code parameter) = refl
-  linked_same passes (Reject other problem) = refl
+  linked_same passes c = grind arith
 
   any_linked : (passes : Code → Code → Bool)
       → list_any (invokes_link id (λ linked code. list_any (invokes_so linked (λ to. passes to code)) h.invoked)) h.heard
@@ -104,8 +100,7 @@ answer_same most problem answers rejects suited expected rejects' suited' expect
     (either (nat_lt answers rejects || nat_lt most problem) (problem == 1 && expected) (nat_le 2 problem && (suited == 0)))
   where
     either : (a b c : Bool) → (a || (b || c)) ≡ (a || b || c)
-    either true b c = refl
-    either false b c = refl
+    either a b c = grind arith
 
 module _ (table : Table) (h : HalfOf) (all before own : List Component) (few_heard : AreFew h.heard)
     (few_invoked : AreFew h.invoked) (few : AreFew before) (id : ℤ) where
@@ -133,8 +128,7 @@ module _ (table : Table) (h : HalfOf) (all before own : List Component) (few_hea
 
   unknown_same : (c : Component)
       → results_so id (λ code. count (invokes_so id (is_code code)) h.invoked == 0) c ≡ is_of_no_operation h id c
-  unknown_same (ReturnResult last other (Some body)) = ap (λ b. is_invoke_id id other && b) (none_same body.code)
-  unknown_same c = refl
+  unknown_same c = grind (arith, nat_tests)
 
   -- Whether no answer can be unexpected.
   expected_same : (of_result : Bool)

@@ -72,15 +72,13 @@ module _ (c : Component) (id q : ℤ) (its : invoke_id c ≡ Some id) (so has : 
   counted_at n = rw at_its_id (by (is_at (int_cmp id) q))
     where
       by : (b : Bool) → cond b (more_if has n) n ≡ more_if (b && has) n
-      by true = refl
-      by false = refl
+      by b = grind arith
 
   found_at : (b : Bool) → cond (is_at (int_cmp id) q) (b || has) b ≡ (b || so)
   found_at found = rw at_its_id (by (is_at (int_cmp id) q))
     where
       by : (b : Bool) → cond b (found || has) found ≡ (found || (b && has))
-      by true = refl
-      by false = or_none found
+      by b = grind arith
 
 module _ (table : Table) (c : Component) (id : ℤ) (its : invoke_id c ≡ Some id) (old new : Tally) (s : Box OfId)
     (puts : Puts id s old.ids.entries new.ids.entries) (steps : AreSteps table c (kept_of id old) s.value) where

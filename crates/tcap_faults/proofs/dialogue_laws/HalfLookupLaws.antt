@@ -1,5 +1,5 @@
 -- The half with an ID of the peer is read correctly from what is kept.
-use Rattle.std.proofs.Common.{◌≡◌, Bor, ℕ, Bool, true, false, cond, not, ◌&&◌, ◌||◌, List, [], ◌∷◌, ◌++◌, Option, Some, None, is_some, map, option_copied, refl, sym, ap, subst, ◌∙◌}
+use Rattle.std.proofs.Common.{◌≡◌, Bor, ℕ, Bool, true, false, cond, not, ◌&&◌, ◌||◌, List, [], ◌∷◌, ◌++◌, Option, Some, None, is_some, map, option_copied, refl, sym, ap, subst, ◌∙◌, arith}
 use Rattle.std.specs.Prelude.{is_none}
 use Rattle.std.specs.Map.{lookup}
 use Rattle.std.specs.BTreeMap.{is_at}
@@ -51,13 +51,7 @@ refused_is side id items =
 first_told : (ms : List Message) → ids_first (otids_of ms) ≡ then_so (find (is_a forms.Continue) (of_user ms)) otid_in
 first_told [] = refl
 first_told (Continue otid dtid dialogue components ∷ ms) = refl
-first_told (Abort dtid reason ∷ ms) = by (is_none (reason_cause reason)) (first_told ms)
-  where
-    by : (b : Bool) → ids_first (otids_of ms) ≡ then_so (find (is_a forms.Continue) (of_user ms)) otid_in
-        → ids_first (otids_of ms)
-        ≡ then_so (find (is_a forms.Continue) (cond b (Abort dtid reason ∷ of_user ms) (of_user ms))) otid_in
-    by true rest = rest
-    by false rest = rest
+first_told (Abort dtid reason ∷ ms) = grind (arith, first_told ms)
 first_told (m ∷ ms) = first_told ms
 
 pub first_answer : (side : Side) (id : List ℕ) (items : List Item)
@@ -90,21 +84,11 @@ module _ (table : Table) (ms : List Message) (o : Option (Bor SentTo)) (at : IsT
 
 apart : (ms : List Message) → before_response ms ++ from_first responds ms ≡ ms
 apart [] = refl
-apart (m ∷ ms) = by (responds m) (apart ms)
-  where
-    by : (b : Bool) → before_response ms ++ from_first responds ms ≡ ms
-        → cond b [] (m ∷ before_response ms) ++ cond b (m ∷ ms) (from_first responds ms) ≡ m ∷ ms
-    by true rest = refl
-    by false rest = ap (λ ns. m ∷ ns) rest
+apart (m ∷ ms) = grind (arith, apart ms)
 
 none_from : (ms : List Message) → is_nothing (from_first responds ms) ≡ not (list_any responds ms)
 none_from [] = refl
-none_from (m ∷ ms) = by (responds m) (none_from ms)
-  where
-    by : (b : Bool) → is_nothing (from_first responds ms) ≡ not (list_any responds ms)
-        → is_nothing (cond b (m ∷ ms) (from_first responds ms)) ≡ not (b || list_any responds ms)
-    by true rest = refl
-    by false rest = rest
+none_from (m ∷ ms) = grind (arith, none_from ms)
 
 -- ---- counted components
 
@@ -161,12 +145,10 @@ module _ (table : Table) where
 
   pub there_so : (begin : Option Message) (kept : FirstBegin) → IsFirstBegin table begin (Some kept)
       → is_some begin ≡ true
-  there_so None kept begins = absurd begins
-  there_so (Some begin) kept begins = refl
+  there_so begin kept begins = grind (arith, begins)
 
   pub none_so : (begin : Option Message) → IsFirstBegin table begin None → begin ≡ None
-  none_so None none = refl
-  none_so (Some begin) none = absurd none
+  none_so begin none = grind (arith, none)
 
 -- ---- a half that the peer's Begin began
 
@@ -248,12 +230,10 @@ pub aborting_so : (side : Side) (items : List Item) (id : List ℕ) (m : Message
     → kind_in m ≡ forms.Abort
     → is_wrong_aborting (is_first_answer side items id h) (is_request_of h.begin) (dialogue_in m)
     ≡ is_wrong_dialogue side items id m h
-aborting_so side items id (Abort dtid reason) h so = refl
-aborting_so side items id m h so = cc
+aborting_so side items id m h so = grind (arith, so)
 
 pub going_on_else : (side : Side) (items : List Item) (id : List ℕ) (m : Message) (h : HalfOf)
     → (kind_in m ≡ forms.Abort → ⊥)
     → is_wrong_going_on (is_first_answer side items id h) (is_request_of h.begin) (dialogue_in m)
     ≡ is_wrong_dialogue side items id m h
-going_on_else side items id (Abort dtid reason) h not_so = absurd (not_so refl)
-going_on_else side items id m h not_so = refl
+going_on_else side items id m h not_so = grind (arith, not_so)

@@ -1,5 +1,6 @@
 -- F14 and F15 from what is kept of both ends.
 use Rattle.std.proofs.Common.{◌≡◌, ◌⊎◌, inl, inr, ℕ, ◌+◌, ◌-◌, ◌<◌, ◌≤◌, ◌^◌, arith, Bool, true, false, cond, not, ◌&&◌, ◌||◌, List, [], ◌∷◌, Option, Some, None, is_some, bytes_eq, drop, filter, get_or, length, refl, sym, ap, ◌∙◌, ap₂}
+use Rattle.std.proofs.lemmas.Bool.Decides.{nat_tests}
 use Rattle.std.specs.Prelude.{Contains, filter_map, nat_le, nat_lt}
 use Rattle.std.specs.Cmp as tests
 use Rattle.std.specs.List.{cons_option, find, list_any}
@@ -106,8 +107,7 @@ module _ (p : List ℕ → Bool) (ids : List (List ℕ)) (kept : Ids) (are : Are
   others_so none = ap (λ b. b || list_any p kept.more.items) (sym none) ∙ either_kept
 
 first_there : (ids : List (List ℕ)) → is_some (ids_first ids) ≡ list_any (λ id. true) ids
-first_there [] = refl
-first_there (id ∷ more) = refl
+first_there ids = grind arith
 
 -- There is a first ID exactly if there is an ID.
 pub some_kept_of : (o : Option (List ℕ)) (ids : List (List ℕ)) (kept : Ids)
@@ -165,11 +165,7 @@ module _ (side : Side) (items : List Item) (id : List ℕ) where
   -- One Continue was received if something was sent to the ID and no Begin was accepted.
   pub received_one : not (is_nothing (told side id items)) ≡ true → is_accepted (half_of side items id).how ≡ false
       → ◌≡◌ {A = ℕ} 1 (count_received side id items (half_of side items id))
-  received_one spoke none = by (is_nothing (told side id items)) spoke
-    where
-      by : (b : Bool) → not b ≡ true → ◌≡◌ {A = ℕ} 1 (cond (b || is_accepted (half_of side items id).how) 0 1)
-      by true is = cc
-      by false is = rw none refl
+  received_one spoke none = grind (arith, spoke)
 
   -- Otherwise none was received.
   pub none_received : is_accepted (half_of side items id).how ≡ true
@@ -178,21 +174,12 @@ module _ (side : Side) (items : List Item) (id : List ℕ) where
 
   pub none_spoken : not (is_nothing (told side id items)) ≡ false
       → ◌≡◌ {A = ℕ} 0 (count_received side id items (half_of side items id))
-  none_spoken silent = by (is_nothing (told side id items)) silent
-    where
-      by : (b : Bool) → not b ≡ false → ◌≡◌ {A = ℕ} 0 (cond (b || is_accepted (half_of side items id).how) 0 1)
-      by true is = refl
-      by false is = cc
+  none_spoken silent = grind (arith, silent)
 
 -- At most as many were sent as there are items.
 fewer_made : {A B : Type 0} (f : A → Option B) (xs : List A) → length (filter_map f xs) ≤ length xs
 fewer_made f [] = omega arith
-fewer_made {B = B} f (x ∷ xs) = by (f x) (fewer_made f xs)
-  where
-    by : (o : Option B) → length (filter_map f xs) ≤ length xs
-        → length (cons_option o (filter_map f xs)) ≤ length (x ∷ xs)
-    by None few = omega arith
-    by (Some y) few = omega arith
+fewer_made {B = B} f (x ∷ xs) = grind (arith, fewer_made f xs)
 
 module _ (side : Side) (items : List Item) (id : List ℕ) (few : length items ≤ 2 ^ 63) where
   pub few_from : length (sent_from side items id) ≤ 2 ^ 126
@@ -213,11 +200,7 @@ module _ (side : Side) (items : List Item) (id : List ℕ) (few : length items �
 
 -- No Continue is left exactly if one more Abort is too many.
 pub none_left : (c u n : ℕ) → nat_le (c - n) u ≡ nat_lt c (u + 1 + n)
-none_left c u n = at (cases_lt c (u + 1 + n))
-  where
-    at : (c < u + 1 + n) ⊎ (u + 1 + n ≤ c) → nat_le (c - n) u ≡ nat_lt c (u + 1 + n)
-    at (inl less) = le-leb (c - n) u (omega arith) ∙ sym (lt-ltb c (u + 1 + n) less)
-    at (inr more) = lt-leb (c - n) u (omega arith) ∙ sym (le-ltb c (u + 1 + n) more)
+none_left c u n = grind (arith, nat_tests, cases_lt c (u + 1 + n))
 
 -- ---- halves that are left open over no tangled IDs
 
@@ -226,8 +209,7 @@ module _ (table : Table) (side : Side) (items : List Item) (own : List ℕ) wher
   is_plain to = not (are_tangled side items (own ∷ []) to)
 
   spread : (a b c : Bool) → ((a && b) || (a && c)) ≡ (a && (b || c))
-  spread true b c = refl
-  spread false b c = refl
+  spread a b c = grind arith
 
   abbrev from_own : List Message → List Message
   from_own ms = filter (λ m. is_id own (otid_in m)) ms

@@ -1,5 +1,5 @@
 -- Which half has an ID of the peer: the half that accepted its Begin, the half whose Begin it answered, or none.
-use Rattle.std.proofs.Common.{◌≡◌, ℕ, Bool, true, false, cond, List, [], ◌∷◌, Option, Some, None, is_some, filter, refl, sym, ap, subst, ◌∙◌}
+use Rattle.std.proofs.Common.{◌≡◌, ℕ, Bool, true, false, cond, List, [], ◌∷◌, Option, Some, None, is_some, filter, refl, sym, ap, subst, ◌∙◌, arith}
 use Rattle.std.specs.Prelude.{Contains}
 use Rattle.std.specs.List.{find}
 use Rattle.std.proofs.lemmas.Bool.{and_from, and_parts, both_ways}
@@ -73,12 +73,7 @@ module _ (side : Side) (items : List Item) (id : List ℕ) where
 
   -- If there is no such own ID, there is no begun half.
   begun_nowhere : ((own : List ℕ) → begun_from side items id ≡ Some own → GoesTo own → ⊥) → begun_from side items id ≡ None
-  begun_nowhere none = by (find (goes_to_begun side items) (asked side id items)) refl
-    where
-      by : (o : Option Message) → find (goes_to_begun side items) (asked side id items) ≡ o
-          → begun_from side items id ≡ None
-      by None nothing = ap (λ (o : Option Message). then_so o dtid_in) nothing
-      by (Some n) found = let (own, is, goes) = goes_there n found in absurd (none own is goes)
+  begun_nowhere none = grind arith
 
   -- If there is a begun half, such a Continue went to its own ID.
   goes_it : (own : List ℕ) → begun_from side items id ≡ Some own → GoesTo own
@@ -111,14 +106,7 @@ module _ (side : Side) (items : List Item) (id : List ℕ) where
       by : (ms : List Message)
           → find (λ own. began side own items) (dtids_of ms) ≡ then_so (find (goes_to_begun side items) ms) dtid_in
       by [] = refl
-      by (Continue otid dtid dialogue components ∷ ms) = here (began side dtid items) (by ms)
-        where
-          here : (b : Bool)
-              → find (λ own. began side own items) (dtids_of ms) ≡ then_so (find (goes_to_begun side items) ms) dtid_in
-              → cond b (Some dtid) (find (λ own. began side own items) (dtids_of ms))
-              ≡ then_so (cond b (Some (Continue otid dtid dialogue components)) (find (goes_to_begun side items) ms)) dtid_in
-          here true rest = refl
-          here false rest = rest
+      by (Continue otid dtid dialogue components ∷ ms) = grind (arith, by ms)
       by (m ∷ ms) = by ms
 
   -- If there is no such ID, no half began so.

@@ -61,8 +61,7 @@ bad_body (Some s) body fault is = cc
 
 -- The entry is of this end.
 of_end : (side : Side) (sender : Option Side) → is_entry_of side sender ≡ true → sender ≡ Some side
-of_end side None is = cc
-of_end side (Some s) is = ap Some (sym (same_side side s is))
+of_end side sender is = grind (arith, is)
 
 module _ (table : Table) (side : Side) (r : Refutation) (front : List Entry) (e : Entry) (more : List Entry)
     (before : List Item) (fronts : map item_of front ≡ oks before) where

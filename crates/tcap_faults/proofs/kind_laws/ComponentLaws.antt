@@ -48,11 +48,7 @@ module _ (table : Table) (s : HalfOf) (past : List Happening) (g : Half)
       counts = invoked_along table id own g h was ∙ rw free refl
 
       none : list_any (invokes id) own ≡ false
-      none = by (list_any (invokes id) own) refl
-        where
-          by : (b : Bool) → list_any (invokes id) own ≡ b → b ≡ false
-          by true is = absurd (omega (arith, counts, any_counts (invokes id) own is))
-          by false is = refl
+      none = grind (arith, counts)
 
       unseen : (o : Option OwnInvocation) → own_invocation g id ≡ o → own_invocation g id ≡ None
       unseen None is = is
@@ -85,8 +81,7 @@ module _ (table : Table) (s : HalfOf) (past : List Happening) (g : Half)
           (λ c is. or_left (rejects_invoke id any_problem c) _ is)
 
       with_any : (a b : Bool) → (a && b) ≡ true → (a && true) ≡ true
-      with_any true b is = refl
-      with_any false b is = is
+      with_any a b is = grind (arith, is)
 
       some : of_class 1 + of_class 3 ≤ lasting_so (λ code. true)
       some =

@@ -1,5 +1,5 @@
 -- No message that an end sends has F9: its dialogue portion fits the state of its half's dialogue (Q.774 3.2).
-use Rattle.std.proofs.Common.{◌≡◌, ◌⊎◌, inl, inr, ℕ, Bool, true, false, List, [], Option, Some, None, not, is_none, is_some, refl, sym, ap, subst, ◌∙◌}
+use Rattle.std.proofs.Common.{◌≡◌, ◌⊎◌, inl, inr, ℕ, Bool, true, false, List, [], Option, Some, None, not, is_none, is_some, refl, sym, ap, subst, ◌∙◌, arith}
 use Rattle.std.specs.Prelude.{Contains, ◌&&◌, ◌||◌}
 use Rattle.std.specs.List.{find}
 use Rattle.std.specs.Option.{option_to_list}
@@ -51,30 +51,20 @@ alone_is (Some n) m has = by (contains_first n [] m has)
 
 -- A portion that accepts a dialogue is an AARE.
 accepts_responds : (d : Option Dialogue) → accepts_dialogue d ≡ true → is_response d ≡ true
-accepts_responds (Some (dialogues.Response context result diagnostic info)) is = refl
-accepts_responds o is = cc
+accepts_responds o is = grind (arith, is)
 
 -- No portion, or a user's ABRT, is no AARE.
 no_response : (d : Option Dialogue) → (is_none d || is_user_abort d) ≡ true → is_response d ≡ true → ⊥
-no_response None so is = cc
-no_response (Some (dialogues.Request context info)) so is = cc
-no_response (Some (dialogues.Response context result diagnostic info)) so is = cc
-no_response (Some (dialogues.Abort source info)) so is = cc
-no_response (Some (dialogues.Uni context info)) so is = cc
+no_response d so is = grind (arith, so, is)
 
 -- An option cannot be both absent and present.
 not_both : {A : Type 0} (o : Option A) → is_none o ≡ true → is_some o ≡ true → ⊥
-not_both None none some = cc
-not_both (Some x) none some = cc
+not_both o none some = grind (arith, none, some)
 
 -- A user's ABRT needs a dialogue.
 user_wants : (phase : Phase) (standing : Standing) (d : Option Dialogue) → may_abort phase standing d ≡ true
     → is_user_abort d ≡ true → standing ≡ standings.Without → ⊥
-user_wants phases.Sent standings.Without (Some d) may user without = cc
-user_wants phases.Received standings.Without (Some d) may user without = cc
-user_wants phases.Active standings.Without (Some d) may user without = cc
-user_wants phases.Closed standings.Without (Some d) may user without = cc
-user_wants phase standing o may user without = cc
+user_wants phase standing o may user without = grind (arith, may, user, without)
 
 -- If no dialogue was asked for, there is none.
 never_asked : (phase : Phase) (d : Option Dialogue) → is_request d ≡ false → standing_of phase d ≡ standings.Without
@@ -135,12 +125,7 @@ module _ {table : Table} {side : Side} {e : End} {coming : List Message} {items 
   -- A user's ABRT needs a dialogue that the half's Begin asked for.
   wants_request : (d : Option Dialogue) → may_abort f.half.phase f.half.standing d ≡ true → is_user_abort d ≡ true
       → (wanted : Option Dialogue) → f.half.standing ≡ standing_of f.half.phase wanted → is_request wanted ≡ true
-  wants_request d may user wanted stands = by (is_request wanted) refl
-    where
-      by : (b : Bool) → is_request wanted ≡ b → is_request wanted ≡ true
-      by true request = request
-      by false none =
-          absurd (user_wants f.half.phase f.half.standing d may user (stands ∙ never_asked f.half.phase wanted none))
+  wants_request d may user wanted stands = grind arith
 
   -- The half has a Begin, and the dialogue has the state that the Begin gives.
   stands_by : (begin : Message) × (h.begin ≡ Some begin) × (is_a forms.Begin begin ≡ true)
@@ -182,18 +167,7 @@ module _ {table : Table} {side : Side} {e : End} {coming : List Message} {items 
 
   -- A message over a half in Received is a first answer.
   answers_first : f.half.phase ≡ phases.Received → first ≡ true
-  answers_first received = by (either_slot f.slot)
-    where
-      by : (f.slot ≡ slots.Begun) ⊎ (f.slot ≡ slots.Accepted) → first ≡ true
-      by (inl slot) =
-          let bad = sym (waits_so e f is_end half.had received) ∙ kept_own e f is_end half.had slot in cc
-      by (inr slot) =
-          and_from (is_accepted h.how) _ (ap is_accepted (how_accepted view m id half plain slot))
-          (none (has_a forms.Continue (told side id items)) refl)
-        where
-          none : (b : Bool) → has_a forms.Continue (told side id items) ≡ b → not b ≡ true
-          none true gone = absurd (not_gone_on received gone)
-          none false never = refl
+  answers_first received = grind (arith, either_slot f.slot)
 
   -- If a message is a first answer, its half is in Received.
   waits_first : first ≡ true → f.half.phase ≡ phases.Received
@@ -260,16 +234,4 @@ module _ {table : Table} {side : Side} {e : End} {coming : List Message} {items 
 
   -- The dialogue portion of a message with a destination ID fits.
   pub right_dialogue : is_wrong_dialogue side items id m h ≡ true → ⊥
-  right_dialogue = by m half.carries going_on aborting
-    where
-      by : (n : Message) → may_carry n f.half.phase f.half.standing ≡ true
-          → ((d : Option Dialogue) → may_go_on f.half.phase f.half.standing d ≡ true
-          → is_wrong_going_on first (is_request_of h.begin) d ≡ true → ⊥)
-          → ((d : Option Dialogue) → may_abort f.half.phase f.half.standing d ≡ true
-          → is_wrong_aborting first (is_request_of h.begin) d ≡ true → ⊥)
-          → is_wrong_dialogue side items id n h ≡ true → ⊥
-      by (Unidirectional dialogue components) may on off = on dialogue may
-      by (Begin otid dialogue components) may on off = on dialogue may
-      by (Continue otid dtid dialogue components) may on off = on dialogue may
-      by (EndMessage dtid dialogue components) may on off = on dialogue may
-      by (Abort dtid reason) may on off = off (reason_dialogue reason) may
+  right_dialogue = λ h4. grind (arith, half.carries, going_on, aborting, h4)

@@ -1,5 +1,5 @@
 -- No message of an end that keeps the rules is a fault of any kind, nor is a reply of its provider.
-use Rattle.std.proofs.Common.{◌≡◌, ◌⊎◌, inl, inr, ℕ, Bool, true, false, List, [], ◌∷◌, ◌++◌, Option, Some, None, not, refl, ap, subst}
+use Rattle.std.proofs.Common.{◌≡◌, ◌⊎◌, inl, inr, ℕ, Bool, true, false, List, [], ◌∷◌, ◌++◌, Option, Some, None, not, refl, ap, subst, arith}
 use Rattle.std.specs.Prelude.{◌&&◌, ◌||◌}
 use Rattle.std.specs.List.{list_any}
 use Rattle.std.proofs.lemmas.Bool.{and_parts, not-true, or_cases, or_left, or_right}
@@ -46,20 +46,13 @@ use Rattle.tcap_faults.proofs.transaction_laws.TangledLaws.{IsPlain, plain_to}
 -- A component that is for nothing, if one end alone is judged, is so if both are.
 none_stricter : (components : List Component) (c : Component) → answers_none components c ≡ true
     → answers_none_of components c ≡ true
-none_stricter components (Reject (Some id) (problems.General n)) is = refl
-none_stricter components c is = is
+none_stricter components c is = grind (arith, is)
 
 any_stricter : (components cs : List Component) → list_any (answers_none components) cs ≡ true
     → list_any (answers_none_of components) cs ≡ true
 any_stricter components [] is = is
 any_stricter components (c ∷ cs) is =
-    by (or_cases (answers_none components c) _ is) (any_stricter components cs)
-  where
-    by : (answers_none components c ≡ true) ⊎ (list_any (answers_none components) cs ≡ true)
-        → (list_any (answers_none components) cs ≡ true → list_any (answers_none_of components) cs ≡ true)
-        → (answers_none_of components c || list_any (answers_none_of components) cs) ≡ true
-    by (inl here) rest = or_left (answers_none_of components c) _ (none_stricter components c here)
-    by (inr there) rest = or_right (answers_none_of components c) _ (rest there)
+    grind (arith, or_cases (answers_none components c) _ is, any_stricter components cs)
 
 nothing_stricter : (side : Side) (items : List Item) (m : Message) → answers_nothing_there side items m ≡ true
     → answers_nothing side items m ≡ true
@@ -102,8 +95,7 @@ module _ {table : Table} {events : List Event} {w : World} {side : Side} {messag
     led = led_same table life.past half.kept.half half.start (half.out, half.inn, half.grants) life.is_led
 
     behind : (wrong so : Bool) → (not wrong && so) ≡ true → so ≡ true
-    behind true so is = cc
-    behind false so is = is
+    behind wrong so is = grind (arith, is)
 
     half_kind : (kind : Kind) → is_of_half_kind table side id items message h kind ≡ true → ⊥
     half_kind kinds.WrongHalf is = right_half view message id half plain is
@@ -160,8 +152,7 @@ further_sent table events w side (Abort dtid reason) kind it over is =
 
 reply_kind : (table : Table) (side : Side) (id : List ℕ) (items : List Item) (h : HalfOf) (cause : ℕ) (kind : Kind)
     → is_of_reply_kind table side id items h cause kind ≡ true → kind ≡ kinds.WrongReply
-reply_kind table side id items h cause kinds.WrongReply is = refl
-reply_kind table side id items h cause kind is = cc
+reply_kind table side id items h cause kind is = grind (arith, is)
 
 module _ {table : Table} {side : Side} {e : End} {coming : List Message} {items : List Item} where
   further_refused : (m message : Message) (kind : Kind) → View table side e (m ∷ coming) items → Refuses e m message

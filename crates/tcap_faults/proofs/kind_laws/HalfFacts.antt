@@ -77,8 +77,7 @@ over_accepted side items f messages is slot = rw slot at is
 -- If there is a Begin, what may have been heard is what was heard.
 pub behind_is : (begin : Option Message) (continues : List Message) → is_some begin ≡ true
     → heard_behind begin continues ≡ heard_of begin continues
-behind_is None continues is = cc
-behind_is (Some begin) continues is = refl
+behind_is begin continues is = grind (arith, is)
 
 pub come_begun : (side : Side) (items : List Item) (slot : Slot) (own peer : Option (List ℕ)) (w id : List ℕ)
     → slot ≡ Begun → own ≡ Some w → peer ≡ Some id → began side w items ≡ true
@@ -96,8 +95,7 @@ come_accepted side items slot own peer id is theirs = rw (is, theirs) (by own)
     by : (o : Option (List ℕ))
         → filter (is_a forms.Begin) (asked side id items) ++ continues_to id (sent_by (other side) items) o
         ≡ filter (is_a forms.Begin) (asked side id items) ++ continued_to side items id o
-    by None = refl
-    by (Some w) = refl
+    by o = grind arith
 
 -- ---- a half with that peer
 

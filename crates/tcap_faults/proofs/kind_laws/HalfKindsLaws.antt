@@ -1,5 +1,5 @@
 -- No message that an end sends has F8: it fits the IDs and the beginning of its half (Q.774 3.3).
-use Rattle.std.proofs.Common.{◌≡◌, ◌⊎◌, inl, inr, ℕ, true, List, Option, Some, None, is_some, refl, sym, subst, ◌∙◌}
+use Rattle.std.proofs.Common.{◌≡◌, ◌⊎◌, inl, inr, ℕ, true, List, Option, Some, None, is_some, refl, sym, subst, ◌∙◌, arith}
 use Rattle.std.specs.Prelude.{◌||◌}
 use Rattle.std.proofs.lemmas.Bool.{both_ways, not-true, or_cases}
 use Rattle.tcap_msg.specs.declared.message.Message.{Message}
@@ -38,8 +38,7 @@ not_another otid None is so = cc
 not_another otid (Some own) is so = both_ways (is_id otid (Some own)) (not-true _ so) (is_that_id otid (Some own) is)
 
 none_another : (otid : List ℕ) (own : Option (List ℕ)) → own ≡ None → is_another otid own ≡ true → ⊥
-none_another otid None is so = cc
-none_another otid (Some own) is so = cc
+none_another otid own is so = grind (arith, is, so)
 
 -- A message that is sent over a half whose peer's ID is plain.
 module _ {table : Table} {side : Side} {e : End} {coming : List Message} {items : List Item}
@@ -93,13 +92,7 @@ module _ {table : Table} {side : Side} {e : End} {coming : List Message} {items 
   begun_speaks : (otid : List ℕ) → began side otid items ≡ true
       → ((f.half.phase ≡ phases.Active) × (f.half.own ≡ Some otid))
       ⊎ ((f.half.phase ≡ phases.Received) × (with_own e otid ≡ None)) → f.slot ≡ slots.Begun
-  begun_speaks otid begun speaks = by (begin_from side otid items) refl begun
-    where
-      by : (o : Option Message) → begin_from side otid items ≡ o → is_some o ≡ true → f.slot ≡ slots.Begun
-      by None none is = cc
-      by (Some b) found is =
-          let (has, begins) = find_has (begins_from otid) (sent_by side items) b found in
-          begun_is otid b begins (all_use view b has) speaks
+  begun_speaks otid begun speaks = grind (arith, begun)
 
   -- A Continue over an accepted half comes from no ID that the end began.
   accepted_other : f.slot ≡ slots.Accepted → (n : Message) → n ≡ m
@@ -123,15 +116,7 @@ module _ {table : Table} {side : Side} {e : End} {coming : List Message} {items 
   begun_other m is so = cc
 
   not_other : goes_from_other side items h.how h.own m ≡ true → ⊥
-  not_other so = by (either_slot f.slot)
-    where
-      by : (f.slot ≡ slots.Begun) ⊎ (f.slot ≡ slots.Accepted) → ⊥
-      by (inl slot) =
-          begun_other m refl
-          (subst (λ (x : How). goes_from_other side items x h.own m ≡ true) (how_begun_half view m id half plain slot) so)
-      by (inr slot) =
-          accepted_other slot m refl
-          (subst (λ (x : How). goes_from_other side items x h.own m ≡ true) (how_accepted view m id half plain slot) so)
+  not_other so = grind (arith, either_slot f.slot)
 
   -- The half was not answered as closed.
   none_closed : (o : Option (List ℕ)) → h.own ≡ o → was_closed side items o ≡ true → ⊥

@@ -1,5 +1,5 @@
 -- No half is open at a quiet mark.
-use Rattle.std.proofs.Common.{◌≡◌, ◌⊎◌, inl, inr, ℕ, Bool, true, false, cond, List, [], ◌∷◌, ◌++◌, Option, Some, None, Ok, option_map, refl, sym, ap, ◌∙◌}
+use Rattle.std.proofs.Common.{◌≡◌, ◌⊎◌, inl, inr, ℕ, Bool, true, false, cond, List, [], ◌∷◌, ◌++◌, Option, Some, None, Ok, option_map, refl, sym, ap, ◌∙◌, arith}
 use Rattle.std.specs.Prelude.{◌&&◌}
 use Rattle.std.specs.Map.{lookup}
 use Rattle.std.specs.BTreeMap.{is_at}
@@ -36,15 +36,7 @@ use Rattle.tcap_faults.proofs.view_laws.ViewLaws.{View, view_of}
 closed_found : (es : List (List ℕ × Half)) (test : List ℕ → Bool) (h : Half) → all_closed es ≡ true
     → lookup test es ≡ Some h → is_closed h.phase ≡ true
 closed_found [] test h closed found = cc
-closed_found ((key, half) ∷ more) test h closed found =
-    by (is_closed half.phase) refl closed (test key) found (closed_found more test h)
-  where
-    by : (b : Bool) → is_closed half.phase ≡ b → cond b (all_closed more) false ≡ true
-        → (t : Bool) → cond t (Some half) (lookup test more) ≡ Some h
-        → (all_closed more ≡ true → lookup test more ≡ Some h → is_closed h.phase ≡ true) → is_closed h.phase ≡ true
-    by true so closed true found rest = let same : half ≡ h = cc in rw (← same) so
-    by true so closed false found rest = rest closed found
-    by false so closed t found rest = cc
+closed_found ((key, half) ∷ more) test h closed found = grind (arith, closed, found, closed_found more test h)
 
 closed_in : (e : End) → (all_closed e.begun && all_closed e.accepted) ≡ true → (f : KeptHalf) → Has e f
     → is_closed f.half.phase ≡ true

@@ -38,8 +38,7 @@ use Rattle.tcap_faults.proofs.kind_laws.HalfFacts.{either_slot, stands_so}
 -- ---- how a half began
 
 not_accepted_either : (b : Bool) → is_accepted (cond b Unanswered Begun) ≡ false
-not_accepted_either true = refl
-not_accepted_either false = refl
+not_accepted_either b = grind arith
 
 -- A half is accepted exactly if the peer sent a Begin and the provider did not refuse it.
 pub accepted_stands : (side : Side) (items : List Item) (id : List ℕ)
@@ -48,8 +47,7 @@ pub accepted_stands : (side : Side) (items : List Item) (id : List ℕ)
 accepted_stands side items id = by (has_a forms.Begin (asked side id items)) (begun_from side items id)
   where
     refused_or : (r : Bool) → is_accepted (cond r Refused Accepted) ≡ not r
-    refused_or true = refl
-    refused_or false = refl
+    refused_or r = grind arith
 
     by : (b : Bool) (own : Option (List ℕ))
         → is_accepted (half_by side items id b own).how ≡ (b && not (was_refused side id items))
@@ -72,9 +70,7 @@ received_or false false = inr (refl, refl)
 
 -- At most one Continue counts as received.
 received_most : (b c : Bool) → cond (b || c) 0 1 ≤ 1
-received_most true c = omega arith
-received_most false true = omega arith
-received_most false false = omega arith
+received_most b c = grind arith
 
 -- A provider of an end replies with an Abort to a message that is on its way.
 module _ {table : Table} {side : Side} {e : End} {coming : List Message} {items : List Item} (m : Message)

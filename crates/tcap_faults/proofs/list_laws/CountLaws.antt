@@ -28,22 +28,14 @@ pub one_covered : (a b c : Bool) → (c ≡ true → (a || b) ≡ true) → one 
 one_covered true b c covered = one_below c (one b)
   where
     one_below : (x : Bool) (n : ℕ) → one x ≤ 1 + n
-    one_below true n = omega arith
-    one_below false n = omega arith
-one_covered false b c covered = by c (one_weaker c b covered)
-  where
-    by : (x : Bool) → one x ≤ one b → one x ≤ 0 + one b
-    by x less = omega arith
+    one_below x n = grind arith
+one_covered false b c covered = grind (arith, one_weaker c b covered)
 
 -- ---- lists
 
 -- The first element is counted if it passes.
 pub count_more : {A : Type 0} (p : A → Bool) (x : A) (xs : List A) → count p (x ∷ xs) ≡ one (p x) + count p xs
-count_more {A} p x xs = by (p x)
-  where
-    by : (b : Bool) → length (cond b (x ∷ filter p xs) (filter p xs)) ≡ one b + count p xs
-    by true = omega arith
-    by false = omega arith
+count_more {A} p x xs = grind arith
 
 -- The count of two joined lists is the sum.
 pub count_both : {A : Type 0} (p : A → Bool) (xs ys : List A) → count p (xs ++ ys) ≡ count p xs + count p ys
@@ -102,12 +94,7 @@ count_never (x ∷ xs) = count_never xs
 -- If a test finds an element, its count is at least 1.
 pub any_counts : {A : Type 0} (p : A → Bool) (xs : List A) → list_any p xs ≡ true → 1 ≤ count p xs
 any_counts p [] found = cc
-any_counts {A} p (x ∷ xs) found = by (p x) (any_counts p xs) found (count_more p x xs)
-  where
-    by : (b : Bool) → (list_any p xs ≡ true → 1 ≤ count p xs) → (b || list_any p xs) ≡ true
-        → count p (x ∷ xs) ≡ one b + count p xs → 1 ≤ count p (x ∷ xs)
-    by true later is more = omega arith
-    by false later is more = omega (arith, later is)
+any_counts {A} p (x ∷ xs) found = grind (arith, any_counts p xs, found, count_more p x xs)
 
 -- If the count of a test is at least 1, it finds an element.
 pub counts_any : {A : Type 0} (p : A → Bool) (xs : List A) → 1 ≤ count p xs → list_any p xs ≡ true

@@ -1,5 +1,5 @@
 -- What tests find in a list, and tests of messages.
-use Rattle.std.proofs.Common.{◌≡◌, ◌⊎◌, inl, inr, Bool, true, false, cond, List, [], ◌∷◌, ◌++◌, Some, None, refl, sym, ap, ◌∙◌}
+use Rattle.std.proofs.Common.{◌≡◌, ◌⊎◌, inl, inr, Bool, true, false, cond, List, [], ◌∷◌, ◌++◌, Some, None, refl, sym, ap, ◌∙◌, arith}
 use Rattle.std.specs.Prelude.{Contains, filter, ◌||◌}
 use Rattle.std.specs.List.{find, list_any}
 use Rattle.std.proofs.lemmas.List.{append-nil, append_assoc}
@@ -74,8 +74,7 @@ filter_is {A} p (y ∷ ys) x has = by (p y) refl has (filter_is p ys x)
 
 -- A Begin asks for a dialogue if its portion is a request.
 pub request_is : (m : Message) → is_a forms.Begin m ≡ true → is_begin_with_request m ≡ is_request (dialogue_in m)
-request_is (Begin otid dialogue components) is = refl
-request_is m is = cc
+request_is m is = grind (arith, is)
 
 -- ---- one more item
 
@@ -90,5 +89,4 @@ one_more passes seen (x ∷ items) item =
     by : (b : Bool)
         → (b || (one_passes passes (seen ++ x ∷ []) items || passes (seen ++ x ∷ items) item))
         ≡ ((b || one_passes passes (seen ++ x ∷ []) items) || passes (seen ++ x ∷ items) item)
-    by true = refl
-    by false = refl
+    by b = grind arith

@@ -1,5 +1,5 @@
 -- Lists with two tests, and with functions of their elements.
-use Rattle.std.proofs.Common.{◌≡◌, ◌⊎◌, inl, inr, ℕ, Bool, true, false, cond, not, ◌&&◌, ◌||◌, List, [], ◌∷◌, Option, Some, None, bytes_eq, filter, is_some, refl, ap, ◌∙◌}
+use Rattle.std.proofs.Common.{◌≡◌, ◌⊎◌, inl, inr, ℕ, Bool, true, false, cond, not, ◌&&◌, ◌||◌, List, [], ◌∷◌, Option, Some, None, bytes_eq, filter, is_some, refl, ap, ◌∙◌, arith}
 use Rattle.std.specs.Prelude.{Contains, filter_map}
 use Rattle.std.specs.List.{cons_option, find, flat_map, list_any}
 use Rattle.std.proofs.lemmas.Bool.{both_ways, false_from_ne_true}
@@ -12,10 +12,7 @@ use Rattle.tcap_faults.specs.Counts.{is_nothing}
 use Rattle.tcap_faults.proofs.list_laws.FindLaws.{any_is}
 
 pub and_turned : (a b : Bool) → (a && b) ≡ (b && a)
-and_turned true true = refl
-and_turned true false = refl
-and_turned false true = refl
-and_turned false false = refl
+and_turned a b = grind arith
 
 -- ---- two tests
 
@@ -29,8 +26,7 @@ filter_both {A} p q (x ∷ xs) = by (p x) (filter_both p q xs)
 
     by : (b : Bool) → filter q (filter p xs) ≡ both
         → filter q (cond b (x ∷ filter p xs) (filter p xs)) ≡ cond (b && q x) (x ∷ both) both
-    by true rest = ap (λ ys. cond (q x) (x ∷ ys) ys) rest
-    by false rest = rest
+    by b rest = grind (arith, rest)
 
 -- The order of two tests does not matter.
 pub filter_turned : {A : Type 0} (p q : A → Bool) (xs : List A) → filter q (filter p xs) ≡ filter (λ x. q x && p x) xs
@@ -39,12 +35,7 @@ filter_turned p q xs = filter_both p q xs ∙ filter_agree _ _ (λ x. and_turned
 -- A test of what a filter keeps finds what both tests find.
 pub any_both : {A : Type 0} (p q : A → Bool) (xs : List A) → list_any q (filter p xs) ≡ list_any (λ x. p x && q x) xs
 any_both p q [] = refl
-any_both p q (x ∷ xs) = by (p x) (any_both p q xs)
-  where
-    by : (b : Bool) → list_any q (filter p xs) ≡ list_any (λ y. p y && q y) xs
-        → list_any q (cond b (x ∷ filter p xs) (filter p xs)) ≡ ((b && q x) || list_any (λ y. p y && q y) xs)
-    by true rest = ap (λ b. q x || b) rest
-    by false rest = rest
+any_both p q (x ∷ xs) = grind (arith, any_both p q xs)
 
 pub any_agree : {A : Type 0} (p q : A → Bool) (xs : List A) → ((x : A) → p x ≡ q x) → list_any p xs ≡ list_any q xs
 any_agree p q xs same = ap (λ test. list_any test xs) (fun_ext same)
@@ -60,13 +51,11 @@ found_both p q (x ∷ xs) = by (p x) (found_both p q xs)
   where
     kept : (c : Bool) → find q (filter p xs) ≡ find (λ y. q y && p y) xs
         → cond c (Some x) (find q (filter p xs)) ≡ cond (c && true) (Some x) (find (λ y. q y && p y) xs)
-    kept true rest = refl
-    kept false rest = rest
+    kept c rest = grind (arith, rest)
 
     left : (c : Bool) → find q (filter p xs) ≡ find (λ y. q y && p y) xs
         → find q (filter p xs) ≡ cond (c && false) (Some x) (find (λ y. q y && p y) xs)
-    left true rest = rest
-    left false rest = rest
+    left c rest = grind (arith, rest)
 
     by : (b : Bool) → find q (filter p xs) ≡ find (λ y. q y && p y) xs
         → find q (cond b (x ∷ filter p xs) (filter p xs)) ≡ cond (q x && b) (Some x) (find (λ y. q y && p y) xs)
@@ -78,21 +67,12 @@ found_both p q (x ∷ xs) = by (p x) (found_both p q xs)
 -- A test finds an element exactly if a filter keeps one.
 pub any_kept : {A : Type 0} (p : A → Bool) (xs : List A) → list_any p xs ≡ not (is_nothing (filter p xs))
 any_kept p [] = refl
-any_kept p (x ∷ xs) = by (p x) (any_kept p xs)
-  where
-    by : (b : Bool) → list_any p xs ≡ not (is_nothing (filter p xs))
-        → (b || list_any p xs) ≡ not (is_nothing (cond b (x ∷ filter p xs) (filter p xs)))
-    by true rest = refl
-    by false rest = rest
+any_kept p (x ∷ xs) = grind (arith, any_kept p xs)
 
 -- A test finds an element exactly if there is a first that passes.
 pub any_found : {A : Type 0} (p : A → Bool) (xs : List A) → list_any p xs ≡ is_some (find p xs)
 any_found p [] = refl
-any_found p (x ∷ xs) = by (p x) (any_found p xs)
-  where
-    by : (b : Bool) → list_any p xs ≡ is_some (find p xs) → (b || list_any p xs) ≡ is_some (cond b (Some x) (find p xs))
-    by true rest = refl
-    by false rest = rest
+any_found p (x ∷ xs) = grind (arith, any_found p xs)
 
 -- If no element passes, none is found.
 pub none_passes : {A : Type 0} (p : A → Bool) (xs : List A) → ((x : A) → Contains xs x → p x ≡ false)
@@ -142,9 +122,4 @@ flat_map_is {A} {B} f (z ∷ zs) y has = by (Contains-append_cases (f z) (flat_m
 pub any_id : {A : Type 0} (f : A → Option (List ℕ)) (id : List ℕ) (xs : List A)
     → list_any (bytes_eq id) (filter_map f xs) ≡ list_any (λ x. is_id id (f x)) xs
 any_id f id [] = refl
-any_id f id (x ∷ xs) = by (f x) (any_id f id xs)
-  where
-    by : (o : Option (List ℕ)) → list_any (bytes_eq id) (filter_map f xs) ≡ list_any (λ y. is_id id (f y)) xs
-        → list_any (bytes_eq id) (cons_option o (filter_map f xs)) ≡ (is_id id o || list_any (λ y. is_id id (f y)) xs)
-    by None rest = rest
-    by (Some other) rest = ap (λ b. bytes_eq id other || b) rest
+any_id f id (x ∷ xs) = grind (arith, any_id f id xs)

@@ -1,5 +1,5 @@
 -- The open halves of an end have their stories after a message that it sends.
-use Rattle.std.proofs.Common.{◌≡◌, ◌⊎◌, inl, inr, ℕ, Bool, true, false, List, [], ◌∷◌, ◌++◌, Option, Some, None, Result, Ok, Err, is_none, refl, sym, ◌∙◌}
+use Rattle.std.proofs.Common.{◌≡◌, ◌⊎◌, inl, inr, ℕ, Bool, true, false, List, [], ◌∷◌, ◌++◌, Option, Some, None, Result, Ok, Err, is_none, refl, sym, ◌∙◌, arith}
 use Rattle.tcap_parts.specs.declared.component.Component.{Component}
 use Rattle.tcap_parts.specs.declared.dialogue.Dialogue.{Dialogue}
 use Rattle.tcap_msg.specs.declared.message.Message.{Message}
@@ -171,11 +171,7 @@ module _ (table : Table) (side : Side) (items : List Item) (gone : List Message)
 
     -- A message that answers a Begin goes over an accepted half.
     answers_begin : Answers (Said m) half.kept.half half.now → half.kept.slot ≡ Accepted
-    answers_begin it = by half.kept.slot (before.kept half.kept half.had)
-      where
-        by : (slot : Slot) → IsKept slot half.kept.key half.kept.half → slot ≡ Accepted
-        by Accepted kept = refl
-        by Begun kept = let none = it.own_was in cc
+    answers_begin it = grind (arith, before.kept half.kept half.had, it.own_was)
 
     keeps_own : Turned table (Said m) half.kept.half half.now → KeepsOwn half.kept.slot half.kept.half half.now
     keeps_own (stays it) = inl it.own

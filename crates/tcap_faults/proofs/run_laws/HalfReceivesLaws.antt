@@ -180,8 +180,7 @@ module _ (table : Table) (side : Side) (items : List Item) (gone : List Message)
       last is = rw is refl
 
       by : (b : Bool) → list_any responds (m ∷ []) ≡ true → (b || list_any responds (m ∷ [])) ≡ true
-      by true is = refl
-      by false is = is
+      by b is = grind (arith, is)
 
   -- The ID is the peer's.
   same_id : (id : List ℕ) (o : Option (List ℕ)) → o ≡ Some otid → o ≡ Some id → otid ≡ id

@@ -1,5 +1,5 @@
 -- One more item: what an end sent and began with it.
-use Rattle.std.proofs.Common.{◌≡◌, ℕ, true, false, List, [], ◌∷◌, ◌++◌, Option, Some, None, refl, ap, ◌∙◌}
+use Rattle.std.proofs.Common.{◌≡◌, ℕ, true, false, List, [], ◌∷◌, ◌++◌, Option, Some, None, refl, ap, ◌∙◌, arith}
 use Rattle.std.specs.Prelude.{filter, ◌&&◌, is_none}
 use Rattle.std.specs.List.{find}
 use Rattle.std.proofs.lemmas.List.{append-nil}
@@ -78,5 +78,4 @@ told_not side items m id apart =
 pub told_same : (side : Side) (items later : List Item) (peer : Option (List ℕ))
     → sent_by side later ≡ sent_by side items
     → told_to side later peer ≡ told_to side items peer
-told_same side items later None is = refl
-told_same side items later (Some id) is = ap (filter (tells_to id)) is
+told_same side items later peer is = grind (arith, is)

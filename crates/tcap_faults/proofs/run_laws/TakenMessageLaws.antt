@@ -65,18 +65,8 @@ none_more p q xs m fails =
 -- If a message passes, those from the first that passes on end with the new message.
 first_more : (p : Message → Bool) (xs : List Message) (m : Message) → list_any p (xs ++ m ∷ []) ≡ true
     → from_first p (xs ++ m ∷ []) ≡ from_first p xs ++ m ∷ []
-first_more p [] m is = by (p m) is
-  where
-    by : (b : Bool) → (b || false) ≡ true → cond b (m ∷ []) [] ≡ m ∷ []
-    by true is = refl
-    by false is = cc
-first_more p (x ∷ xs) m is = by (p x) is (first_more p xs m)
-  where
-    by : (b : Bool) → (b || list_any p (xs ++ m ∷ [])) ≡ true
-        → (list_any p (xs ++ m ∷ []) ≡ true → from_first p (xs ++ m ∷ []) ≡ from_first p xs ++ m ∷ [])
-        → cond b (x ∷ xs ++ m ∷ []) (from_first p (xs ++ m ∷ [])) ≡ cond b (x ∷ xs) (from_first p xs) ++ m ∷ []
-    by true is rest = refl
-    by false is rest = rest is
+first_more p [] m is = grind (arith, is)
+first_more p (x ∷ xs) m is = grind (arith, is, first_more p xs m)
 
 pub itself : (id : List ℕ) → is_id id (Some id) ≡ true
 itself id = is_that_id id (Some id) refl

@@ -26,22 +26,12 @@ use Rattle.tcap_faults.proofs.component_laws.CodeListLaws.{code_same}
 -- An invocation whose operation passes was brought by an Invoke of such an operation.
 pub code_brought : (table : Table) (x : ℤ) (test : Code → Bool)
     → IsBrought table x (λ item. test item.code) (invokes_so x test)
-code_brought table x test h (Invoke id linked code parameter) = by (is_invoke_id x id)
-  where
-    by : (b : Bool) → gain (λ item. test item.code) (cond b (Some (item_of table h id linked code)) None) ≡ true
-        → (b && test code) ≡ true
-    by true is = is
-    by false is = cc
+code_brought table x test h (Invoke id linked code parameter) = λ h1. grind (arith, h1)
 code_brought table x test h c = λ is. cc
 
 -- Each invocation was brought by an Invoke.
 pub any_brought : (table : Table) (x : ℤ) → IsBrought table x (λ item. true) (invokes x)
-any_brought table x h (Invoke id linked code parameter) = by (is_invoke_id x id)
-  where
-    by : (b : Bool) → gain (λ (item : Invocation). true) (cond b (Some (item_of table h id linked code)) None) ≡ true
-        → b ≡ true
-    by true is = refl
-    by false is = cc
+any_brought table x h (Invoke id linked code parameter) = λ h1. grind (arith, h1)
 any_brought table x h c = λ is. cc
 
 -- ---- which component takes an invocation
@@ -116,17 +106,11 @@ none_takes table x passes c is = cc
 
 -- No component is a Return Result Last and a Return Error.
 not_both : (x : ℤ) (c : Component) → is_last_result x c ≡ true → is_error x c ≡ true → ⊥
-not_both x (Invoke id linked code parameter) first second = cc
-not_both x (ReturnResult last id body) first second = cc
-not_both x (ReturnError id code parameter) first second = cc
-not_both x (Reject id problem) first second = cc
+not_both x c first second = grind (arith, first, second)
 
 not_third : (x : ℤ) (c : Component) → (is_last_result x c || is_error x c) ≡ true
     → rejects_invoke x any_problem c ≡ true → ⊥
-not_third x (Invoke id linked code parameter) first second = cc
-not_third x (ReturnResult last id body) first second = cc
-not_third x (ReturnError id code parameter) first second = cc
-not_third x (Reject id problem) first second = cc
+not_third x c first second = grind (arith, first, second)
 
 -- Results and errors are counted together.
 pub count_answers : (x : ℤ) (cs : List Component)

@@ -15,8 +15,7 @@ use Rattle.tcap_faults.proofs.list_laws.CountLaws.{count_apart, count_covered}
 -- ---- tests of operations
 
 either_and : (a b c : Bool) → (a && (b || c)) ≡ true → (a && b || a && c) ≡ true
-either_and true b c is = is
-either_and false b c is = cc
+either_and a b c is = grind (arith, is)
 
 both_and : (a b c : Bool) → (c ≡ true → b ≡ true) → (a && c) ≡ true → (a && b) ≡ true
 both_and true b c then_so is = then_so is
@@ -71,9 +70,7 @@ codes_either p x cs = omega (arith, above, below)
     to_any t c is = cc
 
     split : (a b : Bool) → a ≡ true → (a && b || a && not b) ≡ true
-    split true true is = refl
-    split true false is = refl
-    split false b is = cc
+    split a b is = grind (arith, is)
 
     from_any : (c : Component) → invokes x c ≡ true → (invokes_so x p c || invokes_so x q c) ≡ true
     from_any (Invoke id linked code parameter) is = split (is_invoke_id x id) (p code) is
@@ -91,11 +88,7 @@ codes_either p x cs = omega (arith, above, below)
 -- An operation has one class.
 pub class_apart : (table : Table) (m n : ℕ) → m ≢ n → (code : Code) → has_class table m code ≡ true
     → has_class table n code ≡ true → ⊥
-class_apart table m n other code = by (class_of table code)
-  where
-    by : (o : Option ℕ) → is_class m o ≡ true → is_class n o ≡ true → ⊥
-    by None first second = cc
-    by (Some k) first second = other (sym (eqb-true k m first) ∙ eqb-true k n second)
+class_apart table m n other code = λ h1 h2. grind (arith, h1, h2)
 
 -- Classes 1 and 3 report success, and classes 1 and 2 report failure.
 pub reports_class : (table : Table) (is_result : Bool) (code : Code) → class_reports table is_result code
@@ -103,9 +96,7 @@ pub reports_class : (table : Table) (is_result : Bool) (code : Code) → class_r
 reports_class table is_result code = by is_result (class_of table code)
   where
     two : (a b : Bool) → cond a true (cond b true false) ≡ (a || b)
-    two true b = refl
-    two false true = refl
-    two false false = refl
+    two a b = grind arith
 
     by : (b : Bool) (o : Option ℕ) → of_class (reports b) o ≡ (is_class 1 o || is_class (cond b 3 2) o)
     by b None = refl
@@ -141,9 +132,7 @@ pub count_reporting : (table : Table) (x : ℤ) (cs : List Component)
 count_reporting table x cs = omega (arith, either, count_reports table true x cs)
   where
     covered : (a b c s f : Bool) → s ≡ (a || c) → f ≡ (a || b) → (s || f) ≡ true → (s || b) ≡ true
-    covered a b c true f success failure is = refl
-    covered true b c false f success failure is = cc
-    covered false b c false f success failure is = sym failure ∙ is
+    covered a b c s f success failure is = grind (arith, success, failure, is)
 
     either : count (invokes_so x (λ code. class_reports table true code || class_reports table false code)) cs
         ≤ count (invokes_so x (class_reports table true)) cs + count_class table x 2 cs

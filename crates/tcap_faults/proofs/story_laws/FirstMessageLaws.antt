@@ -144,12 +144,7 @@ uni_again table ids own before (c ∷ more) known is has = cc
 uni_sends : (table : Table) (e made : End) (dialogue : Option Dialogue) (components : List Component)
     → send_uni table e dialogue components ≡ Ok made → send_uni_components table [] components ≡ Ok tt
 uni_sends table e made dialogue components is =
-    by (send_uni_components table [] components) refl (needs_ok (may_be_uni dialogue) faults.WrongDialogue _ made is).1
-  where
-    by : (r : Result (Unit {0}) EndFault) → send_uni_components table [] components ≡ r → (r >> Ok e) ≡ Ok made
-        → send_uni_components table [] components ≡ Ok tt
-    by (Ok done) at is = at
-    by (Err reason) at is = cc
+    grind (arith, (needs_ok (may_be_uni dialogue) faults.WrongDialogue _ made is).1)
 
 pub uni_none_again : (table : Table) (e made : End) (dialogue : Option Dialogue) (components : List Component)
     → send_uni table e dialogue components ≡ Ok made → has_component invokes_again [] [] components ≡ true → ⊥

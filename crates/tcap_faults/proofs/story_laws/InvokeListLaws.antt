@@ -30,12 +30,7 @@ id_same x id is = tells_apart exact_signed x id is
 
 -- The comparison is symmetric.
 pub id_turned : (x id : ℤ) → is_invoke_id id x ≡ is_invoke_id x id
-id_turned x id = by (is_invoke_id id x) (is_invoke_id x id) refl refl
-  where
-    by : (a b : Bool) → is_invoke_id id x ≡ a → is_invoke_id x id ≡ b → is_invoke_id id x ≡ is_invoke_id x id
-    by true b there here = let same = id_same id x there in rw (same) refl
-    by false true there here = let same = id_same x id here in rw (same) refl
-    by false false there here = there ∙ sym here
+id_turned x id = grind arith
 
 apart : (x id : ℤ) → is_invoke_id x id ≡ false → x ≢ id
 apart x id other same = both_ways (is_invoke_id x id) other (rw same (id_itself id))
@@ -88,15 +83,13 @@ pub listed_changed : {A : Type 0} (x id : ℤ) (list : List A) (items : List (�
 listed_changed {A} x id [] items rises = ap listed_by (kept_removed x id items rises) ∙ by (is_invoke_id x id)
   where
     by : (b : Bool) → listed_by (cond b None (kept_at int_cmp items x)) ≡ cond b [] (listed x items)
-    by true = refl
-    by false = refl
+    by b = grind arith
 listed_changed {A} x id (first ∷ more) items rises =
     ap listed_by (kept_inserted x id (first ∷ more) items) ∙ by (is_invoke_id x id)
   where
     by : (b : Bool)
         → listed_by (cond b (Some (first ∷ more)) (kept_at int_cmp items x)) ≡ cond b (first ∷ more) (listed x items)
-    by true = refl
-    by false = refl
+    by b = grind arith
 
 -- ---- one item less
 
@@ -128,26 +121,15 @@ TakesWhat {A} (Some fits) passes = (a : A) → fits a ≡ true → passes a ≡ 
 -- After the oldest is taken, no more elements pass.
 fewer : {A : Type 0} (fits passes : A → Bool) (xs : List A) → count passes (without_oldest fits xs) ≤ count passes xs
 fewer fits passes [] = omega arith
-fewer {A} fits passes (x ∷ xs) = by (fits x) (fewer fits passes xs)
-  where
-    by : (b : Bool) → count passes (without_oldest fits xs) ≤ count passes xs
-        → count passes (cond b xs (x ∷ without_oldest fits xs)) ≤ count passes (x ∷ xs)
-    by true rest = omega (arith, count_more passes x xs)
-    by false rest = omega (arith, rest, count_more passes x xs, count_more passes x (without_oldest fits xs))
+fewer {A} fits passes (x ∷ xs) =
+    grind (arith, fewer fits passes xs, count_more passes x xs, count_more passes x (without_oldest fits xs))
 
 -- After the oldest is taken, one less passes, if the taken one did.
 one_fewer : {A : Type 0} (fits passes : A → Bool) (xs : List A) → ((a : A) → fits a ≡ true → passes a ≡ true)
     → list_any fits xs ≡ true → 1 + count passes (without_oldest fits xs) ≤ count passes xs
 one_fewer fits passes [] shows found = cc
-one_fewer {A} fits passes (x ∷ xs) shows found = by (fits x) refl found (one_fewer fits passes xs shows)
-  where
-    by : (b : Bool) → fits x ≡ b → (b || list_any fits xs) ≡ true
-        → (list_any fits xs ≡ true → 1 + count passes (without_oldest fits xs) ≤ count passes xs)
-        → 1 + count passes (cond b xs (x ∷ without_oldest fits xs)) ≤ count passes (x ∷ xs)
-    by true fits_it is rest =
-        let passes_it = shows x fits_it in omega (arith, count_more passes x xs, ap one passes_it)
-    by false other is rest =
-        omega (arith, rest is, count_more passes x xs, count_more passes x (without_oldest fits xs))
+one_fewer {A} fits passes (x ∷ xs) shows found =
+    grind (arith, found, one_fewer fits passes xs shows, count_more passes x xs, ap one passes_it, count_more passes x (without_oldest fits xs))
 
 -- If an element that passes is taken whenever `b` holds, it and those that are left are at most those before.
 pub count_taken : {A : Type 0} (o : Option (A → Bool)) (passes : A → Bool) (b : Bool) (xs ys : List A) → Took o xs ys

@@ -1,6 +1,7 @@
 -- Rejects with an invoke problem: which problems a received invocation allows, and which Invokes have them (Q.773
 -- 4.2.2, Q.774 3.2).
 use Rattle.std.proofs.Common.{◌≡◌, ℕ, ℤ, ◌+◌, ◌-◌, ◌≤◌, arith, Bool, true, false, cond, ltb, List, [], ◌∷◌, ◌++◌, Option, Some, None, Ok, is_some, refl, sym, ap, ◌∙◌}
+use Rattle.std.proofs.lemmas.Bool.Decides.{nat_tests}
 use Rattle.std.specs.Prelude.{◌||◌, ◌==◌}
 use Rattle.std.specs.List.{list_any}
 use Rattle.std.proofs.lemmas.Bool.{and_from, and_parts, eqb-true, or_from, or_right}
@@ -31,14 +32,7 @@ use Rattle.tcap_refute.proofs.TestLaws.{or_none}
 pub one_found : (n : ℕ) (passes : ℕ → Bool) (numbers : List ℕ) → is_one_of n numbers ≡ true → passes n ≡ true
     → list_any passes numbers ≡ true
 one_found n passes [] is pass = cc
-one_found n passes (first ∷ more) is pass = by (n == first) refl is (one_found n passes more)
-  where
-    by : (b : Bool) → (n == first) ≡ b → cond b true (is_one_of n more) ≡ true
-        → (is_one_of n more ≡ true → passes n ≡ true → list_any passes more ≡ true)
-        → (passes first || list_any passes more) ≡ true
-    by true same found later =
-        let here : passes first ≡ true = ap passes (sym (eqb-true n first same)) ∙ pass in rw here refl
-    by false other found later = or_right (passes first) (list_any passes more) (later found pass)
+one_found n passes (first ∷ more) is pass = grind (arith, nat_tests, is, one_found n passes more)
 
 -- The problems of a link that an Invoke has, by the linked operations of the invocation that it names.
 abbrev pub link_problems_by : List (Code × Unit {0}) → Bool → List ℕ
@@ -47,12 +41,7 @@ link_problems_by (first ∷ more) is_listed = cond is_listed [] (7 ∷ [])
 
 pub linked_are : (table : Table) (code to : Code)
     → link_problems_of table code (Some to) ≡ link_problems_by (linked_of table to) (links table to code)
-linked_are table code to = by (linked_of table to) (links table to code) refl refl
-  where
-    by : (list : List (Code × Unit {0})) (b : Bool) → linked_of table to ≡ list → links table to code ≡ b
-        → link_problems_of table code (Some to) ≡ link_problems_by list b
-    by [] b is is_listed = rw is refl
-    by (first ∷ more) b is is_listed = rw is (ap (λ listed. cond listed [] (7 ∷ [])) is_listed)
+linked_are table code to = grind arith
 
 -- A test finds a problem of an Invoke exactly if it finds a problem of its ID or of its link, if no problem from 1 to
 -- 4 passes.
@@ -75,8 +64,7 @@ problem_found table h id linked code passes not_1 not_2 not_3 not_4 = by (listed
     by (first ∷ more) = rw fixed (two (passes 0) (list_any passes link))
       where
         two : (a b : Bool) → (a || b) ≡ (a || false || b)
-        two true b = refl
-        two false b = refl
+        two a b = grind arith
 
 -- A test that no problem of a link passes finds none of a link.
 none_of_link : (table : Table) (h : Half) (linked : Option ℤ) (code : Code) (passes : ℕ → Bool) → passes 5 ≡ false
@@ -202,8 +190,7 @@ module _ (table : Table) (x : ℤ) where
 
       by : (list : List Invocation) → list_any (is_problem 0) (id_problems list) ≡ true
           → 1 ≤ count (λ (item : Invocation). true) list
-      by [] none = cc
-      by (first ∷ more) some = omega (arith, count_more (λ (item : Invocation). true) first more)
+      by list some = grind (arith, some)
 
   -- These invocations and the Rejects with problem 0 are fewer than the Invokes with the ID, or none.
   second : (past : List Happening) (h : Half) → IsLed table past h

@@ -46,13 +46,7 @@ began_so : (passes : Code → Bool) (x : ℤ) (c : Component) (was now : Option 
     → Began (invoked_by x c) was now
     → one (invokes_so x passes c) + one (sent_so passes (operation_sent_by was))
     ≡ one (sent_so passes (operation_sent_by now))
-began_so passes x (Invoke id linked code parameter) was now began = by (is_invoke_id x id) began
-  where
-    by : (b : Bool) → Began (cond b (Some code) None) was now
-        → one (b && passes code) + one (sent_so passes (operation_sent_by was))
-        ≡ one (sent_so passes (operation_sent_by now))
-    by true (none, some) = rw (none, some) (omega arith)
-    by false same = rw same (omega arith)
+began_so passes x (Invoke id linked code parameter) was now began = grind (arith, began)
 began_so passes x c was now began = rw began (omega arith)
 
 pub sent_began : (table : Table) (passes : Code → Bool) (x : ℤ) (g k : Half) (c : Component)
@@ -65,23 +59,14 @@ sent_began table passes x g k c is =
 pub stays_fewer : (passes ends : Code → Bool) (o : Option Code)
     → one (sent_so passes (stays ends o)) ≤ one (sent_so passes o)
 stays_fewer passes ends None = omega arith
-stays_fewer passes ends (Some code) = by (ends code)
-  where
-    by : (b : Bool) → one (sent_so passes (cond b None (Some code))) ≤ one (passes code)
-    by true = omega arith
-    by false = omega arith
+stays_fewer passes ends (Some code) = grind arith
 
 -- An invocation that left Operation Sent was ended by a component that shows it.
 stays_ended : (passes ends : Code → Bool) (shown : Bool) (o : Option Code)
     → ((code : Code) → ends code ≡ true → o ≡ Some code → passes code ≡ true → shown ≡ true)
     → one (sent_so passes o) ≤ one shown + one (sent_so passes (stays ends o))
 stays_ended passes ends shown None shows = omega arith
-stays_ended passes ends shown (Some code) shows = by (ends code) refl
-  where
-    by : (b : Bool) → ends code ≡ b
-        → one (passes code) ≤ one shown + one (sent_so passes (cond b None (Some code)))
-    by true is = let less = one_weaker (passes code) shown (shows code is refl) in omega (arith, less)
-    by false is = omega arith
+stays_ended passes ends shown (Some code) shows = grind (arith, less)
 
 -- ---- an invocation in Operation Sent was sent
 
@@ -112,13 +97,7 @@ sent_invoked table passes x = holds table (AreInvoked passes x) (are_invoked tab
 expires_sent : (table : Table) (o : Option OwnInvocation) (code : Code) → operation_sent_by o ≡ Some code
     → may_expire table o ≡ true → expires_of table code ≡ true
 expires_sent table None code is may = cc
-expires_sent table (Some own) code is may = by own.code own.state is may
-  where
-    by : (operation : Code) (state : InvocationState)
-        → operation_sent_by (Some (record { code = operation; state = state })) ≡ Some code
-        → may_expire table (Some (record { code = operation; state = state })) ≡ true → expires_of table code ≡ true
-    by operation states.OperationSent is may = let same : operation ≡ code = cc in rw same at may
-    by operation states.WaitForReject is may = cc
+expires_sent table (Some own) code is may = grind (arith, is, may)
 
 -- Operations that do not expire, if received components show each of their ends.
 module _ (table : Table) (passes : Code → Bool) (shows : Component → Bool) (x : ℤ)
@@ -159,11 +138,7 @@ module _ (table : Table) (passes : Code → Bool) (shows : Component → Bool) (
 
 began_any : (x : ℤ) (c : Component) (was now : Option OwnInvocation) → Began (invoked_by x c) was now
     → one (invokes x c) + one (is_some was) ≡ one (is_some now)
-began_any x (Invoke id linked code parameter) was now began = by (is_invoke_id x id) began
-  where
-    by : (b : Bool) → Began (cond b (Some code) None) was now → one b + one (is_some was) ≡ one (is_some now)
-    by true (none, some) = rw (none, some) (omega arith)
-    by false same = rw same (omega arith)
+began_any x (Invoke id linked code parameter) was now began = grind (arith, began)
 began_any x c was now began = rw began (omega arith)
 
 -- An ID that a message invokes was free before, and is not free after.

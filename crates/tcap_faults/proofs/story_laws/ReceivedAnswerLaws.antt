@@ -114,8 +114,7 @@ shows_other table sort None found = cc
 shows_other table sort (Some code) found = by (class_of table code) found
   where
     never : (s : Bool) → list_any (is_problem 1) (answer_problems s) ≡ false
-    never true = refl
-    never false = refl
+    never s = grind arith
 
     by_reports : (class : ℕ) (b : Bool) → reports sort class ≡ b
         → list_any (is_problem 1) (cond b (answer_problems sort) (1 ∷ [])) ≡ true

@@ -1,5 +1,5 @@
 -- What a received component changes in what a half keeps of one invoke ID (Q.774 3.2).
-use Rattle.std.proofs.Common.{◌≡◌, ℕ, ℤ, Bool, true, false, cond, List, [], ◌∷◌, ◌++◌, Option, Some, None, refl, sym, ap, ◌∙◌}
+use Rattle.std.proofs.Common.{◌≡◌, ℕ, ℤ, Bool, true, false, cond, List, [], ◌∷◌, ◌++◌, Option, Some, None, refl, sym, ap, ◌∙◌, arith}
 use Rattle.std.specs.Prelude.{◌&&◌, option_map}
 use Rattle.std.specs.BTreeMap.{insert_entry, is_at}
 use Rattle.std.specs.Map.{remove_entry}
@@ -28,11 +28,7 @@ answered_by table (Some code) = option_map (λ class. (code, class)) (class_of t
 
 answered_is : (table : Table) (h : Half) (id : ℤ)
     → answered_operation table h id ≡ answered_by table (operation_sent h id)
-answered_is table h id = by (operation_sent h id) refl
-  where
-    by : (o : Option Code) → operation_sent h id ≡ o → answered_operation table h id ≡ answered_by table o
-    by None is = rw is refl
-    by (Some code) is = rw is refl
+answered_is table h id = grind arith
 
 -- The problems with which the answer may be rejected.
 abbrev pub problems_of : Bool → Option (Code × ℕ) → List ℕ
@@ -64,8 +60,7 @@ waits_out h id code x = ap operation_sent_by (kept_inserted x id made h.out) ∙
     made = record { code = code; state = states.WaitForReject }
 
     by : (b : Bool) → operation_sent_by (cond b (Some made) (own_invocation h x)) ≡ cond b None (operation_sent h x)
-    by true = refl
-    by false = refl
+    by b = grind arith
 
 answer_does : (h : Half) (is_result last : Bool) (id : ℤ) (o : Option (Code × ℕ))
     → AnswerDoes h (receive_answer h is_result last id o) is_result last id o
@@ -100,8 +95,7 @@ ends_by table x (Reject (Some id) (problems.Invoke n)) code = is_invoke_id x id
 ends_by table x _ code = false
 
 stays_all : (o : Option Code) → stays (λ code. false) o ≡ o
-stays_all None = refl
-stays_all (Some code) = refl
+stays_all o = grind arith
 
 -- An answer ends an invocation if the class of its operation says so.
 ends_class : (table : Table) (is_result last : Bool) (o : Option Code)
@@ -109,19 +103,8 @@ ends_class : (table : Table) (is_result last : Bool) (o : Option Code)
     ≡ stays (λ code. last && class_reports table is_result code) o
 ends_class table is_result true None = refl
 ends_class table is_result false None = refl
-ends_class table is_result true (Some code) = by (class_of table code) refl
-  where
-    by : (o : Option ℕ) → class_of table code ≡ o
-        → cond (ends_it is_result true (option_map (λ class. (code, class)) o)) None (Some code)
-        ≡ cond (of_class (reports is_result) o) None (Some code)
-    by None is = refl
-    by (Some class) is = refl
-ends_class table is_result false (Some code) = by (class_of table code)
-  where
-    by : (o : Option ℕ) → cond (ends_it is_result false (option_map (λ class. (code, class)) o)) None (Some code)
-        ≡ Some code
-    by None = refl
-    by (Some class) = refl
+ends_class table is_result true (Some code) = grind arith
+ends_class table is_result false (Some code) = grind arith
 
 answer_out : (table : Table) (h : Half) (is_result last : Bool) (id x : ℤ)
     → operation_sent (receive_answer h is_result last id (answered_operation table h id)) x
@@ -135,12 +118,10 @@ answer_out table h is_result last id x =
     ended b = ends_it is_result b (answered_by table (operation_sent h id))
 
     some : (e : Bool) → cond (e && true) None (operation_sent h id) ≡ cond e None (operation_sent h id)
-    some true = refl
-    some false = refl
+    some e = grind arith
 
     none : (e : Bool) → cond (e && false) None (operation_sent h x) ≡ operation_sent h x
-    none true = refl
-    none false = refl
+    none e = grind arith
 
     by : (b : Bool) → is_invoke_id x id ≡ b → (l : Bool) → cond (ended l && b) None (operation_sent h x)
         ≡ stays (λ code. l && b && class_reports table is_result code) (operation_sent h x)
@@ -159,8 +140,7 @@ removed_out : (h : Half) (id x : ℤ) → Rises int_cmp h.out
 removed_out h id x rises = ap operation_sent_by (kept_removed x id h.out rises) ∙ by (is_invoke_id x id)
   where
     ended : (o : Option Code) → None ≡ stays (λ code. true) o
-    ended None = refl
-    ended (Some code) = refl
+    ended o = grind arith
 
     by : (b : Bool) → operation_sent_by (cond b None (own_invocation h x)) ≡ stays (λ code. b) (operation_sent h x)
     by true = ended (operation_sent h x)

@@ -1,5 +1,6 @@
 -- No Reject that a half sends has F13: something that the half received has its problem (Q.773 4.2.2, Q.774 3.2).
 use Rattle.std.proofs.Common.{◌≡◌, ℕ, ℤ, ◌+◌, ◌≤◌, arith, Bool, true, false, cond, eqb, leb, ltb, List, [], ◌∷◌, ◌++◌, Option, Some, Ok, not, refl, ap}
+use Rattle.std.proofs.lemmas.Bool.Decides.{nat_tests}
 use Rattle.std.specs.Prelude.{◌&&◌, nat_le, nat_lt}
 use Rattle.std.specs.List.{list_any}
 use Rattle.std.proofs.lemmas.Bool.{and_from, and_parts, eqb-true, le-ltb, leb-true, ltb-true}
@@ -166,8 +167,7 @@ module _ (table : Table) (s : HalfOf) (past : List Happening) (g : Half)
             low false m below = le-ltb 4 m (omega arith)
 
             by : (b : Bool) → list_any (λ m. ltb (cond b 2 4) m) (answer_problems b) ≡ true → ⊥
-            by true found = cc
-            by false found = cc
+            by b found = grind (arith, nat_tests, found)
 
         never : (cs : List Component) → count (invokes_so id (λ code. false)) cs ≡ 0
         never cs =

@@ -1,5 +1,6 @@
 -- There is a first tangled ID exactly if a message goes over tangled IDs, and it is found from what is kept.
-use Rattle.std.proofs.Common.{◌≡◌, ◌⊎◌, inl, inr, ℕ, Bool, true, false, cond, ◌||◌, List, [], ◌∷◌, ◌++◌, Option, Some, None, is_some, refl, sym, ap, ap₂, ◌∙◌}
+use Rattle.std.proofs.Common.{◌≡◌, ◌⊎◌, inl, inr, ℕ, Bool, true, false, cond, ◌||◌, List, [], ◌∷◌, ◌++◌, Option, Some, None, is_some, refl, sym, ap, ap₂, ◌∙◌, arith}
+use Rattle.std.proofs.lemmas.Bool.Decides.{nat_tests}
 use Rattle.std.specs.Prelude.{Contains, ◌&&◌, nat_le}
 use Rattle.std.specs.List.{flat_map, list_any}
 use Rattle.std.proofs.lemmas.Bool.{or_parts}
@@ -27,45 +28,25 @@ use Rattle.tcap_faults.proofs.transaction_laws.TangledLaws.{all_same}
 -- ---- whether there is one
 
 none_from : {A : Type 0} (o : Option A) → is_some o ≡ false → o ≡ None
-none_from None none = refl
-none_from (Some a) none = cc
+none_from o none = grind (arith, none)
 
 either_some : {A : Type 0} (a b : Option A) → is_some (or_else a b) ≡ (is_some a || is_some b)
-either_some None b = refl
-either_some (Some a) b = refl
+either_some a b = grind arith
 
 or_else_all : {A : Type 0} (a b c : Option A) → or_else (or_else a b) c ≡ or_else a (or_else b c)
-or_else_all None b c = refl
-or_else_all (Some a) b c = refl
+or_else_all a b c = grind arith
 
 -- An own ID has a reason exactly if it is tangled.
 own_has : (side : Side) (items : List Item) (own : List ℕ) → is_some (tangle_of_own side items own) ≡ is_own_tangled side items own
-own_has side items own = by (is_own_tangled side items own)
-  where
-    by : (b : Bool) → is_some (cond b (Some TwoIds) None) ≡ b
-    by true = refl
-    by false = refl
+own_has side items own = grind arith
 
 -- An ID of the peer has a reason exactly if it is tangled.
 peer_has : (side : Side) (items : List Item) (id : List ℕ) → is_some (tangle_of_peer side items id) ≡ is_peer_tangled side items id
-peer_has side items id =
-    by (two_differ (owns_of side items id)) (nat_le 2 (count (is_a forms.Begin) (asked side id items)))
-    (has_a forms.Begin (asked side id items) && list_any (goes_to_begun side items) (asked side id items))
-    (one_passes (guesses side id) [] items)
-  where
-    by : (a b c d : Bool)
-        → is_some (cond a (Some TwoIds) (cond b (Some BegunTwice) (cond c (Some BothBegan) (cond d (Some Guessed) None))))
-        ≡ (a || b || c || d)
-    by true b c d = refl
-    by false true c d = refl
-    by false false true d = refl
-    by false false false true = refl
-    by false false false false = refl
+peer_has side items id = grind (arith, nat_tests)
 
 module _ (of : Side) where
   for_has : (id : List ℕ) (o : Option Tangle) → is_some (tangled_for of id o) ≡ is_some o
-  for_has id None = refl
-  for_has id (Some why) = refl
+  for_has id o = grind arith
 
   module _ (why : List ℕ → Option Tangle) (p : List ℕ → Bool) (is : (id : List ℕ) → is_some (why id) ≡ p id) where
     -- There is a first tangled ID among some IDs exactly if one of them is tangled.
@@ -186,19 +167,12 @@ id_told side items own id =
     ∙ turned (is_peer_tangled side items id) (list_any (is_own_tangled side items) (near side items own id)) _
   where
     turned : (a b c : Bool) → (a || (b || c)) ≡ (b || (a || c))
-    turned true true c = refl
-    turned true false c = refl
-    turned false true c = refl
-    turned false false c = refl
+    turned a b c = grind arith
 
 -- There is a first tangled ID of a message exactly if it goes over tangled IDs.
 pub tangled_told : (side : Side) (items : List Item) (m : Message)
     → is_some (tangled_in side items m) ≡ goes_over_tangled side items m
-tangled_told side items m = by (dtid_in m) refl
-  where
-    by : (o : Option (List ℕ)) → dtid_in m ≡ o → is_some (tangled_in side items m) ≡ goes_over_tangled side items m
-    by None none = rw none refl
-    by (Some id) to = rw to (id_told side items (own_of_continue m) id)
+tangled_told side items m = grind arith
 
 -- The message goes over the first tangled ID.
 pub tangled_over : (side : Side) (items : List Item) (m : Message) (t : TangledId) → tangled_in side items m ≡ Some t

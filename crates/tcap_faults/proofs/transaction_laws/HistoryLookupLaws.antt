@@ -1,5 +1,5 @@
 -- What is looked up in a history agrees with the messages.
-use Rattle.std.proofs.Common.{◌≡◌, ℕ, Bool, true, false, not, ◌&&◌, List, [], Option, Some, None, is_some, filter, refl, sym, ap, ◌∙◌}
+use Rattle.std.proofs.Common.{◌≡◌, ℕ, Bool, true, false, not, ◌&&◌, List, [], Option, Some, None, is_some, filter, refl, sym, ap, ◌∙◌, arith}
 use Rattle.std.specs.Prelude.{is_none}
 use Rattle.std.specs.List.{find, list_any}
 use Rattle.std.specs.Map.{lookup}
@@ -31,8 +31,7 @@ use Rattle.tcap_faults.proofs.list_laws.TwoTests.{any_agree, any_both, any_found
 
 -- The peer's peer is the end.
 pub other_twice : (side : Side) → other (other side) ≡ side
-other_twice sides.A = refl
-other_twice sides.B = refl
+other_twice side = grind arith
 
 -- ---- what is kept at an ID
 
@@ -74,8 +73,7 @@ module _ (table : Table) (side : Side) (items : List Item) (id : List ℕ) where
 -- Something is kept exactly if something was sent.
 kept_where : (table : Table) (p : Message → Bool) (ms : List Message) (o : Option SentFrom)
     → IsFromAt table (filter p ms) o → is_some o ≡ list_any p ms
-kept_where table p ms None is = sym (any_kept p ms ∙ ap (λ kept. not (is_nothing kept)) is)
-kept_where table p ms (Some kept) is = sym (any_kept p ms ∙ ap not is.0)
+kept_where table p ms o is = grind (arith, is)
 
 pub used_at : (table : Table) (side : Side) (items : List Item) (id : List ℕ) (o : Option SentFrom)
     → IsFromAt table (sent_from side items id) o → is_some o ≡ has_used side items id
@@ -88,10 +86,7 @@ used_is {table} {side} {items} {facts} is id = used_at table side items id _ (is
 -- Something is kept of the Begin exactly if there is one.
 pub begin_there : (table : Table) (o : Option Message) (kept : Option FirstBegin) → IsFirstBegin table o kept
     → is_some kept ≡ is_some o
-begin_there table None None is = refl
-begin_there table None (Some kept) is = absurd is
-begin_there table (Some begin) None is = absurd is
-begin_there table (Some begin) (Some kept) is = refl
+begin_there table o kept is = grind (arith, is)
 
 -- The first Begin from an ID.
 pub begin_is : (side : Side) (items : List Item) (id : List ℕ)
@@ -116,8 +111,7 @@ module _ (table : Table) (side : Side) (items : List Item) (id : List ℕ) where
 -- A Continue to an ID is kept exactly if one was sent.
 came_where : (table : Table) (p : Message → Bool) (ms : List Message) (o : Option Came)
     → IsCameAt table (filter p ms) o → is_some o ≡ list_any p ms
-came_where table p ms None is = sym (any_kept p ms ∙ ap (λ kept. not (is_nothing kept)) is)
-came_where table p ms (Some kept) is = sym (any_kept p ms ∙ ap not is.0)
+came_where table p ms o is = grind (arith, is)
 
 pub goes_there : (table : Table) (ms : List Message) (kept : SentFrom) → IsFrom table ms kept → (id : List ℕ)
     → is_some (lookup (is_at (octets_cmp id)) kept.came.entries) ≡ list_any (goes_on_to id) ms
@@ -137,12 +131,7 @@ silenced_is side items id = any_turned (λ m. is_id id (dtid_in m)) silences (se
 ends_it : (id : List ℕ) (m : Message) → (is_id id (dtid_in m) && ends m) ≡ is_id id (ended_by m)
 ends_it id (Continue otid dtid dialogue components) = and_false (is_id id (Some dtid))
 ends_it id (EndMessage dtid dialogue components) = and_true (is_id id (Some dtid))
-ends_it id (Abort dtid reason) = by (is_none (reason_cause reason)) refl
-  where
-    by : (b : Bool) → is_none (reason_cause reason) ≡ b
-        → (is_id id (Some dtid) && ends (Abort dtid reason)) ≡ is_id id (ended_by (Abort dtid reason))
-    by true none = rw none (and_true (is_id id (Some dtid)))
-    by false some = rw some (and_false (is_id id (Some dtid)))
+ends_it id (Abort dtid reason) = grind arith
 ends_it id m = refl
 
 pub ended_is : (side : Side) (items : List Item) (id : List ℕ)

@@ -1,5 +1,5 @@
 -- The histories of both ends after one more message of one of them.
-use Rattle.std.proofs.Common.{◌≡◌, ℕ, Bool, true, false, not, ◌&&◌, ◌||◌, List, [], ◌∷◌, ◌++◌, Option, Some, None, bytes_eq, refl, sym, ap, ◌∙◌}
+use Rattle.std.proofs.Common.{◌≡◌, ℕ, Bool, true, false, not, ◌&&◌, ◌||◌, List, [], ◌∷◌, ◌++◌, Option, Some, None, bytes_eq, refl, sym, ap, ◌∙◌, arith}
 use Rattle.std.specs.Prelude.{filter}
 use Rattle.std.specs.List.{list_any}
 use Rattle.std.specs.Map.{lookup}
@@ -42,8 +42,7 @@ use Rattle.tcap_faults.proofs.transaction_laws.JoinUpdateLaws.{own_joined_more, 
 use Rattle.tcap_faults.proofs.view_laws.GrowthLaws.{not_other}
 
 thrice_not : (side : Side) → is_side (other (other (other side))) side ≡ false
-thrice_not sides.A = refl
-thrice_not sides.B = refl
+thrice_not side = grind arith
 
 module _ (table : Table) (side : Side) (items : List Item) (m : Message) (own peer : SideFacts)
     (was : IsSide table side items own) (their : IsSide table (other side) items peer) where

@@ -49,11 +49,7 @@ found_again p ids id has = find-append p ids (id ∷ []) ∙ by (find p ids) (p 
     by None false is passes = refl
 
 same_octets : (a b : List ℕ) → not (bytes_eq a b) ≡ false → a ≡ b
-same_octets a b is = by (bytes_eq a b) refl is
-  where
-    by : (c : Bool) → bytes_eq a b ≡ c → not c ≡ false → a ≡ b
-    by true same _ = (bytes_eq-Decides a b).0 same
-    by false apart bad = cc
+same_octets a b is = grind (arith, is)
 
 module _ (id : List ℕ) (ids : List (List ℕ)) (old : Ids) (was : AreIds ids old) (first last : List ℕ)
     (is : old.first ≡ Some first) (at_last : IsLast first old.more.items last) where
@@ -61,8 +57,7 @@ module _ (id : List ℕ) (ids : List (List ℕ)) (old : Ids) (was : AreIds ids o
   first_stays = was.first ∙ by ids (sym is ∙ was.first)
     where
       by : (ids : List (List ℕ)) → Some first ≡ ids_first ids → ids_first ids ≡ ids_first (ids ++ id ∷ [])
-      by [] is = cc
-      by (x ∷ ids) is = refl
+      by ids is = grind (arith, is)
 
   differ_more : two_differ (ids ++ id ∷ []) ≡ (two_differ ids || not (bytes_eq first id))
   differ_more = by ids (sym is ∙ was.first)

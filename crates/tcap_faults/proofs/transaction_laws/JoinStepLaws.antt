@@ -1,5 +1,5 @@
 -- What is kept of joined IDs, step by step.
-use Rattle.std.proofs.Common.{◌≡◌, ℕ, Bool, true, false, not, ◌&&◌, ◌||◌, List, [], Some, None, bytes_eq, refl, sym, ap, ◌∙◌}
+use Rattle.std.proofs.Common.{◌≡◌, ℕ, Bool, true, false, not, ◌&&◌, ◌||◌, List, [], Some, None, bytes_eq, refl, sym, ap, ◌∙◌, arith}
 use Rattle.std.specs.Prelude.{OnOk, filter, filter_map}
 use Rattle.std.specs.List.{list_any}
 use Rattle.std.specs.Map.{lookup}
@@ -82,9 +82,7 @@ module _ (side : Side) (items : List Item) (id : List ℕ) where
     first_has ended is old new more = λ key. more key ∙ rw (is, fresh) (by (set.contains octets_cmp old key) (bytes_eq key id) _)
       where
         by : (a b e : Bool) → (a || (b && e)) ≡ (a || ((b && true) && e))
-        by true b e = refl
-        by false true e = refl
-        by false false e = refl
+        by a b e = grind arith
 
 -- ---- a Continue
 
@@ -109,8 +107,7 @@ module _ (side : Side) (items : List Item) (id : List ℕ) where
       (by (set.contains octets_cmp old own) _ _)
     where
       by : (a b c : Bool) → ((a || b) || c) ≡ (a || (b || c))
-      by true b c = refl
-      by false b c = refl
+      by a b c = grind arith
 
 -- ---- IDs from which Continues were sent to one
 

@@ -1,5 +1,5 @@
 -- Which IDs are joined, and whether the IDs that a message goes over are tangled, from what is kept of both ends.
-use Rattle.std.proofs.Common.{◌≡◌, ◌⊎◌, inl, inr, ℕ, Bool, true, false, cond, ◌&&◌, ◌||◌, List, [], ◌∷◌, ◌++◌, Option, Some, bytes_eq, filter, refl, sym, ap, subst, ◌∙◌, ap₂, None}
+use Rattle.std.proofs.Common.{◌≡◌, ◌⊎◌, inl, inr, ℕ, Bool, true, false, cond, ◌&&◌, ◌||◌, List, [], ◌∷◌, ◌++◌, Option, Some, bytes_eq, filter, refl, sym, ap, subst, ◌∙◌, ap₂, None, arith}
 use Rattle.std.specs.Prelude.{Contains, filter_map, nat_le}
 use Rattle.std.specs.List.{flat_map, list_any}
 use Rattle.std.proofs.lemmas.Bool.{and_from, and_parts, or_from, or_parts}
@@ -82,10 +82,7 @@ module _ (side : Side) (items : List Item) (own id : List ℕ) where
       ∙ sym (any_both (λ m. is_id id (otid_in m)) (goes_on_to own) (sent_by (other side) items))
     where
       parts : (c i d : Bool) → ((c && i) && d) ≡ (i && (c && d))
-      parts true true d = refl
-      parts true false d = refl
-      parts false true d = refl
-      parts false false d = refl
+      parts c i d = grind arith
 
   -- An ID that the end used is among some IDs exactly if it is among the used ones.
   among_used : has_used side items own ≡ true → (ids : List (List ℕ))
@@ -116,8 +113,7 @@ pub is_it : (id : List ℕ) → bytes_eq id id ≡ true
 is_it id = (bytes_eq-Decides id id).1 refl
 
 pub it_is : (id : List ℕ) (o : Option (List ℕ)) → is_id id o ≡ true → o ≡ Some id
-it_is id None is = cc
-it_is id (Some x) is = ap (λ x. Some x) (sym ((bytes_eq-Decides id x).0 is))
+it_is id o is = grind (arith, is)
 
 -- These messages have a Continue from one ID to the other.
 pub record Goes (ms : List Message) (from to : List ℕ) : Type 0 where
@@ -184,8 +180,7 @@ module _ (side : Side) (items : List Item) where
       ∙ any_agree _ _ (dtids_of ms) (λ own. so own (began side own items) refl) ∙ of ms
     where
       so : (own : List ℕ) (b : Bool) → began side own items ≡ b → (has_used side items own && b) ≡ b
-      so own true begun = and_from _ true (began_used side items own begun) refl
-      so own false not_begun = and_false (has_used side items own)
+      so own b not_begun = grind (arith, not_begun)
 
       of : (ns : List Message) → list_any (λ own. began side own items) (dtids_of ns) ≡ list_any (goes_to_begun side items) ns
       of [] = refl

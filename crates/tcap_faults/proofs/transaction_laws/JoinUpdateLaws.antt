@@ -1,5 +1,5 @@
 -- The histories of an end and of its peer after one more message: joined and ended IDs.
-use Rattle.std.proofs.Common.{◌≡◌, ◌⊎◌, inl, inr, ℕ, Bool, true, false, cond, not, ◌&&◌, ◌||◌, List, [], ◌∷◌, ◌++◌, Some, None, bytes_eq, refl, sym, ap, ◌∙◌}
+use Rattle.std.proofs.Common.{◌≡◌, ◌⊎◌, inl, inr, ℕ, Bool, true, false, cond, not, ◌&&◌, ◌||◌, List, [], ◌∷◌, ◌++◌, Some, None, bytes_eq, refl, sym, ap, ◌∙◌, arith}
 use Rattle.std.specs.Prelude.{Contains, filter}
 use Rattle.std.specs.List.{list_any}
 use Rattle.std.specs.Map.{lookup}
@@ -42,38 +42,19 @@ over_bools : (e a u b f g : Bool) → (e ≡ true → f ≡ (not u && b)) → (e
 over_bools false a u b f g on off = rw (off refl) (by a u b)
   where
     by : (a u b : Bool) → (((a || (u && b)) || false) || false) ≡ ((a || false) || ((u || false) && b))
-    by true u b = refl
-    by false true true = refl
-    by false true false = refl
-    by false false b = refl
+    by a u b = grind arith
 over_bools true a u b f g on off = rw (on refl) (by a u b g)
   where
     by : (a u b g : Bool) → (((a || (u && b)) || (not u && b)) || g) ≡ ((a || g) || ((u || true) && b))
-    by true u b g = refl
-    by false true true true = refl
-    by false true true false = refl
-    by false true false true = refl
-    by false true false false = refl
-    by false false true true = refl
-    by false false true false = refl
-    by false false false true = refl
-    by false false false false = refl
+    by a u b g = grind arith
 
 peer_bools : (e a u b r x : Bool) → (e ≡ true → r ≡ (u && x))
     → ((a || (u && b)) || (e && r)) ≡ (a || (u && (b || (e && x))))
-peer_bools false a u b r x on = by a u b
-  where
-    by : (a u b : Bool) → ((a || (u && b)) || false) ≡ (a || (u && (b || false)))
-    by true u b = refl
-    by false true true = refl
-    by false true false = refl
-    by false false b = refl
+peer_bools false a u b r x on = grind arith
 peer_bools true a u b r x on = rw (on refl) (by a u b x)
   where
     by : (a u b x : Bool) → ((a || (u && b)) || (u && x)) ≡ (a || (u && (b || x)))
-    by true u b x = refl
-    by false true b x = refl
-    by false false b x = refl
+    by a u b x = grind arith
 
 module _ (side : Side) (items : List Item) (m : Message) where
   -- ---- own IDs that are joined with an ID that the end ended

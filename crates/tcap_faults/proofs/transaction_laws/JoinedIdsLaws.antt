@@ -1,5 +1,5 @@
 -- What is kept of joined IDs after one more ID, and which IDs are joined.
-use Rattle.std.proofs.Common.{◌≡◌, ◌⊎◌, inl, inr, ℕ, Bool, true, false, cond, ◌&&◌, ◌||◌, List, [], ◌∷◌, ◌++◌, Option, Some, None, is_some, bytes_eq, refl, sym, ap, ◌∙◌}
+use Rattle.std.proofs.Common.{◌≡◌, ◌⊎◌, inl, inr, ℕ, Bool, true, false, cond, ◌&&◌, ◌||◌, List, [], ◌∷◌, ◌++◌, Option, Some, None, is_some, bytes_eq, refl, sym, ap, ◌∙◌, arith}
 use Rattle.std.specs.Prelude.{Contains, ◌+◌, ◌<◌, ◌≤◌, filter, filter_map, get_or, length, take}
 use Rattle.std.specs.List.{list_any}
 use Rattle.std.specs.Map.{lookup}
@@ -43,10 +43,7 @@ module _ {A : Type 0} (p q : A → Bool) where
   any_either (x ∷ xs) = rw (any_either xs) (by (p x) (q x) (list_any p xs) (list_any q xs))
     where
       by : (a b c d : Bool) → ((a || b) || (c || d)) ≡ ((a || c) || (b || d))
-      by true b c d = refl
-      by false true true d = refl
-      by false true false d = refl
-      by false false c d = refl
+      by a b c d = grind arith
 
 -- ---- lists with the same members
 
@@ -200,8 +197,7 @@ module _ (p : List ℕ → Bool) (kept : Option (List ℕ)) (first : List ℕ) (
       ∙ by (p first) (list_any p (take i xs)) (p x))
     where
       by : (a b c : Bool) → (a || (b || c)) ≡ ((a || b) || c)
-      by true b c = refl
-      by false b c = refl
+      by a b c = grind arith
 
 module _ (kept : Option (List ℕ)) (first : List ℕ) (is : kept ≡ Some first) (xs : List (List ℕ)) where
   module _ (id : List ℕ) (old : BTreeMap (List ℕ) Ids) where
@@ -239,8 +235,7 @@ module _ (kept : Option (List ℕ)) (first : List ℕ) (is : kept ≡ Some first
         ∙ ap (λ b. set.contains octets_cmp old id || b) (sym (any_next (bytes_eq id) kept first is xs i x within at))
       where
         by : (a b c : Bool) → ((a || b) || c) ≡ (a || (b || c))
-        by true b c = refl
-        by false b c = refl
+        by a b c = grind arith
 
 -- ---- which IDs are joined
 

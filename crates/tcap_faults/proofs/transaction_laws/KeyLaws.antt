@@ -1,5 +1,5 @@
 -- Transaction IDs as keys.
-use Rattle.std.proofs.Common.{◌≡◌, ℕ, Bool, true, false, cond, ◌||◌, List, Some, bytes_eq, refl, ap, ◌∙◌}
+use Rattle.std.proofs.Common.{◌≡◌, ℕ, Bool, true, false, cond, ◌||◌, List, Some, bytes_eq, refl, ap, ◌∙◌, arith}
 use Rattle.std.specs.BTreeMap.{is_at}
 use Rattle.std.specs.BTreeSet.{BTreeSet}
 use Rattle.std.specs.BTreeSet as set
@@ -26,7 +26,4 @@ set_more id old new puts other =
     ∙ by (set.contains octets_cmp old other) (bytes_eq other id)
   where
     by : (was is : Bool) → cond is true was ≡ (was || is)
-    by true true = refl
-    by true false = refl
-    by false true = refl
-    by false false = refl
+    by was is = grind arith

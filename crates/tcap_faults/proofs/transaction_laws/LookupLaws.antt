@@ -1,5 +1,5 @@
 -- What is found of the IDs of a message.
-use Rattle.std.proofs.Common.{◌≡◌, Bor, ℕ, Bool, true, false, not, ◌&&◌, List, [], ◌∷◌, Option, Some, None, is_some, bytes_eq, refl, sym, ap}
+use Rattle.std.proofs.Common.{◌≡◌, Bor, ℕ, Bool, true, false, not, ◌&&◌, List, [], ◌∷◌, Option, Some, None, is_some, bytes_eq, refl, sym, ap, arith}
 use Rattle.std.specs.Prelude.{option_copied}
 use Rattle.std.specs.List.{list_any}
 use Rattle.std.specs.Option.{option_to_list}
@@ -21,8 +21,7 @@ use Rattle.tcap_faults.specs.KeptForMessage.{IsOwn, IsOwnAt, IsThere, IsThereAt}
 
 -- A reference is there exactly if its value is.
 pub some_lent : {X : Type 0} (o : Option (Bor X)) → is_some o ≡ is_some (option_copied o)
-some_lent None = refl
-some_lent (Some lent) = refl
+some_lent o = grind arith
 
 module _ (table : Table) (side : Side) (items : List Item) where
   -- If an own ID is found, the message has one.
@@ -38,12 +37,10 @@ module _ (table : Table) (side : Side) (items : List Item) where
 
   -- If none is found, the message has none.
   pub own_none : (o : Option (List ℕ)) → IsOwnAt table side items o None → o ≡ None
-  own_none None is = refl
-  own_none (Some id) is = absurd is
+  own_none o is = grind (arith, is)
 
   pub there_none : (o : Option (List ℕ)) → IsThereAt table side items o None → o ≡ None
-  there_none None is = refl
-  there_none (Some id) is = absurd is
+  there_none o is = grind (arith, is)
 
 -- ---- a message that goes over tangled IDs
 

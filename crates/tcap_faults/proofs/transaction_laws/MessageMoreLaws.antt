@@ -1,5 +1,5 @@
 -- What one more message changes in what was sent, and in which IDs are joined.
-use Rattle.std.proofs.Common.{◌≡◌, ℕ, Bool, true, false, cond, ◌&&◌, ◌||◌, List, [], ◌∷◌, ◌++◌, Option, Some, None, is_some, refl, sym, ap, ◌∙◌}
+use Rattle.std.proofs.Common.{◌≡◌, ℕ, Bool, true, false, cond, ◌&&◌, ◌||◌, List, [], ◌∷◌, ◌++◌, Option, Some, None, is_some, refl, sym, ap, ◌∙◌, arith}
 use Rattle.std.specs.Prelude.{filter, filter_map, is_none}
 use Rattle.std.specs.List.{list_any}
 use Rattle.std.proofs.lemmas.List.Elements.{filter-append, filter_map-append}
@@ -28,43 +28,30 @@ use Rattle.tcap_faults.proofs.list_laws.OneMoreLaws.{any_more, filter_more}
 
 -- A message without a destination ID, or without an originating ID, is no Continue; a message with both is one.
 pub begin_only : (m : Message) → dtid_in m ≡ None → is_a forms.Continue m ≡ false
-begin_only (Continue otid dtid dialogue components) none = cc
-begin_only m none = refl
+begin_only m none = grind (arith, none)
 
 pub end_only : (m : Message) → otid_in m ≡ None → is_a forms.Continue m ≡ false
-end_only (Continue otid dtid dialogue components) none = cc
-end_only m none = refl
+end_only m none = grind (arith, none)
 
 pub goes_both : (m : Message) (from to : List ℕ) → otid_in m ≡ Some from → dtid_in m ≡ Some to
     → is_a forms.Continue m ≡ true
-goes_both (Continue otid dtid dialogue components) from to otid_is dtid_is = refl
-goes_both m from to otid_is dtid_is = cc
+goes_both m from to otid_is dtid_is = grind (arith, otid_is, dtid_is)
 
 -- A message with an originating ID, or without a destination ID, ends nothing.
 pub ends_none : (m : Message) (from : List ℕ) → otid_in m ≡ Some from → ended_by m ≡ None
-ends_none (EndMessage dtid dialogue components) from is = cc
-ends_none (Abort dtid reason) from is = cc
-ends_none m from is = refl
+ends_none m from is = grind (arith, is)
 
 pub ends_nowhere : (m : Message) → dtid_in m ≡ None → ended_by m ≡ None
-ends_nowhere (EndMessage dtid dialogue components) none = cc
-ends_nowhere (Abort dtid reason) none = cc
-ends_nowhere m none = refl
+ends_nowhere m none = grind (arith, none)
 
 -- Another message that ends something ends its destination ID.
 pub ends_it : (m : Message) (to : List ℕ) → dtid_in m ≡ Some to → is_some (ended_by m) ≡ true → ended_by m ≡ Some to
 ends_it (EndMessage dtid dialogue components) to is ends = is
-ends_it (Abort dtid reason) to is ends = by (is_none (reason_cause reason)) refl ends
-  where
-    by : (b : Bool) → is_none (reason_cause reason) ≡ b → is_some (ended_by (Abort dtid reason)) ≡ true
-        → ended_by (Abort dtid reason) ≡ Some to
-    by true none some = rw none is
-    by false cause some = let bad : false ≡ true = rw cause at some in cc
+ends_it (Abort dtid reason) to is ends = grind (arith, ends)
 ends_it m to is ends = cc
 
 pub ends_not : {A : Type 0} (o : Option A) → is_some o ≡ false → o ≡ None
-ends_not None none = refl
-ends_not (Some x) none = cc
+ends_not o none = grind (arith, none)
 
 -- ---- lists of joined IDs
 
@@ -104,8 +91,7 @@ peers_any p side items own =
     ∙ ap (λ b. list_any p (fronts side items own) || b) (by (has_used side items own))
   where
     by : (b : Bool) → list_any p (cond b (backs side items own) []) ≡ (b && list_any p (backs side items own))
-    by true = refl
-    by false = refl
+    by b = grind arith
 
 -- ---- what was sent
 

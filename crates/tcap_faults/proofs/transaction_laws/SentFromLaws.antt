@@ -46,24 +46,12 @@ answered ms m = list_any responds ms || responds m
 before_more : (ms : List Message) (m : Message)
     → before_response (ms ++ m ∷ []) ≡ before_response ms ++ cond (answered ms m) [] (m ∷ [])
 before_more [] m = refl
-before_more (x ∷ ms) m = by (responds x) (before_more ms m)
-  where
-    by : (b : Bool) → before_response (ms ++ m ∷ []) ≡ before_response ms ++ cond (answered ms m) [] (m ∷ [])
-        → cond b [] (x ∷ before_response (ms ++ m ∷ []))
-        ≡ cond b [] (x ∷ before_response ms) ++ cond ((b || list_any responds ms) || responds m) [] (m ∷ [])
-    by true rest = refl
-    by false rest = ap (λ more. x ∷ more) rest
+before_more (x ∷ ms) m = grind (arith, before_more ms m)
 
 first_more : (ms : List Message) (m : Message)
     → from_first responds (ms ++ m ∷ []) ≡ from_first responds ms ++ cond (answered ms m) (m ∷ []) []
 first_more [] m = refl
-first_more (x ∷ ms) m = by (responds x) (first_more ms m)
-  where
-    by : (b : Bool) → from_first responds (ms ++ m ∷ []) ≡ from_first responds ms ++ cond (answered ms m) (m ∷ []) []
-        → cond b (x ∷ ms ++ m ∷ []) (from_first responds (ms ++ m ∷ []))
-        ≡ cond b (x ∷ ms) (from_first responds ms) ++ cond ((b || list_any responds ms) || responds m) (m ∷ []) []
-    by true rest = refl
-    by false rest = rest
+first_more (x ∷ ms) m = grind (arith, first_more ms m)
 
 module _ (table : Table) (ms : List Message) (m : Message) (old new : Came) (was : IsCame table ms old)
     (is : new.answered ≡ (old.answered || responds m)) where
@@ -102,8 +90,7 @@ begin_only (Begin otid dialogue components) is = (refl, refl)
 begin_only m is = cc
 
 pub continue_only : (m : Message) → is_a forms.Continue m ≡ true → is_a forms.Begin m ≡ false
-continue_only (Continue otid dtid dialogue components) is = refl
-continue_only m is = cc
+continue_only m is = grind (arith, is)
 
 -- The message is neither a Begin nor a Continue.
 abbrev pub IsNeither : Message → Type 0
@@ -123,29 +110,17 @@ module _ {A : Type 0} (p : A → Bool) where
   find_more xs x = find-append p xs (x ∷ []) ∙ by (find p xs)
     where
       by : (o : Option A) → option_or o (cond (p x) (Some x) None) ≡ or_else o (cond (p x) (Some x) None)
-      by None = refl
-      by (Some y) = refl
+      by o = grind arith
 
   -- With one more Begin, there are two exactly if there was one.
   two_with_one : (xs : List A) → nat_le 2 (count p xs + 1) ≡ is_some (find p xs)
   two_with_one [] = refl
-  two_with_one (x ∷ xs) = by (p x) (two_with_one xs)
-    where
-      by : (b : Bool) → nat_le 2 (count p xs + 1) ≡ is_some (find p xs)
-          → nat_le 2 (length (cond b (x ∷ filter p xs) (filter p xs)) + 1) ≡ is_some (cond b (Some x) (find p xs))
-      by true rest = grind (arith, nat_tests)
-      by false rest = rest
+  two_with_one (x ∷ xs) = grind (arith, nat_tests, two_with_one xs)
 
   -- If there was none, there are no two.
   no_two : (xs : List A) → is_some (find p xs) ≡ false → nat_le 2 (count p xs) ≡ false
   no_two [] none = refl
-  no_two (x ∷ xs) none = by (p x) none (no_two xs)
-    where
-      by : (b : Bool) → is_some (cond b (Some x) (find p xs)) ≡ false
-          → (is_some (find p xs) ≡ false → nat_le 2 (count p xs) ≡ false)
-          → nat_le 2 (length (cond b (x ∷ filter p xs) (filter p xs))) ≡ false
-      by true bad rest = cc
-      by false none rest = rest none
+  no_two (x ∷ xs) none = grind (arith, nat_tests, none, no_two xs)
 
 -- ---- the notes for F2 to F7
 

@@ -1,5 +1,5 @@
 -- The summary of what was sent to an ID, after one more message.
-use Rattle.std.proofs.Common.{◌≡◌, ◌⊎◌, inl, ℕ, true, false, ◌||◌, List, [], ◌∷◌, ◌++◌, Some, None, refl, ◌∙◌}
+use Rattle.std.proofs.Common.{◌≡◌, ◌⊎◌, inl, ℕ, true, false, ◌||◌, List, [], ◌∷◌, ◌++◌, Some, None, refl, ◌∙◌, arith}
 use Rattle.std.specs.Prelude.{is_none}
 use Rattle.std.proofs.lemmas.List.{append-nil}
 use Rattle.tcap_msg.specs.declared.kind.Kind.TheVariants as forms
@@ -22,8 +22,7 @@ use Rattle.tcap_faults.proofs.list_laws.OneMoreLaws.{any_more, components_more, 
 -- ---- kinds of messages
 
 no_continue : (m : Message) (cause : ℕ) → cause_in m ≡ Some cause → is_a forms.Continue m ≡ false
-no_continue (Continue otid dtid dialogue components) cause is = cc
-no_continue m cause is = refl
+no_continue m cause is = grind (arith, is)
 
 -- ---- one more message
 

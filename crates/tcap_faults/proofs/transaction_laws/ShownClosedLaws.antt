@@ -1,5 +1,5 @@
 -- Which own ID a message shows to be closed, and which ID it guesses, from what is kept.
-use Rattle.std.proofs.Common.{◌≡◌, ℕ, Bool, true, false, not, ◌&&◌, ◌||◌, List, [], ◌∷◌, Some, None, bytes_eq, refl, sym, ap, ◌∙◌}
+use Rattle.std.proofs.Common.{◌≡◌, ℕ, Bool, true, false, not, ◌&&◌, ◌||◌, List, [], ◌∷◌, Some, None, bytes_eq, refl, sym, ap, ◌∙◌, arith}
 use Rattle.std.specs.List.{list_any}
 use Rattle.std.proofs.lemmas.Bool.{and_from, and_left, and_right}
 use Rattle.std.proofs.lemmas.Slice.Eq.{bytes_eq-Decides}
@@ -46,8 +46,7 @@ all_go : (own : List ℕ) (ms : List Message) → all_go_on_to own ms ≡ all_to
 all_go own ms = rw (some_go ms, elsewhere own ms) refl
 
 pub some_there : (ids : List (List ℕ)) → not (is_nothing ids) ≡ list_any (λ id. true) ids
-some_there [] = refl
-some_there (id ∷ more) = refl
+some_there ids = grind arith
 
 all_same : (own : List ℕ) (xs ys : List (List ℕ)) → AreSame xs ys → all_to own xs ≡ all_to own ys
 all_same own xs ys same =
@@ -55,16 +54,11 @@ all_same own xs ys same =
     refl
 
 all_none : (own : List ℕ) (ids : List (List ℕ)) → None ≡ ids_first ids → all_to own ids ≡ false
-all_none own [] none = refl
-all_none own (x ∷ more) none = cc
+all_none own ids none = grind (arith, none)
 
 all_differ : (own : List ℕ) (ids : List (List ℕ)) → true ≡ two_differ ids → all_to own ids ≡ false
 all_differ own [] differ = cc
-all_differ own (x ∷ more) differ = by (bytes_eq own x) refl
-  where
-    by : (b : Bool) → bytes_eq own x ≡ b → not (not b || list_any (λ y. not (bytes_eq own y)) more) ≡ false
-    by false apart = refl
-    by true same = let one : own ≡ x = (bytes_eq-Decides own x).0 same in rw (one, ← differ) refl
+all_differ own (x ∷ more) differ = grind arith
 
 all_one : (own x : List ℕ) (ids : List (List ℕ)) → false ≡ two_differ ids → Some x ≡ ids_first ids
     → all_to own ids ≡ bytes_eq own x
@@ -102,23 +96,10 @@ module _ (own : List ℕ) (ms : List Message) (used : List ℕ → Bool) where
       goes = kept_go (bytes_eq own x) (λ ids is. all_one own x ids (differ ids is) (first ids is))
 
       pub closed_used : true ≡ used x → bytes_eq own x ≡ (all_go_on_to own ms && used own)
-      closed_used is = by (bytes_eq own x) refl
-        where
-          by : (b : Bool) → bytes_eq own x ≡ b → b ≡ (all_go_on_to own ms && used own)
-          by false apart = sym (and_left _ _ (goes ∙ apart))
-          by true same =
-              let one : own ≡ x = (bytes_eq-Decides own x).0 same in
-              sym (and_from _ _ (goes ∙ same) (rw one (sym is)))
+      closed_used is = grind arith
 
       pub closed_unused : false ≡ used x → false ≡ (all_go_on_to own ms && used own)
-      closed_unused is = by (bytes_eq own x) refl
-        where
-          by : (b : Bool) → bytes_eq own x ≡ b → false ≡ (all_go_on_to own ms && used own)
-          by false apart = sym (and_left _ _ (goes ∙ apart))
-          by true same =
-              let one : own ≡ x = (bytes_eq-Decides own x).0 same in
-              let unused : used own ≡ false = rw one (sym is) in
-              sym (and_right _ _ unused)
+      closed_unused is = grind arith
 
 -- ---- what a message guesses
 

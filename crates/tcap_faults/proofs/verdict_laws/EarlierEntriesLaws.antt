@@ -70,27 +70,16 @@ module _ (entries : List Entry) (number : ℕ) (entry : Entry) (there : slice_ge
 -- In one more entry, no own ID is used again.
 first_stays : (first : Option ℕ) (again : Bool) (k : ℕ) → is_some first ≡ again
     → first ≡ cond again (or_else first (Some k)) None
-first_stays None true k so = cc
-first_stays None false k so = refl
-first_stays (Some n) true k so = refl
-first_stays (Some n) false k so = cc
+first_stays first again k so = grind (arith, so)
 
 -- In one more entry, an own ID may be used again.
 first_more : (first : Option ℕ) (again now : Bool) (k : ℕ) → is_some first ≡ again
     → or_else first (cond now (Some k) None) ≡ cond (again || now) (or_else first (Some k)) None
-first_more None true now k so = cc
-first_more None false true k so = refl
-first_more None false false k so = refl
-first_more (Some n) true now k so = refl
-first_more (Some n) false now k so = cc
+first_more first again now k so = grind (arith, so)
 
 some_more : (first : Option ℕ) (again now : Bool) (k : ℕ) → is_some first ≡ again
     → is_some (or_else first (cond now (Some k) None)) ≡ (again || now)
-some_more None true now k so = cc
-some_more None false true k so = refl
-some_more None false false k so = refl
-some_more (Some n) true now k so = refl
-some_more (Some n) false now k so = cc
+some_more first again now k so = grind (arith, so)
 
 module _ (table : Table) (side : Side) where
   again_more : (seen : List Item) (item : Item)

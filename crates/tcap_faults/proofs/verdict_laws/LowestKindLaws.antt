@@ -1,6 +1,6 @@
 -- The lowest kind of a message is the lowest first kind or else the lowest further kind; and the lowest further kind
 -- over a half.
-use Rattle.std.proofs.Common.{◌≡◌, ℕ, Bool, true, false, cond, not, ◌&&◌, ◌||◌, List, [], ◌∷◌, ◌++◌, Option, Some, None, is_some, refl, sym, ap, ap₂, ◌∙◌}
+use Rattle.std.proofs.Common.{◌≡◌, ℕ, Bool, true, false, cond, not, ◌&&◌, ◌||◌, List, [], ◌∷◌, ◌++◌, Option, Some, None, is_some, refl, sym, ap, ap₂, ◌∙◌, arith}
 use Rattle.std.specs.List.{find, list_any}
 use Rattle.std.proofs.Math.Bool.{or-false}
 use Rattle.std.proofs.lemmas.Bool.{or_parts}
@@ -136,12 +136,7 @@ same_find p q (x ∷ xs) same =
 
 find_two : (p : Kind → Bool) (xs ys : List Kind) → find p (xs ++ ys) ≡ or_else (find p xs) (find p ys)
 find_two p [] ys = refl
-find_two p (x ∷ xs) ys = by (p x) (find_two p xs ys)
-  where
-    by : (b : Bool) → find p (xs ++ ys) ≡ or_else (find p xs) (find p ys)
-        → cond b (Some x) (find p (xs ++ ys)) ≡ or_else (cond b (Some x) (find p xs)) (find p ys)
-    by true rest = refl
-    by false rest = rest
+find_two p (x ∷ xs) ys = grind (arith, find_two p xs ys)
 
 -- The kinds of a message that goes over no tangled IDs.
 abbrev either_kind : Table → Side → List Item → Message → Option (List ℕ) → Kind → Bool
@@ -161,8 +156,7 @@ no_further table side items m (Some id) cause is =
     by : (cause : Option ℕ)
         → find (λ kind. is_of_first_kind table side items m kind || is_of_kind_to table side id items m cause kind) first_kinds
         ≡ find (λ kind. is_of_first_kind table side items m kind || false) first_kinds
-    by None = refl
-    by (Some n) = refl
+    by cause = grind arith
 
 first_alone : (table : Table) (side : Side) (items : List Item) (m : Message)
     → find (either_kind table side items m (dtid_in m)) first_kinds ≡ find (is_of_first_kind table side items m) first_kinds

@@ -1,5 +1,5 @@
 -- The kind of the next item for an end, from the history; and the history after it.
-use Rattle.std.proofs.Common.{◌≡◌, Bool, true, false, cond, not, ◌&&◌, ◌||◌, List, [], ◌∷◌, ◌++◌, Option, Some, None, Result, Ok, Err, refl, sym, ap, subst, ◌∙◌, ap₂, is_some}
+use Rattle.std.proofs.Common.{◌≡◌, Bool, true, false, cond, not, ◌&&◌, ◌||◌, List, [], ◌∷◌, ◌++◌, Option, Some, None, Result, Ok, Err, refl, sym, ap, subst, ◌∙◌, ap₂, is_some, arith}
 use Rattle.std.specs.Prelude.{IfOk}
 use Rattle.std.specs.List.{find}
 use Rattle.tcap_msg.specs.declared.message.Message.{Message}
@@ -77,18 +77,13 @@ either_fault table side items m is =
 
 -- The first of three conditions makes their disjunction hold.
 pub first_so : (a b c : Bool) → a ≡ true → (a || b || c) ≡ true
-first_so true b c is = refl
-first_so false b c is = cc
+first_so a b c is = grind (arith, is)
 
 pub second_so : (a b c : Bool) → b ≡ true → (a || b || c) ≡ true
-second_so true b c is = refl
-second_so false true c is = refl
-second_so false false c is = cc
+second_so a b c is = grind (arith, is)
 
 pub third_so : (a b c : Bool) → c ≡ true → (a || b || c) ≡ true
-third_so true b c is = refl
-third_so false true c is = refl
-third_so false false c is = is
+third_so a b c is = grind (arith, is)
 
 pub none_so : (a b c : Bool) → a ≡ false → b ≡ false → c ≡ false → (a || b || c) ≡ false
 none_so true b c is_a is_b is_c = cc

@@ -1,5 +1,5 @@
 -- The search over the entries, after one more entry.
-use Rattle.std.proofs.Common.{◌≡◌, ℕ, suc, ◌+◌, ◌≤◌, ◌<◌, ◌^◌, Bool, true, false, cond, not, ◌||◌, List, [], ◌∷◌, ◌++◌, length, map, drop, Option, Some, None, Result, Ok, Err, refl, sym, ap, subst, ◌∙◌}
+use Rattle.std.proofs.Common.{◌≡◌, ℕ, suc, ◌+◌, ◌≤◌, ◌<◌, ◌^◌, Bool, true, false, cond, not, ◌||◌, List, [], ◌∷◌, ◌++◌, length, map, drop, Option, Some, None, Result, Ok, Err, refl, sym, ap, subst, ◌∙◌, arith}
 use Rattle.std.specs.Prelude.{get_or}
 use Rattle.std.proofs.Math.Numerals.{suc-eq-add-one}
 use Rattle.std.proofs.Math.Seq.{drop-cons}
@@ -32,8 +32,7 @@ look is_over found = record { is_over = is_over; found = found }
 -- If an item is no fault of an end, the state does not change.
 still : (number : ℕ) (kind : Option Kind) (is_over : Bool) (found : Option Refutation) → kind ≡ None
     → looking_on number kind (look is_over found) ≡ look is_over found
-still number kind true found none = refl
-still number kind false found none = ap (λ k. looking_with number k (look false found)) none
+still number kind is_over found none = grind (arith, none)
 
 -- If the search is over, the state does not change.
 over_still : (table : Table) (items : List Item) (number : ℕ) (item : Item) (side : Side) (looking : Looking)
@@ -63,19 +62,14 @@ pub record IsLookedAt (table : Table) (items : List Item) (number : ℕ) (sender
   pub peer : (side : Side) → is_side side sender ≡ false → looking_at side new ≡ looking_at side old
 
 put_kept : (side : Side) (looking : Looking) (old : SearchState) → (looking_put side looking old).kept ≡ old.kept
-put_kept sides.A looking old = refl
-put_kept sides.B looking old = refl
+put_kept side looking old = grind arith
 
 put_own : (side : Side) (looking : Looking) (old : SearchState) → looking_at side (looking_put side looking old) ≡ looking
-put_own sides.A looking old = refl
-put_own sides.B looking old = refl
+put_own side looking old = grind arith
 
 put_peer : (side sender : Side) (looking : Looking) (old : SearchState) → is_side side sender ≡ false
     → looking_at side (looking_put sender looking old) ≡ looking_at side old
-put_peer sides.A sides.A looking old is = cc
-put_peer sides.A sides.B looking old is = refl
-put_peer sides.B sides.A looking old is = refl
-put_peer sides.B sides.B looking old is = cc
+put_peer side sender looking old is = grind (arith, is)
 
 -- If the search for the sender is not over.
 pub looked_put : (table : Table) (items : List Item) (number : ℕ) (sender : Side) (m : Message) (old : SearchState)

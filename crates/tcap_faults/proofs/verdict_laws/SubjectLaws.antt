@@ -32,21 +32,18 @@ use Rattle.tcap_faults.proofs.component_laws.FewComponentsLaws.{all_more}
 -- ---- a message
 
 pub either : {A : Type 0} (a b : Option A) → option_or a b ≡ or_else a b
-either None b = refl
-either (Some a) b = refl
+either a b = grind arith
 
 module _ (of_one : Bool) (table : Table) (side : Side) (items : List Item) (kind : Kind) where
-  pub alone_is : (m : Message) → None ≡ dtid_in m
+  alone_is : (m : Message) → None ≡ dtid_in m
       → record {
         how = Nowhere;
         own = None;
         component = or_else (first_component of_one table side items m kind) (alone_component (components_in m) kind);
       } ≡ subject of_one table side items m kind
-  alone_is (Unidirectional dialogue components) none = refl
-  alone_is (Begin otid dialogue components) none = refl
-  alone_is m none = cc
+  alone_is m none = grind (arith, none)
 
-  pub half_is : (m : Message) (id : List ℕ) → Some id ≡ dtid_in m
+  half_is : (m : Message) (id : List ℕ) → Some id ≡ dtid_in m
       → record {
         how = (half_of side items id).how;
         own = (half_of side items id).own;

@@ -1,5 +1,5 @@
 -- What each step of an end changes in its halves, case by case; and each sent message has its half.
-use Rattle.std.proofs.Common.{◌≡◌, inl, inr, Bool, true, false, cond, ℕ, ℤ, List, [], Option, Some, None, Result, Ok, Err, is_none, not, refl, sym, subst, ◌∙◌}
+use Rattle.std.proofs.Common.{◌≡◌, inl, inr, Bool, true, false, cond, ℕ, ℤ, List, [], Option, Some, None, Result, Ok, Err, is_none, not, refl, sym, subst, ◌∙◌, arith}
 use Rattle.std.specs.Prelude.{ok_or}
 use Rattle.tcap_parts.specs.declared.component.Component.{Component}
 use Rattle.tcap_parts.specs.declared.dialogue.Dialogue.{Dialogue}
@@ -208,8 +208,7 @@ module _ (table : Table) (e next : End) (sound : IsEnd e) where
 -- ---- hidden steps
 
 may_close_open : (table : Table) (p : Phase) → may_close table p ≡ true → is_closed p ≡ false
-may_close_open table phases.Closed is = cc
-may_close_open table phase is = refl
+may_close_open table phase is = grind (arith, is)
 
 -- An invocation expires, and the half stays as it is.
 pub expired_acts : (table : Table) (e next : End) (name : HalfName) (id : ℤ) → IsEnd e

@@ -1,5 +1,5 @@
 -- One step of an end that keeps the rules, in its halves and in the list.
-use Rattle.std.proofs.Common.{◌≡◌, ◌⊎◌, inl, inr, Bool, true, false, List, [], ◌∷◌, ◌++◌, Some, None, Ok, is_ok, is_none, not, refl, sym, ap, subst}
+use Rattle.std.proofs.Common.{◌≡◌, ◌⊎◌, inl, inr, Bool, true, false, List, [], ◌∷◌, ◌++◌, Some, None, Ok, is_ok, is_none, not, refl, sym, ap, subst, arith}
 use Rattle.std.specs.Prelude.{Contains, ◌||◌}
 use Rattle.std.proofs.lemmas.Bool.{not-true}
 use Rattle.std.proofs.lemmas.Option.{cond_some}
@@ -38,13 +38,10 @@ Refuses e (Continue otid dtid dialogue components) abort =
 Refuses e m abort = ⊥
 
 both_needed : (a b : Bool) (reason : EndFault) → is_ok (needs a reason >> needs b reason) ≡ true → b ≡ true
-both_needed true true reason is = refl
-both_needed true false reason is = cc
-both_needed false b reason is = cc
+both_needed a b reason is = grind (arith, is)
 
 first_only : (b : Bool) → (b || false) ≡ true → b ≡ true
-first_only true is = refl
-first_only false is = cc
+first_only b is = grind (arith, is)
 
 pub refuses : (e : End) (m abort : Message) → reply_to e m ≡ Some abort → Refuses e m abort
 refuses e (Begin otid dialogue components) abort is =
@@ -80,11 +77,7 @@ pub record Advance (table : Table) (side : Side) (e next : End) (items after : L
   pub uses : (m : Message) → Contains grows.mine m → Uses next m × IsActiveFor next m
 
 only_has : (m n : Message) → Contains (m ∷ []) n → m ≡ n
-only_has m n has = by (contains_first m [] n has)
-  where
-    by : (m ≡ n) ⊎ Contains [] n → m ≡ n
-    by (inl same) = same
-    by (inr none) = has_not n none
+only_has m n has = grind (arith, contains_first m [] n has)
 
 module _ {table : Table} {side : Side} where
   said_advance : (e next : End) (coming : List Message) (items : List Item) (m : Message)

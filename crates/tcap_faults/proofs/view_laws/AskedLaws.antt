@@ -87,8 +87,7 @@ module _ (side : Side) (c : Count) (id : List ℕ) where
       rw (sent_own side m items) (omega arith)
     where
       none_of : (b : Bool) → one (b && false) ≡ 0
-      none_of true = refl
-      none_of false = refl
+      none_of b = grind arith
 
   -- A message of the end is none that the peer sent.
   given_said : (items : List Item) (m : Message)

@@ -1,5 +1,5 @@
 -- A half that was answered as closed is closed.
-use Rattle.std.proofs.Common.{◌≡◌, ◌⊎◌, inl, inr, Bool, true, false, ℕ, List, [], ◌∷◌, ◌++◌, Option, Some, None, not, refl, sym, ap, ◌∙◌}
+use Rattle.std.proofs.Common.{◌≡◌, ◌⊎◌, inl, inr, Bool, true, false, ℕ, List, [], ◌∷◌, ◌++◌, Option, Some, None, not, refl, sym, ap, ◌∙◌, arith}
 use Rattle.std.specs.Prelude.{Contains, ◌&&◌}
 use Rattle.std.specs.List.{list_any}
 use Rattle.std.proofs.lemmas.Bool.{and_from, and_parts, both_ways, not-true, or_cases}
@@ -84,8 +84,7 @@ found_closed : (e : End) (own : List ℕ) (f : KeptHalf) → IsEnd e → Has e f
 found_closed e own f is_end had of_own shut = by (with_own e own) refl shut
   where
     closed_phase : (p : Phase) → not (is_closed p) ≡ false → p ≡ phases.Closed
-    closed_phase phases.Closed is = refl
-    closed_phase phase is = cc
+    closed_phase phase is = grind (arith, is)
 
     by : (o : Option KeptHalf) → with_own e own ≡ o → is_open o ≡ false → IsClosedAt e own
     by None none is = none_own e own f none had of_own

@@ -1,5 +1,5 @@
 -- What the list has grows with it: what was sent, begun and heard.
-use Rattle.std.proofs.Common.{◌≡◌, ◌⊎◌, inl, inr, Bool, true, false, cond, ℕ, List, [], ◌∷◌, ◌++◌, Option, Some, None, refl, sym, ap, ◌∙◌}
+use Rattle.std.proofs.Common.{◌≡◌, ◌⊎◌, inl, inr, Bool, true, false, cond, ℕ, List, [], ◌∷◌, ◌++◌, Option, Some, None, refl, sym, ap, ◌∙◌, arith}
 use Rattle.std.specs.Prelude.{Contains, filter}
 use Rattle.std.proofs.lemmas.List.{append-nil}
 use Rattle.std.proofs.lemmas.List.Elements.{Contains-append_left, filter-append}
@@ -69,8 +69,7 @@ heard_among (Some begin) xs m has = by (is_begin_with_request begin) has
 -- ---- what was sent
 
 pub not_other : (side : Side) → is_side (other side) side ≡ false
-not_other sides.A = refl
-not_other sides.B = refl
+not_other side = grind arith
 
 -- What the peer sends, the end does not send, and conversely.
 pub own_same : (side : Side) (m : Message) (items : List Item)

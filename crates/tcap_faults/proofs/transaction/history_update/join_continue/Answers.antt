@@ -1,11 +1,10 @@
-use Rattle.std.proofs.Common.{◌≡◌, Bool, true, false, not, refl}
+use Rattle.std.proofs.Common.{◌≡◌, Bool, true, false, not, refl, arith}
 use Rattle.std.proofs.lemmas.Result.{on_ok_weaker}
 use Rattle.tcap_faults.proofs.transaction_laws.JoinStepLaws.{continue_gets}
 use Rattle.tcap_faults.proofs.transaction.history_update.join_continue.Goals as goal
 
 turned : (b : Bool) → not b ≡ false → b ≡ true
-turned true is = refl
-turned false is = cc
+turned b is = grind (arith, is)
 
 pub returns : goal.returns
 returns c =

@@ -5,7 +5,7 @@ use Rattle.tcap_msg.specs.declared.transaction_id.TransactionIdView.{Transaction
 use Rattle.tcap_msg.specs.Meaning.{id_of}
 use Rattle.tcap_record.specs.declared.entry.End.{End as Side}
 use Rattle.tcap_model.specs.World.{Item}
-use Rattle.std.proofs.Common.{◌≡◌, ℕ, Bool, List, Option, None, Some, ◌&&◌, is_some, false, true, not, refl, sym, ap, ◌∙◌}
+use Rattle.std.proofs.Common.{◌≡◌, ℕ, Bool, List, Option, None, Some, ◌&&◌, is_some, false, true, not, refl, sym, ap, ◌∙◌, arith}
 use Rattle.tcap_refute.specs.EarlierMessages.{has_a}
 use Rattle.tcap_faults.specs.SentToId.{told}
 use Rattle.tcap_faults.specs.HalfByPeerId.{HalfOf}
@@ -19,8 +19,7 @@ use Rattle.tcap_faults.proofs.dialogue_laws.HalfLookupLaws.{went_on}
 use Rattle.tcap_faults.proofs.transaction.lookup.There.is_first_answer.Goals as goal
 
 is_so : (how : How) → false ≡ not (sameb the_type how hows.Accepted) → is_accepted how ≡ true
-is_so hows.Accepted same = refl
-is_so how same = cc
+is_so how same = grind (arith, same)
 
 -- A Continue was sent to the ID exactly if a first own ID is kept.
 is_first : (side : Side) (items : List Item) (id : List ℕ) (h : HalfOf) (first : Option (List ℕ))
@@ -31,10 +30,7 @@ is_first side items id h first so is =
     ∙ ap (λ b. b && not (has_a forms.Continue (told side id items))) (sym so)
 
 none_so : (o : Option TransactionIdView) (b : Bool) → is_some o ≡ not b → b ≡ is_none (id_of o)
-none_so None true is = refl
-none_so None false is = cc
-none_so (Some view) true is = cc
-none_so (Some view) false is = refl
+none_so o b is = grind (arith, is)
 
 pub returns-in-Some : goal.returns-in-Some
 returns-in-Some c = λ table side items h is half.

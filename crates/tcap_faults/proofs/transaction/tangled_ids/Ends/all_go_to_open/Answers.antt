@@ -1,4 +1,4 @@
-use Rattle.std.proofs.Common.{◌≡◌, ℕ, List, [], Option, Some, None, ◌&&◌, not, is_some, refl, sym, ap, ◌∙◌}
+use Rattle.std.proofs.Common.{◌≡◌, ℕ, List, [], Option, Some, None, ◌&&◌, not, is_some, refl, sym, ap, ◌∙◌, arith}
 use Rattle.std.specs.List.{list_any}
 use Rattle.tcap_record.specs.Ends.{other}
 use Rattle.tcap_msg.specs.declared.transaction_id.TransactionIdView.{TransactionIdView}
@@ -11,8 +11,7 @@ use Rattle.tcap_faults.proofs.dialogue_laws.OpenHalvesLaws.{all_open_is, some_ke
 use Rattle.tcap_faults.proofs.transaction.tangled_ids.Ends.all_go_to_open.Goals as goal
 
 named : (o : Option TransactionIdView) → is_some o ≡ is_some (id_of o)
-named None = refl
-named (Some view) = refl
+named o = grind arith
 
 pub returns-then-is_some : goal.returns-then-is_some
 returns-then-is_some c = λ side items own_is peer_is.

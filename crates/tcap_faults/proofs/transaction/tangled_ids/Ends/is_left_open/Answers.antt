@@ -1,12 +1,11 @@
-use Rattle.std.proofs.Common.{◌≡◌, Bool, true, false, [], ◌∷◌, Some, is_some, not, sym, ap, ◌∙◌}
+use Rattle.std.proofs.Common.{◌≡◌, Bool, true, false, [], ◌∷◌, Some, is_some, not, sym, ap, ◌∙◌, arith}
 use Rattle.tcap_faults.proofs.transaction_laws.FirstTangled.{id_told}
 use Rattle.tcap_faults.proofs.dialogue_laws.OpenHalvesLaws.{left_at, left_differing, left_shut, open_nowhere}
 use Rattle.tcap_faults.proofs.transaction.tangled_ids.Ends.is_left_open.Goals as goal
 use Rattle.tcap_faults.proofs.transaction.tangled_ids.Ends.is_left_open.Goals.{then-differ-via-then-differ, then-differ-via-else-differ+then-not-is_open}
 
 turned : (some none : Bool) → some ≡ not none → none ≡ not some
-turned some true is = sym (ap not is)
-turned some false is = sym (ap not is)
+turned some none is = grind (arith, is)
 
 pub returns-then-differ : goal.returns-then-differ
 returns-then-differ c = λ items own_is peer_is from.
