@@ -1,5 +1,5 @@
 -- The kinds that the notes give are the kinds that the list gives.
-use Rattle.std.proofs.Common.{◌≡◌, ℕ, Bool, true, false, cond, ◌&&◌, ◌||◌, List, [], ◌∷◌, Option, Some, None, refl, sym, ap, ◌∙◌}
+use Rattle.std.proofs.Common.{◌≡◌, ℕ, Bool, true, false, cond, ◌&&◌, ◌||◌, List, [], ◌∷◌, Option, Some, None, refl, sym, ap, ◌∙◌, arith}
 use Rattle.std.proofs.Math.Path.{fun_ext}
 use Rattle.std.specs.List.{find, list_any}
 use Rattle.tcap_msg.specs.declared.kind.Kind.TheVariants as forms
@@ -30,33 +30,17 @@ use Rattle.tcap_refute.proofs.ToldLaws.{answering, component_told, from_id, noth
 
 -- A message with this originating ID is a Begin or a Continue.
 spoke : (table : Table) (id : List ℕ) (m : Message) → is_id id (otid_in m) ≡ true → shows_from table Spoke m ≡ true
-spoke table id (Begin otid dialogue components) is = refl
-spoke table id (Continue otid dtid dialogue components) is = refl
-spoke table id m is = cc
+spoke table id m is = grind (arith, is)
 
 -- If there is a message from the ID, `Spoke` holds.
 spoke_where : (table : Table) (id : List ℕ) (xs : List Message) (m : Message) (ms : List Message)
     → from_id id xs ≡ m ∷ ms → told_of table (m ∷ ms) Spoke ≡ true
 spoke_where table id [] m ms is = cc
-spoke_where table id (x ∷ xs) m ms is = by (is_id id (otid_in x)) refl is (spoke_where table id xs m ms)
-  where
-    by : (b : Bool) → is_id id (otid_in x) ≡ b → cond b (x ∷ from_id id xs) (from_id id xs) ≡ m ∷ ms
-        → (from_id id xs ≡ m ∷ ms → told_of table (m ∷ ms) Spoke ≡ true) → told_of table (m ∷ ms) Spoke ≡ true
-    by true so e rest = let same : x ≡ m = cc in
-        ap (λ y. shows_from table Spoke y || list_any (shows_from table Spoke) ms) (sym same)
-        ∙ ap (λ b. b || list_any (shows_from table Spoke) ms) (spoke table id x so)
-    by false so e rest = rest e
+spoke_where table id (x ∷ xs) m ms is = grind (arith, is, spoke_where table id xs m ms)
 
 not_asked : (table : Table) (id : List ℕ) (xs : List Message) (cause : Option ℕ)
     → was_not_asked (told_of table (from_id id xs)) cause ≡ is_unasked cause (from_id id xs)
-not_asked table id xs cause = by (from_id id xs) refl cause
-  where
-    by : (ms : List Message) → from_id id xs ≡ ms → (cause : Option ℕ)
-        → was_not_asked (told_of table ms) cause ≡ is_unasked cause ms
-    by [] is None = refl
-    by [] is (Some cause) = refl
-    by (m ∷ ms) is None = rw (spoke_where table id xs m ms is) refl
-    by (m ∷ ms) is (Some cause) = rw (spoke_where table id xs m ms is) refl
+not_asked table id xs cause = grind arith
 
 unasked : (table : Table) (items : List Item) (side : Side) (dtid : List ℕ) (cause : Option ℕ)
     → was_not_asked (told_from (told_by_list table items (other side)) (Some dtid)) cause
@@ -77,16 +61,11 @@ transaction table items side m = refl
 
 begin_reused : (table : Table) (id : List ℕ) (m : Message)
     → (is_id id (otid_in m) && shows_from table Spoke m) ≡ is_id id (otid_in m)
-begin_reused table id m = by (is_id id (otid_in m)) refl
-  where
-    by : (b : Bool) → is_id id (otid_in m) ≡ b → (b && shows_from table Spoke m) ≡ b
-    by true so = spoke table id m so
-    by false so = refl
+begin_reused table id m = grind arith
 
 continue_reused : (table : Table) (id dtid : List ℕ) (m : Message)
     → (is_id id (otid_in m) && shows_from table (WentElsewhere dtid) m) ≡ goes_elsewhere id dtid m
-continue_reused table id dtid (Begin otid dialogue components) = and_false _
-continue_reused table id dtid m = refl
+continue_reused table id dtid m = grind arith
 
 reused : (table : Table) (items : List Item) (side : Side) (m : Message)
     → id_is_reused (told_from (told_by_list table items side) (otid_in m)) (dtid_in m) (kind_in m)
@@ -102,23 +81,13 @@ reused table items side m = refl
 after_end : (table : Table) (items : List Item) (side : Side) (m : Message)
     → comes_after_end (told_ended (told_by_list table items side) (dtid_in m)) (cause_in m)
     ≡ is_after_end side (since_quiet items) m
-after_end table items side (Unidirectional dialogue components) = refl
-after_end table items side (Begin otid dialogue components) = refl
-after_end table items side (Continue otid dtid dialogue components) = refl
-after_end table items side (EndMessage dtid dialogue components) = refl
-after_end table items side (Abort dtid None) = refl
-after_end table items side (Abort dtid (Some (reasons.Cause cause))) = refl
-after_end table items side (Abort dtid (Some (reasons.Dialogue dialogue))) = refl
+after_end table items side m = grind arith
 
 -- ---- F7
 
 module _ (table : Table) (items : List Item) (side : Side) where
   asks : (m : Message) → shows_from table Asked m ≡ is_begin_with_request m
-  asks (Unidirectional dialogue components) = refl
-  asks (Begin otid dialogue components) = refl
-  asks (Continue otid dtid dialogue components) = refl
-  asks (EndMessage dtid dialogue components) = refl
-  asks (Abort dtid reason) = refl
+  asks m = grind arith
 
   asked_there : (dtid : List ℕ) → told_from (told_by_list table items (other side)) (Some dtid) Asked
       ≡ list_any is_begin_with_request (asked side dtid (since_quiet items))
@@ -142,10 +111,7 @@ module _ (table : Table) (items : List Item) (side : Side) where
 chained : {A : Type 0} (a b c : Bool) (x y z : A) (rest : Option A)
     → or_else (cond a (Some x) (cond b (Some y) (cond c (Some z) None))) rest
     ≡ cond a (Some x) (cond b (Some y) (cond c (Some z) rest))
-chained true b c x y z rest = refl
-chained false true c x y z rest = refl
-chained false false true x y z rest = refl
-chained false false false x y z rest = refl
+chained a b c x y z rest = grind arith
 
 -- The lowest kind by the list, for one end or for both.
 abbrev kind_found : Bool → Table → List Item → Side → Message → Option Kind
@@ -164,8 +130,7 @@ kind_chosen of_one table items side m =
 
 found : (of_one : Bool) (table : Table) (items : List Item) (side : Side) (m : Message)
     → kind_chosen of_one table items side m ≡ kind_found of_one table items side m
-found true table items side m = refl
-found false table items side m = refl
+found of_one table items side m = grind arith
 
 -- The kind from the facts in the list is the lowest kind.
 kind_by_list : (of_one : Bool) (table : Table) (items : List Item) (side : Side) (m : Message)

@@ -1,5 +1,5 @@
 -- A message that was sent since the last quiet mark is among the messages after it, and those are what tests find.
-use Rattle.std.proofs.Common.{◌≡◌, Bool, true, false, cond, ℕ, List, [], ◌∷◌, ◌++◌, Option, Some, refl, ap, sym}
+use Rattle.std.proofs.Common.{◌≡◌, Bool, true, false, cond, ℕ, List, [], ◌∷◌, ◌++◌, Option, Some, refl, ap, sym, arith}
 use Rattle.std.specs.Prelude.{Contains, ◌||◌}
 use Rattle.std.specs.List.{cons_option, list_any}
 use Rattle.std.proofs.lemmas.List.Elements.{Contains-append_right}
@@ -29,11 +29,7 @@ is_that_id id o is = rw is ((bytes_eq-Decides id id).1 refl)
 
 -- A Begin or a Continue carries its originating ID; other messages have none.
 pub originating_is : (m : Message) → originating m ≡ otid_in m
-originating_is (Unidirectional dialogue components) = refl
-originating_is (Begin otid dialogue components) = refl
-originating_is (Continue otid dtid dialogue components) = refl
-originating_is (EndMessage dtid dialogue components) = refl
-originating_is (Abort dtid reason) = refl
+originating_is m = grind arith
 
 -- ---- what is after the mark
 

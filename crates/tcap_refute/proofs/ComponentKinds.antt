@@ -1,5 +1,5 @@
 -- No message that an end sends has F5 (Q.774 3.2) or F6 (Q.771 3.1).
-use Rattle.std.proofs.Common.{◌≡◌, ◌⊎◌, inl, inr, Bool, true, false, ℤ, List, [], ◌∷◌, Option, Some, None, Result, Ok, Err, is_none, is_some, not, refl, sym, ◌∙◌}
+use Rattle.std.proofs.Common.{◌≡◌, ◌⊎◌, inl, inr, Bool, true, false, ℤ, List, [], ◌∷◌, Option, Some, None, Result, Ok, Err, is_none, is_some, not, refl, sym, ◌∙◌, arith}
 use Rattle.std.specs.Prelude.{◌||◌, ok_or}
 use Rattle.std.specs.List.{AllByRecursion, list_any}
 use Rattle.std.proofs.lemmas.Bool.{and_from, and_parts, both_ways, not-true, or_cases}
@@ -85,11 +85,7 @@ of_nothing table c founded is = has_not _ founded.1.2
 -- The table has the operation of a founded Invoke.
 known_operation : (table : Table) (cs : List Component) (c : Component) → IsFounded table cs c
     → is_unknown_operation table c ≡ true → ⊥
-known_operation table cs (Invoke id linked code parameter) founded is = by (operation_of table code) founded is
-  where
-    by : {A : Type 0} (o : Option A) → is_some o ≡ true → is_none o ≡ true → ⊥
-    by None some none = cc
-    by (Some x) some none = cc
+known_operation table cs (Invoke id linked code parameter) founded is = grind (arith, founded, is)
 known_operation table cs c founded is = cc
 
 -- The class of an invocation allows the answer.
@@ -137,8 +133,7 @@ uni_sent table e made dialogue components is =
     by (Err reason) at is = cc
 
 no_answer : (table : Table) (c : Component) → IsUni table c → is_answer c ≡ true → ⊥
-no_answer table (Invoke id linked code parameter) uni is = cc
-no_answer table c uni is = absurd uni
+no_answer table c uni is = grind (arith, uni, is)
 
 of_class_4 : (table : Table) (c : Component) → IsUni table c → is_not_of_class_4 table c ≡ true → ⊥
 of_class_4 table (Invoke id linked code parameter) uni is = both_ways _ (not-true _ is) uni
@@ -171,27 +166,14 @@ answers_nothing_sent table events w side (Abort dtid reason) it is = cc
 neither : (table : Table) (cs components : List Component) → AllByRecursion (IsFounded table cs) components
     → (list_any (is_unknown_operation table) components || list_any (no_class_allows table cs) components) ≡ true → ⊥
 neither table cs components all is =
-    by (or_cases (list_any (is_unknown_operation table) components) (list_any (no_class_allows table cs) components) is)
-  where
-    by : (list_any (is_unknown_operation table) components ≡ true)
-        ⊎ (list_any (no_class_allows table cs) components ≡ true) → ⊥
-    by (inl unknown) =
-        none_passes (IsFounded table cs) (is_unknown_operation table) components (known_operation table cs) all unknown
-    by (inr forbidden) =
-        none_passes (IsFounded table cs) (no_class_allows table cs) components (of_its_class table cs) all forbidden
+    grind (arith, or_cases (list_any (is_unknown_operation table) components) (list_any (no_class_allows table cs) components) is)
 
 pub wrong_operation_sent : (table : Table) (events : List Event) (w : World) (side : Side) (message : Message)
     → IsSent table events w side message → is_wrong_operation table side (since_quiet w.sent) message ≡ true → ⊥
 wrong_operation_sent table events w side (Unidirectional dialogue components) it is =
     none_passes (IsUni table) (is_not_of_class_4 table) components (of_class_4 table)
     (uni_sent table (end_at side w) it.made dialogue components it.step) is
-wrong_operation_sent table events w side (Begin otid dialogue components) it is = by (or_cases _ _ is)
-  where
-    by : (list_any (is_unknown_operation table) (items_of components) ≡ true) ⊎ (false ≡ true) → ⊥
-    by (inl unknown) =
-        none_passes (IsFounded table []) (is_unknown_operation table) (items_of components) (known_operation table [])
-        (begin_founded table (end_at side w) it.made otid dialogue (items_of components) it.step) unknown
-    by (inr never) = cc
+wrong_operation_sent table events w side (Begin otid dialogue components) it is = grind (arith, or_cases _ _ is)
 wrong_operation_sent table events w side (Continue otid dtid dialogue components) it is =
     neither table (components_of (asked side dtid (since_quiet w.sent))) (items_of components)
     (over_founded dtid it refl) is

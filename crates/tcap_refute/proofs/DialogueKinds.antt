@@ -1,5 +1,5 @@
 -- No message that an end sends has F7 (Q.774 3.2).
-use Rattle.std.proofs.Common.{◌≡◌, ◌⊎◌, inl, inr, Bool, true, false, ℕ, List, Option, Some, None, is_none, is_some, not, refl, sym, ◌∙◌}
+use Rattle.std.proofs.Common.{◌≡◌, ◌⊎◌, inl, inr, Bool, true, false, ℕ, List, Option, Some, None, is_none, is_some, not, refl, sym, ◌∙◌, arith}
 use Rattle.std.specs.Prelude.{◌&&◌, ◌||◌}
 use Rattle.std.specs.List.{list_any}
 use Rattle.std.proofs.lemmas.Bool.{eqb-true, or_left}
@@ -59,8 +59,7 @@ aborts phase standing d may = inl (or_left (is_none d) (is_user_abort d) may)
 -- No portion is not misplaced in a Continue or an End.
 none_misplaced : (is_asked : Bool) (d : Option Dialogue) → is_none d ≡ true → is_misplaced_going_on is_asked d ≡ true
     → ⊥
-none_misplaced is_asked None none is = cc
-none_misplaced is_asked (Some d) none is = cc
+none_misplaced is_asked d none is = grind (arith, none, is)
 
 -- A portion that accepts a dialogue that was asked for is not misplaced.
 answer_misplaced : (is_asked : Bool) (d : Option Dialogue) → is_asked ≡ true → accepts_dialogue d ≡ true
@@ -86,19 +85,13 @@ refusal_misplaced is_asked o asked refuses is = cc
 -- A portion that passes if it is there does not fail.
 only_such : {A : Type 0} (o : Option A) (passes : Bool) → (is_none o || passes) ≡ true
     → (is_some o && not passes) ≡ true → ⊥
-only_such None passes may is = cc
-only_such (Some x) true may is = cc
-only_such (Some x) false may is = cc
+only_such o passes may is = grind (arith, may, is)
 
 -- ---- messages
 
 -- A Begin asks for a dialogue if it has an AARQ.
 asks_is : (m : Message) → asks m ≡ is_begin_with_request m
-asks_is (Unidirectional dialogue components) = refl
-asks_is (Begin otid dialogue components) = refl
-asks_is (Continue otid dtid dialogue components) = refl
-asks_is (EndMessage dtid dialogue components) = refl
-asks_is (Abort dtid reason) = refl
+asks_is m = grind arith
 
 -- A message that an end sends over a half.
 module _ {table : Table} {events : List Event} {w : World} {side : Side} {message : Message} (id : List ℕ)
@@ -122,19 +115,11 @@ module _ {table : Table} {events : List Event} {w : World} {side : Side} {messag
 
   -- A Continue or an End has a portion that its half may carry.
   going_on : may_go_on phase standing d ≡ true → is_misplaced_going_on is_asked d ≡ true → ⊥
-  going_on may is = by (goes_on phase standing d may)
-    where
-      by : (is_none d ≡ true) ⊎ (IsAsked phase standing × (accepts_dialogue d ≡ true)) → ⊥
-      by (inl none) = none_misplaced is_asked d none is
-      by (inr (so, accepts)) = answer_misplaced is_asked d (was_asked so) accepts is
+  going_on may is = grind (arith, goes_on phase standing d may)
 
   -- An Abort has a portion that its half may carry.
   aborting : may_abort phase standing d ≡ true → is_misplaced_aborting is_asked d ≡ true → ⊥
-  aborting may is = by (aborts phase standing d may)
-    where
-      by : ((is_none d || is_user_abort d) ≡ true) ⊎ (IsAsked phase standing × (refuses_dialogue d ≡ true)) → ⊥
-      by (inl user) = user_misplaced is_asked d user is
-      by (inr (so, refuses)) = refusal_misplaced is_asked d (was_asked so) refuses is
+  aborting may is = grind (arith, aborts phase standing d may)
 
 module _ (table : Table) (events : List Event) (w : World) (side : Side) where
   -- No message that an end sends has a misplaced portion.

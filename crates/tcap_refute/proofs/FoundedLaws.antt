@@ -1,6 +1,6 @@
 -- What a sent component answers or rejects came to its half before (Q.774 3.2). What came to the half is among what
 -- its peer sent from that ID.
-use Rattle.std.proofs.Common.{◌≡◌, Bool, true, false, cond, ℕ, ℤ, List, [], ◌∷◌, Option, Some, None, Result, Ok, is_none, is_some, refl, sym, ◌∙◌}
+use Rattle.std.proofs.Common.{◌≡◌, Bool, true, false, cond, ℕ, ℤ, List, [], ◌∷◌, Option, Some, None, Result, Ok, is_none, is_some, refl, sym, ◌∙◌, arith}
 use Rattle.std.specs.Prelude.{Contains, ◌||◌, option_map}
 use Rattle.std.specs.List.{AllByRecursion, list_any}
 use Rattle.std.specs.Ordering.{int_cmp}
@@ -108,13 +108,7 @@ IsFounded table cs (Reject (Some id) (problems.ReturnError n)) = MayReject cs fa
 -- An answer that allows the problem is of this sort.
 allows_sort : (is_result : Bool) (n : ℕ) (answer : Answer) → allows_for is_result n answer ≡ true
     → answer.is_result ≡ is_result
-allows_sort is_result n answer is = by is_result answer.is_result is
-  where
-    by : (wanted has : Bool) → allows_for wanted n (record answer { is_result = has }) ≡ true → has ≡ wanted
-    by true true is = refl
-    by true false is = cc
-    by false true is = cc
-    by false false is = refl
+allows_sort is_result n answer is = grind (arith, is)
 
 rejects_answer : (cs : List Component) (h : Half) (is_result : Bool) (n : ℕ) (id : ℤ) → Came cs h
     → one_fits id (allows_for is_result n) h.grants ≡ true → MayReject cs is_result id

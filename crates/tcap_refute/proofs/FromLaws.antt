@@ -1,5 +1,5 @@
 -- The facts about an originating ID after one more message.
-use Rattle.std.proofs.Common.{◌≡◌, ℕ, ℤ, Bool, true, false, cond, not, ◌&&◌, ◌||◌, List, Option, Some, None, bytes_eq, refl, sym, ap, ◌∙◌}
+use Rattle.std.proofs.Common.{◌≡◌, ℕ, ℤ, Bool, true, false, cond, not, ◌&&◌, ◌||◌, List, Option, Some, None, bytes_eq, refl, sym, ap, ◌∙◌, arith}
 use Rattle.std.specs.List.{list_any}
 use Rattle.std.proofs.lemmas.Map.Lookups.{exact_signed}
 use Rattle.std.proofs.lemmas.Slice.Eq.{bytes_eq-Decides}
@@ -20,8 +20,7 @@ use Rattle.tcap_refute.proofs.SetLaws.{told_at}
 -- ---- destination IDs
 
 or_itself : (a : Bool) → a ≡ (a || a)
-or_itself true = refl
-or_itself false = refl
+or_itself a = grind arith
 
 same_octets : (a b : List ℕ) → bytes_eq a b ≡ true → a ≡ b
 same_octets a b e = (bytes_eq-Decides a b).0 e
@@ -39,12 +38,7 @@ one_of_two id a b apart = by (bytes_eq id a) (bytes_eq id b) refl refl
 
 pub elsewhere_with : (id to : List ℕ) (toward : Toward)
     → is_elsewhere id (toward_with to toward) ≡ (is_elsewhere id toward || is_other id (Some to))
-elsewhere_with id to (One other) = by (bytes_eq to other) refl
-  where
-    by : (b : Bool) → bytes_eq to other ≡ b
-        → is_elsewhere id (cond b (One other) Several) ≡ (not (bytes_eq id other) || not (bytes_eq id to))
-    by true same = rw (same_octets to other same) (or_itself _)
-    by false apart = one_of_two id other to apart
+elsewhere_with id to (One other) = grind arith
 elsewhere_with id to how = refl
 
 elsewhere_behind : (id : List ℕ) (goes_on : Bool) (dtid : Option (List ℕ)) (toward : Toward)
@@ -57,10 +51,7 @@ elsewhere_behind id false None toward = or_none _
 -- ---- a message
 
 or_pairs : (a b p q : Bool) → ((a || p) || (b || q)) ≡ ((a || b) || (p || q))
-or_pairs true b p q = refl
-or_pairs false true true q = refl
-or_pairs false true false q = refl
-or_pairs false false p q = refl
+or_pairs a b p q = grind arith
 
 pub message_noted : (table : Table) (m : Message) (old headed new : FromId)
     → IsHeaded m old headed → IsSameHead headed new

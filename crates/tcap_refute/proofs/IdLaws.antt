@@ -1,5 +1,5 @@
 -- The facts about invoke IDs after one more component.
-use Rattle.std.proofs.Common.{◌≡◌, ℤ, Bool, true, false, ◌&&◌, ◌||◌, Some, None, int_cmp, refl, ap, ◌∙◌}
+use Rattle.std.proofs.Common.{◌≡◌, ℤ, Bool, true, false, ◌&&◌, ◌||◌, Some, None, int_cmp, refl, ap, ◌∙◌, arith}
 use Rattle.std.specs.BTreeMap.{BTreeMap, WritesThrough, is_at}
 use Rattle.std.specs.Map.{lookup}
 use Rattle.std.specs.Ordering.{is_eq}
@@ -18,8 +18,7 @@ use Rattle.tcap_refute.proofs.SetLaws.{Puts, made, told_at, written}
 -- ---- a component adds facts about its own ID alone
 
 of_invoke : (a r n : Bool) → (a && (true && r && n)) ≡ (a && r && n)
-of_invoke true r n = refl
-of_invoke false r n = refl
+of_invoke a r n = grind arith
 
 -- Adding one part of the facts, and then the rest, adds all.
 pub one_more : (old part rest now all : Bool) → now ≡ (old || part) → (old || (part || rest)) ≡ all

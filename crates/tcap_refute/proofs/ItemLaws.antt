@@ -1,5 +1,5 @@
 -- The notes after one more item.
-use Rattle.std.proofs.Common.{◌≡◌, ℕ, Bool, true, false, cond, ◌&&◌, ◌||◌, List, [], ◌∷◌, ◌++◌, map, drop, Option, Some, None, Ok, refl, sym, ap, ◌∙◌}
+use Rattle.std.proofs.Common.{◌≡◌, ℕ, Bool, true, false, cond, ◌&&◌, ◌||◌, List, [], ◌∷◌, ◌++◌, map, drop, Option, Some, None, Ok, refl, sym, ap, ◌∙◌, arith}
 use Rattle.std.specs.List.{cons_option, list_any}
 use Rattle.std.proofs.lemmas.List.Folds.{list_any-append}
 use Rattle.tcap_msg.specs.declared.message.Message.{Message}
@@ -36,28 +36,16 @@ module _ (side : Side) (m : Message) where
       by : (b : Bool) → since_quiet (xs ++ Sent side m ∷ []) ≡ since_quiet xs ++ Sent side m ∷ []
           → cond b (since_quiet (xs ++ Sent side m ∷ [])) (item ∷ xs ++ Sent side m ∷ [])
           ≡ cond b (since_quiet xs) (item ∷ xs) ++ Sent side m ∷ []
-      by true rest = rest
-      by false rest = refl
+      by b rest = grind (arith, rest)
 
   sent_last : (test : Message → Bool) (end : Side)
       → list_any test (sent_by end (Sent side m ∷ [])) ≡ (is_side end side && test m)
-  sent_last test end = by (is_side end side)
-    where
-      by : (b : Bool) → list_any test (cons_option (where_so b (Some m)) []) ≡ (b && test m)
-      by true = sym (or_none (test m))
-      by false = refl
+  sent_last test end = grind arith
 
   sent_more : (end : Side) (xs : List Item)
       → sent_by end (xs ++ Sent side m ∷ []) ≡ sent_by end xs ++ sent_by end (Sent side m ∷ [])
   sent_more end [] = refl
-  sent_more end (x ∷ xs) = by (message_of end x) (sent_more end xs)
-    where
-      by : (o : Option Message)
-          → sent_by end (xs ++ Sent side m ∷ []) ≡ sent_by end xs ++ sent_by end (Sent side m ∷ [])
-          → cons_option o (sent_by end (xs ++ Sent side m ∷ []))
-          ≡ cons_option o (sent_by end xs) ++ sent_by end (Sent side m ∷ [])
-      by None rest = rest
-      by (Some message) rest = ap (λ ms. message ∷ ms) rest
+  sent_more end (x ∷ xs) = grind (arith, sent_more end xs)
 
   -- The facts in the list with the message.
   told_more : (table : Table) (items : List Item) (end : Side) (fact : EndFact)
@@ -91,11 +79,7 @@ module _ (side : Side) (m : Message) where
 
 quiet_last : (xs : List Item) → has_quiet (xs ++ Item.Quiet ∷ []) ≡ true
 quiet_last [] = refl
-quiet_last (item ∷ xs) = by (is_quiet item) (quiet_last xs)
-  where
-    by : (b : Bool) → has_quiet (xs ++ Item.Quiet ∷ []) ≡ true → cond b true (has_quiet (xs ++ Item.Quiet ∷ [])) ≡ true
-    by true rest = refl
-    by false rest = rest
+quiet_last (item ∷ xs) = grind (arith, quiet_last xs)
 
 pub since_mark : (xs : List Item) → since_quiet (xs ++ Item.Quiet ∷ []) ≡ []
 since_mark [] = refl

@@ -1,5 +1,5 @@
 -- No message of an end that keeps the rules has a kind, nor does a reply of its provider.
-use Rattle.std.proofs.Common.{◌≡◌, ◌⊎◌, inl, inr, true, ℕ, List, ◌∷◌, ◌++◌, Some, refl, sym}
+use Rattle.std.proofs.Common.{◌≡◌, ◌⊎◌, inl, inr, true, ℕ, List, ◌∷◌, ◌++◌, Some, refl, sym, arith}
 use Rattle.std.proofs.lemmas.Option.{cond_some}
 use Rattle.tcap_msg.specs.declared.message.AbortReason.TheVariants.{Cause}
 use Rattle.tcap_msg.specs.declared.message.Message.{Message}
@@ -41,8 +41,7 @@ reply_aborts e m message is = cc
 -- An Abort with a cause can only have F2.
 abort_kind : (table : Table) (side : Side) (before : List Item) (id : List ℕ) (cause : ℕ) (kind : Kind)
     → is_of_kind table side before (Abort id (Some (Cause cause))) kind ≡ true → kind ≡ kinds.UnknownTransaction
-abort_kind table side before id cause kinds.UnknownTransaction is = refl
-abort_kind table side before id cause kind is = cc
+abort_kind table side before id cause kind is = grind (arith, is)
 
 kind_replied : (table : Table) (events : List Event) (w : World) (side : Side) (message : Message) (kind : Kind)
     → Runs table events w → RepliesIt w side message

@@ -1,5 +1,5 @@
 -- A Continue, an End or an Abort without cause goes over an open half whose peer has the destination ID.
-use Rattle.std.proofs.Common.{◌≡◌, ◌⊎◌, inl, inr, Bool, true, false, cond, ℕ, List, [], ◌∷◌, Option, Some, None, Ok, is_none, not, refl, sym, ap, subst, ◌∙◌}
+use Rattle.std.proofs.Common.{◌≡◌, ◌⊎◌, inl, inr, Bool, true, false, cond, ℕ, List, [], ◌∷◌, Option, Some, None, Ok, is_none, not, refl, sym, ap, subst, ◌∙◌, arith}
 use Rattle.std.specs.Prelude.{ok_or}
 use Rattle.std.proofs.lemmas.Bool.{not-true}
 use Rattle.tcap_parts.specs.declared.component.Component.{Component}
@@ -85,11 +85,7 @@ first_passes passes slot ((key, half) ∷ es) f is = by (passes half) refl is (f
 
 -- A half of an end that a search finds passes.
 pub found_passes : (passes : Half → Bool) (e : End) (f : KeptHalf) → half_where passes e ≡ Some f → passes f.half ≡ true
-found_passes passes e f is = by (first_half passes Begun e.begun) refl
-  where
-    by : (o : Option KeptHalf) → first_half passes Begun e.begun ≡ o → passes f.half ≡ true
-    by None none = first_passes passes Accepted e.accepted f (rw none at is)
-    by (Some g) some = first_passes passes Begun e.begun f (let same = rw some at is in some ∙ same)
+found_passes passes e f is = grind arith
 
 -- A half that is found by its peer's ID has it.
 pub peer_is : (e : End) (id : List ℕ) (f : KeptHalf) → with_peer e id ≡ Some f → f.half.peer ≡ Some id

@@ -1,5 +1,5 @@
 -- What a refutation implies for all runs.
-use Rattle.std.proofs.Common.{◌≡◌, inl, inr, Bool, true, false, cond, ℕ, zero, suc, ◌+◌, List, [], ◌∷◌, ◌++◌, map, length, slice_get, Option, Some, None, Result, Ok, Err, refl, sym, ap, subst, ◌∙◌}
+use Rattle.std.proofs.Common.{◌≡◌, inl, inr, Bool, true, false, cond, ℕ, zero, suc, ◌+◌, List, [], ◌∷◌, ◌++◌, map, length, slice_get, Option, Some, None, Result, Ok, Err, refl, sym, ap, subst, ◌∙◌, arith}
 use Rattle.std.specs.List.{find}
 use Rattle.std.specs.Prelude.{IfOk, IfSome}
 use Rattle.std.proofs.lemmas.List.{length-append}
@@ -24,12 +24,7 @@ use Rattle.tcap_refute.proofs.KindLaws.{none_of_kind}
 -- What `find` returns passes.
 pub found_so : {A : Type 0} (passes : A → Bool) (xs : List A) (x : A) → find passes xs ≡ Some x → passes x ≡ true
 found_so passes [] x is = cc
-found_so passes (y ∷ ys) x is = by (passes y) refl (found_so passes ys x) is
-  where
-    by : (b : Bool) → passes y ≡ b → (find passes ys ≡ Some x → passes x ≡ true)
-        → cond b (Some y) (find passes ys) ≡ Some x → passes x ≡ true
-    by true so on is = let same : y ≡ x = cc in rw (← same) so
-    by false so on is = on is
+found_so passes (y ∷ ys) x is = grind (arith, found_so passes ys x, is)
 
 -- These items, as entries.
 abbrev pub oks : List Item → List (Result Item Reason)

@@ -1,5 +1,5 @@
 -- What a query finds in a set or map of notes with one more key.
-use Rattle.std.proofs.Common.{◌≡◌, ℕ, Bool, true, false, cond, ◌&&◌, ◌||◌, List, [], ◌∷◌, Some, None, is_some, Vec, Global as Alloc, Ordering, Less, Equal, Greater, nat_cmp, refl, sym, ap, ◌∙◌}
+use Rattle.std.proofs.Common.{◌≡◌, ℕ, Bool, true, false, cond, ◌&&◌, ◌||◌, List, [], ◌∷◌, Some, None, is_some, Vec, Global as Alloc, Ordering, Less, Equal, Greater, nat_cmp, refl, sym, ap, ◌∙◌, arith}
 use Rattle.std.specs.BTreeMap.{BTreeMap, WritesThrough, is_at}
 use Rattle.std.specs.BTreeSet.{insert_key}
 use Rattle.std.specs.Cmp.Lexicographic.{slice_cmp}
@@ -19,34 +19,19 @@ use Rattle.tcap_refute.proofs.TestLaws.{or_none}
 
 module _ {K : Type 0} (cmp : K → K → Ordering) (test : K → Bool) where
   less : (a b c : Bool) → (a || (b || c)) ≡ ((b || c) || a)
-  less true true c = refl
-  less true false true = refl
-  less true false false = refl
-  less false true c = refl
-  less false false true = refl
-  less false false false = refl
+  less a b c = grind arith
 
   equal : (a b : Bool) → (a || b) ≡ ((a || b) || a)
-  equal true b = refl
-  equal false true = refl
-  equal false false = refl
+  equal a b = grind arith
 
   greater : (a b c : Bool) → (a || (b || c)) ≡ ((a || b) || c)
-  greater true b c = refl
-  greater false b c = refl
+  greater a b c = grind arith
 
   -- A set with one more key, if the test agrees on keys that are equal in the order.
   pub any_inserted : ((x y : K) → cmp x y ≡ Equal → test x ≡ test y) → (ks : List K) (k : K)
       → list_any test (insert_key cmp ks k) ≡ (list_any test ks || test k)
   any_inserted alike [] k = less (test k) false false
-  any_inserted alike (x ∷ xs) k = by (cmp k x) refl (any_inserted alike xs k)
-    where
-      by : (r : Ordering) → cmp k x ≡ r → list_any test (insert_key cmp xs k) ≡ (list_any test xs || test k)
-          → list_any test (match_ordering r (k ∷ x ∷ xs) (x ∷ xs) (x ∷ insert_key cmp xs k))
-          ≡ ((test x || list_any test xs) || test k)
-      by Less is rest = less (test k) (test x) (list_any test xs)
-      by Equal is rest = rw (alike k x is) (equal (test x) (list_any test xs))
-      by Greater is rest = rw rest (greater (test x) (list_any test xs) (test k))
+  any_inserted alike (x ∷ xs) k = grind (arith, any_inserted alike xs k)
 
 -- ---- codes
 

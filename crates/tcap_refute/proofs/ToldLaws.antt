@@ -1,5 +1,5 @@
 -- The facts about an ID are those of its messages, and they decide the tests of components as the messages do.
-use Rattle.std.proofs.Common.{◌≡◌, ℕ, ℤ, Bool, true, false, cond, not, ◌==◌, ◌&&◌, ◌||◌, List, [], ◌∷◌, filter, Some, is_some, refl, sym, ap, ap₂, ◌∙◌}
+use Rattle.std.proofs.Common.{◌≡◌, ℕ, ℤ, Bool, true, false, cond, not, ◌==◌, ◌&&◌, ◌||◌, List, [], ◌∷◌, filter, Some, is_some, refl, sym, ap, ap₂, ◌∙◌, arith}
 use Rattle.std.proofs.Math.Path.{fun_ext}
 use Rattle.std.specs.List.{flat_map, list_any}
 use Rattle.std.proofs.lemmas.List.Folds.{list_any-append}
@@ -31,12 +31,7 @@ same_any p q xs same = ap (λ t. list_any t xs) (fun_ext same)
 
 any_filtered : {A : Type 0} (p q : A → Bool) (xs : List A) → list_any (λ x. q x && p x) xs ≡ list_any p (filter q xs)
 any_filtered p q [] = refl
-any_filtered p q (x ∷ xs) = by (q x) (any_filtered p q xs)
-  where
-    by : (b : Bool) → list_any (λ x. q x && p x) xs ≡ list_any p (filter q xs)
-        → ((b && p x) || list_any (λ x. q x && p x) xs) ≡ list_any p (cond b (x ∷ filter q xs) (filter q xs))
-    by true rest = ap (λ r. p x || r) rest
-    by false rest = rest
+any_filtered p q (x ∷ xs) = grind (arith, any_filtered p q xs)
 
 any_flat : {A B : Type 0} (f : A → List B) (p : B → Bool) (xs : List A)
     → list_any (λ x. list_any p (f x)) xs ≡ list_any p (flat_map f xs)
@@ -45,10 +40,7 @@ any_flat f p (x ∷ xs) =
     ap (λ r. list_any p (f x) || r) (any_flat f p xs) ∙ sym (list_any-append p (f x) (flat_map f xs))
 
 or_swap : (a b c d : Bool) → ((a || b) || (c || d)) ≡ ((a || c) || (b || d))
-or_swap true b c d = refl
-or_swap false true true d = refl
-or_swap false true false d = refl
-or_swap false false c d = refl
+or_swap a b c d = grind arith
 
 any_or : {A : Type 0} (p q : A → Bool) (xs : List A) → (list_any p xs || list_any q xs) ≡ list_any (λ x. p x || q x) xs
 any_or p q [] = refl
@@ -94,12 +86,7 @@ module _ (table : Table) (messages : List Message) where
 
   answers_of : (c : Component)
       → answers_none false (told_of table messages) c ≡ answers_none_of (components_of messages) c
-  answers_of (ReturnResult last id body) = ap not (told_id id Invoked)
-  answers_of (ReturnError id code parameter) = ap not (told_id id Invoked)
-  answers_of (Reject (Some id) (problems.Invoke n)) = ap not (told_id id Invoked)
-  answers_of (Reject (Some id) (problems.ReturnResult n)) = ap not (told_id id (Answered true))
-  answers_of (Reject (Some id) (problems.ReturnError n)) = ap not (told_id id (Answered false))
-  answers_of c = refl
+  answers_of c = grind arith
 
   answers_asked : (of_one : Bool) (c : Component)
       → answers_none of_one (told_of table messages) c
@@ -116,9 +103,7 @@ module _ (table : Table) (messages : List Message) where
 
   allowed : (c : Component)
       → is_not_allowed (told_of table messages) c ≡ no_class_allows table (components_of messages) c
-  allowed (ReturnResult last id body) = ap not (told_id id (Succeeds _))
-  allowed (ReturnError id code parameter) = ap not (told_id id Fails)
-  allowed c = refl
+  allowed c = grind arith
 
   -- Whether a component has a wrong operation.
   wrong_asked : (c : Component)
@@ -185,16 +170,7 @@ nothing_of false = answers_nothing
 
 one_answers : (of_one : Bool) (side : Side) (items : List Item) (m : Message)
     → list_any (answers_nothing_in of_one side items m) (components_in m) ≡ nothing_of of_one side items m
-one_answers true side items (Unidirectional dialogue components) = refl
-one_answers true side items (Begin otid dialogue components) = refl
-one_answers true side items (Continue otid dtid dialogue components) = refl
-one_answers true side items (EndMessage dtid dialogue components) = refl
-one_answers true side items (Abort dtid reason) = refl
-one_answers false side items (Unidirectional dialogue components) = refl
-one_answers false side items (Begin otid dialogue components) = refl
-one_answers false side items (Continue otid dtid dialogue components) = refl
-one_answers false side items (EndMessage dtid dialogue components) = refl
-one_answers false side items (Abort dtid reason) = refl
+one_answers of_one side items m = grind arith
 
 one_wrong : (table : Table) (side : Side) (items : List Item) (m : Message)
     → list_any (is_wrong_in table side items m) (components_in m) ≡ is_wrong_operation table side items m

@@ -1,5 +1,5 @@
 -- No message that an end sends, and no reply of its provider, has F2, F3 or F4 (Q.774 3.3).
-use Rattle.std.proofs.Common.{◌≡◌, Bool, true, false, cond, ℕ, List, [], ◌∷◌, Option, Some, None, Ok, is_none, not, refl, sym, ap, ◌∙◌}
+use Rattle.std.proofs.Common.{◌≡◌, Bool, true, false, cond, ℕ, List, [], ◌∷◌, Option, Some, None, Ok, is_none, not, refl, sym, ap, ◌∙◌, arith}
 use Rattle.std.specs.Prelude.{Contains}
 use Rattle.std.specs.List.{AllByRecursion, list_any}
 use Rattle.std.proofs.lemmas.Bool.{and_parts, both_ways, not-true}
@@ -53,8 +53,7 @@ answers_one cause (first ∷ more) m has founded is = cc
 
 -- If a conditional test passes, the inner test passes.
 both_pass : (a b : Bool) → cond a b false ≡ true → b ≡ true
-both_pass true b is = is
-both_pass false b is = cc
+both_pass a b is = grind (arith, is)
 
 -- ---- own IDs
 
