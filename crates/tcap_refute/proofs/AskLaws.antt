@@ -40,7 +40,14 @@ spoke_where table id (x ∷ xs) m ms is = grind (arith, is, spoke_where table id
 
 not_asked : (table : Table) (id : List ℕ) (xs : List Message) (cause : Option ℕ)
     → was_not_asked (told_of table (from_id id xs)) cause ≡ is_unasked cause (from_id id xs)
-not_asked table id xs cause = grind arith
+not_asked table id xs cause = by (from_id id xs) refl cause
+  where
+    by : (ms : List Message) → from_id id xs ≡ ms → (cause : Option ℕ)
+        → was_not_asked (told_of table ms) cause ≡ is_unasked cause ms
+    by [] is None = refl
+    by [] is (Some cause) = refl
+    by (m ∷ ms) is None = rw (spoke_where table id xs m ms is) refl
+    by (m ∷ ms) is (Some cause) = rw (spoke_where table id xs m ms is) refl
 
 unasked : (table : Table) (items : List Item) (side : Side) (dtid : List ℕ) (cause : Option ℕ)
     → was_not_asked (told_from (told_by_list table items (other side)) (Some dtid)) cause

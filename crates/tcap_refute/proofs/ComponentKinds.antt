@@ -173,7 +173,13 @@ pub wrong_operation_sent : (table : Table) (events : List Event) (w : World) (si
 wrong_operation_sent table events w side (Unidirectional dialogue components) it is =
     none_passes (IsUni table) (is_not_of_class_4 table) components (of_class_4 table)
     (uni_sent table (end_at side w) it.made dialogue components it.step) is
-wrong_operation_sent table events w side (Begin otid dialogue components) it is = grind (arith, or_cases _ _ is)
+wrong_operation_sent table events w side (Begin otid dialogue components) it is = by (or_cases _ _ is)
+  where
+    by : (list_any (is_unknown_operation table) (items_of components) ≡ true) ⊎ (false ≡ true) → ⊥
+    by (inl unknown) =
+        none_passes (IsFounded table []) (is_unknown_operation table) (items_of components) (known_operation table [])
+        (begin_founded table (end_at side w) it.made otid dialogue (items_of components) it.step) unknown
+    by (inr never) = cc
 wrong_operation_sent table events w side (Continue otid dtid dialogue components) it is =
     neither table (components_of (asked side dtid (since_quiet w.sent))) (items_of components)
     (over_founded dtid it refl) is

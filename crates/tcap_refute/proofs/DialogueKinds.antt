@@ -115,11 +115,19 @@ module _ {table : Table} {events : List Event} {w : World} {side : Side} {messag
 
   -- A Continue or an End has a portion that its half may carry.
   going_on : may_go_on phase standing d ≡ true → is_misplaced_going_on is_asked d ≡ true → ⊥
-  going_on may is = grind (arith, goes_on phase standing d may)
+  going_on may is = by (goes_on phase standing d may)
+    where
+      by : (is_none d ≡ true) ⊎ (IsAsked phase standing × (accepts_dialogue d ≡ true)) → ⊥
+      by (inl none) = none_misplaced is_asked d none is
+      by (inr (so, accepts)) = answer_misplaced is_asked d (was_asked so) accepts is
 
   -- An Abort has a portion that its half may carry.
   aborting : may_abort phase standing d ≡ true → is_misplaced_aborting is_asked d ≡ true → ⊥
-  aborting may is = grind (arith, aborts phase standing d may)
+  aborting may is = by (aborts phase standing d may)
+    where
+      by : ((is_none d || is_user_abort d) ≡ true) ⊎ (IsAsked phase standing × (refuses_dialogue d ≡ true)) → ⊥
+      by (inl user) = user_misplaced is_asked d user is
+      by (inr (so, refuses)) = refusal_misplaced is_asked d (was_asked so) refuses is
 
 module _ (table : Table) (events : List Event) (w : World) (side : Side) where
   -- No message that an end sends has a misplaced portion.

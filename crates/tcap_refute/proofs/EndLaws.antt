@@ -23,7 +23,15 @@ use Rattle.tcap_refute.proofs.SetLaws.{Puts, any_inserted, made, told_at, writte
 -- ---- transaction IDs
 
 pub at_id : (a b : List ℕ) → is_at (octets_cmp a) b ≡ is_id a (Some b)
-at_id a b = grind arith
+at_id a b = by (is_at (octets_cmp a) b) (bytes_eq a b) refl refl
+  where
+    by : (p q : Bool) → is_at (octets_cmp a) b ≡ p → bytes_eq a b ≡ q → p ≡ q
+    by true true e f = refl
+    by false false e f = refl
+    by true false e f = sym ((bytes_eq-Decides a b).1 (tells_apart exact_bytes a b e)) ∙ f
+    by false true e f =
+        let same : a ≡ b = (bytes_eq-Decides a b).0 f in
+        sym e ∙ (rw same (ap is_eq (tied_itself nat_list_cmp_total b)))
 
 at_other : (a b : List ℕ) → is_at (octets_cmp a) b ≡ is_id b (Some a)
 at_other a b = (eq_by_cmp_equiv nat_list_cmp_total).symm a b ∙ at_id b a

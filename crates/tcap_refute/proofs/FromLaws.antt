@@ -38,7 +38,12 @@ one_of_two id a b apart = by (bytes_eq id a) (bytes_eq id b) refl refl
 
 pub elsewhere_with : (id to : List ℕ) (toward : Toward)
     → is_elsewhere id (toward_with to toward) ≡ (is_elsewhere id toward || is_other id (Some to))
-elsewhere_with id to (One other) = grind arith
+elsewhere_with id to (One other) = by (bytes_eq to other) refl
+  where
+    by : (b : Bool) → bytes_eq to other ≡ b
+        → is_elsewhere id (cond b (One other) Several) ≡ (not (bytes_eq id other) || not (bytes_eq id to))
+    by true same = rw (same_octets to other same) (or_itself _)
+    by false apart = one_of_two id other to apart
 elsewhere_with id to how = refl
 
 elsewhere_behind : (id : List ℕ) (goes_on : Bool) (dtid : Option (List ℕ)) (toward : Toward)

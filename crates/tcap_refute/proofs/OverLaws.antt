@@ -85,7 +85,11 @@ first_passes passes slot ((key, half) ∷ es) f is = by (passes half) refl is (f
 
 -- A half of an end that a search finds passes.
 pub found_passes : (passes : Half → Bool) (e : End) (f : KeptHalf) → half_where passes e ≡ Some f → passes f.half ≡ true
-found_passes passes e f is = grind arith
+found_passes passes e f is = by (first_half passes Begun e.begun) refl
+  where
+    by : (o : Option KeptHalf) → first_half passes Begun e.begun ≡ o → passes f.half ≡ true
+    by None none = first_passes passes Accepted e.accepted f (rw none at is)
+    by (Some g) some = first_passes passes Begun e.begun f (let same = rw some at is in some ∙ same)
 
 -- A half that is found by its peer's ID has it.
 pub peer_is : (e : End) (id : List ℕ) (f : KeptHalf) → with_peer e id ≡ Some f → f.half.peer ≡ Some id

@@ -86,7 +86,12 @@ module _ (table : Table) (messages : List Message) where
 
   answers_of : (c : Component)
       → answers_none false (told_of table messages) c ≡ answers_none_of (components_of messages) c
-  answers_of c = grind arith
+  answers_of (ReturnResult last id body) = ap not (told_id id Invoked)
+  answers_of (ReturnError id code parameter) = ap not (told_id id Invoked)
+  answers_of (Reject (Some id) (problems.Invoke n)) = ap not (told_id id Invoked)
+  answers_of (Reject (Some id) (problems.ReturnResult n)) = ap not (told_id id (Answered true))
+  answers_of (Reject (Some id) (problems.ReturnError n)) = ap not (told_id id (Answered false))
+  answers_of c = refl
 
   answers_asked : (of_one : Bool) (c : Component)
       → answers_none of_one (told_of table messages) c
@@ -103,7 +108,9 @@ module _ (table : Table) (messages : List Message) where
 
   allowed : (c : Component)
       → is_not_allowed (told_of table messages) c ≡ no_class_allows table (components_of messages) c
-  allowed c = grind arith
+  allowed (ReturnResult last id body) = ap not (told_id id (Succeeds _))
+  allowed (ReturnError id code parameter) = ap not (told_id id Fails)
+  allowed c = refl
 
   -- Whether a component has a wrong operation.
   wrong_asked : (c : Component)
