@@ -166,7 +166,14 @@ answers_nothing_sent table events w side (Abort dtid reason) it is = cc
 neither : (table : Table) (cs components : List Component) → AllByRecursion (IsFounded table cs) components
     → (list_any (is_unknown_operation table) components || list_any (no_class_allows table cs) components) ≡ true → ⊥
 neither table cs components all is =
-    grind (arith, or_cases (list_any (is_unknown_operation table) components) (list_any (no_class_allows table cs) components) is)
+    by (or_cases (list_any (is_unknown_operation table) components) (list_any (no_class_allows table cs) components) is)
+  where
+    by : (list_any (is_unknown_operation table) components ≡ true)
+        ⊎ (list_any (no_class_allows table cs) components ≡ true) → ⊥
+    by (inl unknown) =
+        none_passes (IsFounded table cs) (is_unknown_operation table) components (known_operation table cs) all unknown
+    by (inr forbidden) =
+        none_passes (IsFounded table cs) (no_class_allows table cs) components (of_its_class table cs) all forbidden
 
 pub wrong_operation_sent : (table : Table) (events : List Event) (w : World) (side : Side) (message : Message)
     → IsSent table events w side message → is_wrong_operation table side (since_quiet w.sent) message ≡ true → ⊥
