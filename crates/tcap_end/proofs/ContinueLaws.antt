@@ -1,5 +1,4 @@
--- How the step of a received Begin is computed, and that of a Continue, an End or an Abort over the half that was
--- found.
+-- How the step of a received Continue, End or Abort over the half that was found is computed.
 use Rattle.std.proofs.Common.{◌≡◌, ◌≢◌, List, ℕ, true, false, Option, Some, None, Ok, Err, is_none, refl, subst}
 use Rattle.tcap_parts.specs.declared.component.Component.{Component}
 use Rattle.tcap_parts.specs.declared.dialogue.Dialogue.{Dialogue}
@@ -10,22 +9,14 @@ use Rattle.tcap_end.specs.declared.half.Slot.{Slot}
 use Rattle.tcap_end.specs.declared.half.Slot.TheVariants.{Begun, Accepted}
 use Rattle.tcap_end.specs.declared.half_components.Way.TheVariants.{In}
 use Rattle.tcap_end.specs.Step.{◌>>=◌}
-use Rattle.tcap_end.specs.Dialogue.{answers_request, first_standing}
+use Rattle.tcap_end.specs.Dialogue.{answers_request}
 use Rattle.tcap_end.specs.End.{End, KeptHalf, is_id, put, with_own, with_peer}
-use Rattle.tcap_end.specs.Half.{Half, closed_half, fresh, is_closed}
-use Rattle.tcap_end.specs.Message.{active_half, receive_begin, receive_continue, receive_end, receive_over}
+use Rattle.tcap_end.specs.Half.{Half, closed_half, is_closed}
+use Rattle.tcap_end.specs.Message.{active_half, receive_continue, receive_end, receive_over}
 use Rattle.tcap_end.specs.ReachableEnd.{FitsPhase, Has, IsEnd, IsKept}
 use Rattle.tcap_end.specs.Table.{Table}
 use Rattle.tcap_end.specs.ComponentSteps.{components_by, way_of}
 use Rattle.tcap_end.proofs.WayLaws.{receives_in}
-
--- ---- a Begin
-
--- No half has the Begin's ID.
-pub begin_comes : {half : Half} (table : Table) (e : End) (otid : List ℕ) (dialogue : Option Dialogue) (components : List Component)
-    → with_peer e otid ≡ None → half ≡ fresh phases.Received None (Some otid) (first_standing dialogue)
-    → receive_begin table e otid dialogue components ≡ (components_by In table half components >>= λ g. Ok (put e Accepted otid g))
-begin_comes {half} table e otid dialogue components none same = rw (receives_in table half components, same, none) refl
 
 -- ---- a Continue
 

@@ -16,10 +16,10 @@ use Rattle.tcap_end.specs.declared.halves.Place.{Place}
 use Rattle.tcap_end.specs.declared.halves.Place.TheVariants.{Open, Closed}
 use Rattle.tcap_end.specs.Table.{octets_cmp}
 use Rattle.tcap_end.specs.Half.{Half, is_closed}
-use Rattle.tcap_end.specs.HalfState.{half_of}
-use Rattle.tcap_end.specs.End.{End, KeptHalf, first_half, half_where, is_id, with_own, with_peer}
+use Rattle.tcap_end.specs.HalfState.{half_of, kept_id}
+use Rattle.tcap_end.specs.End.{End, KeptHalf, first_half, half_where, is_id, named}
 use Rattle.tcap_end.specs.ReachableEnd.{Has, IsEnd, IsKept, IsSame, halves_of}
-use Rattle.tcap_end.specs.Halves.{Indexes, IsAt, IsNumbered, IsHeld, IsOpen, closed_at, end_of, half_at, half_in, halves_at, places_of, kept_half}
+use Rattle.tcap_end.specs.Halves.{Indexes, IsAt, IsNumbered, IsHeld, IsOpen, closed_at, end_of, half_at, half_in, halves_at, index_of, kept_half, name_in, other_slot, places_of}
 use Rattle.tcap_lists.proofs.MapLaws.{kept_at}
 use Rattle.tcap_end.proofs.FoundLaws.{none_own, none_peer, own_has, peer_has}
 
@@ -168,11 +168,14 @@ module _ (id_in : Half → Option (List ℕ)) (e : End) (id : List ℕ) where
       by f there its (Some g) some =
           let same = unique f g id there (has g some) its (had g some).1 in (g.half, some ∙ rw (same.0, same.1) refl)
 
-pub own_finds : (e : End) (id : List ℕ) → IsEnd e → Finds (λ h. h.own) e id (with_own e id)
-own_finds e id sound = finds (λ h. h.own) e id (own_has e id sound) (λ f. none_own e id f) sound.one_own
+pub id_finds : (slot : Slot) (e : End) (id : List ℕ) → IsEnd e → Finds (kept_id slot) e id (named e (name_in slot id))
+id_finds Begun e id sound = finds (λ h. h.own) e id (own_has e id sound) (λ f. none_own e id f) sound.one_own
+id_finds Accepted e id sound = finds (λ h. h.peer) e id (peer_has e id sound) (λ f. none_peer e id f) sound.one_peer
 
-pub peer_finds : (e : End) (id : List ℕ) → IsEnd e → Finds (λ h. h.peer) e id (with_peer e id)
-peer_finds e id sound = finds (λ h. h.peer) e id (peer_has e id sound) (λ f. none_peer e id f) sound.one_peer
+-- A half has the ID by which it is kept.
+pub is_its : (slot : Slot) (key : List ℕ) (h : Half) → IsKept slot key h → kept_id slot h ≡ Some key
+is_its Begun key h own = own
+is_its Accepted key h peer = peer
 
 -- ---- places and indexes agree with the search
 
@@ -235,19 +238,20 @@ pub led_found : (id_in : Half → Option (List ℕ)) (s : Halves) (slot : Slot) 
 led_found id_in s slot id key o None law led none = none_there s slot key led.0 none (law.had (kept_half slot key led.0) led.1).0
 led_found id_in s slot id key o (Some f) law led told = rw (told.0, told.1) led
 
--- A half with this own ID is kept by it or was accepted; a half with this peer's ID is kept by it or was begun.
-pub own_parts : (e : End) (id : List ℕ) → IsEnd e → (f : KeptHalf) → Has e f → f.half.own ≡ Some id
-    → ((f.slot ≡ Begun) × (f.key ≡ id)) ⊎ (f.slot ≡ Accepted)
-own_parts e id sound f had own = by f.slot (sound.kept f had)
-  where
-    by : (slot : Slot) → IsKept slot f.key f.half → ((slot ≡ Begun) × (f.key ≡ id)) ⊎ (slot ≡ Accepted)
-    by Begun kept = inl (refl, cc)
-    by Accepted kept = inr refl
+-- The index of the other slot leads to its halves.
+pub index_serves : (slot : Slot) (s : Halves) → IsHeld s
+    → Indexes (index_of (other_slot slot) s) (other_slot slot) (kept_id slot) (end_of s)
+index_serves Begun s held = held.by_own
+index_serves Accepted s held = held.by_peer
 
-pub peer_parts : (e : End) (id : List ℕ) → IsEnd e → (f : KeptHalf) → Has e f → f.half.peer ≡ Some id
-    → ((f.slot ≡ Accepted) × (f.key ≡ id)) ⊎ (f.slot ≡ Begun)
-peer_parts e id sound f had peer = by f.slot (sound.kept f had)
+-- A half with such an ID is kept by it, or in the other slot.
+pub id_parts : (slot : Slot) (e : End) (id : List ℕ) → IsEnd e → (f : KeptHalf) → Has e f → kept_id slot f.half ≡ Some id
+    → ((f.slot ≡ slot) × (f.key ≡ id)) ⊎ (f.slot ≡ other_slot slot)
+id_parts slot e id sound f had its = by slot f.slot (sound.kept f had) its
   where
-    by : (slot : Slot) → IsKept slot f.key f.half → ((slot ≡ Accepted) × (f.key ≡ id)) ⊎ (slot ≡ Begun)
-    by Begun kept = inr refl
-    by Accepted kept = inl (refl, cc)
+    by : (slot at : Slot) → IsKept at f.key f.half → kept_id slot f.half ≡ Some id
+        → ((at ≡ slot) × (f.key ≡ id)) ⊎ (at ≡ other_slot slot)
+    by Begun Begun kept its = inl (refl, cc)
+    by Begun Accepted kept its = inr refl
+    by Accepted Begun kept its = inr refl
+    by Accepted Accepted kept its = inl (refl, cc)

@@ -27,6 +27,7 @@ pub mod AnswerLaws
 pub mod KindLaws
 pub mod AllPlacedLaws
 pub mod OverLaws
+pub mod BeginLaws
 pub mod ContinueLaws
 pub mod HiddenLaws
 pub mod SendStepLaws

@@ -3,7 +3,6 @@ use Rattle.std.proofs.Common.{◌≡◌, List, ℕ, true, false, Option, Some, N
 use Rattle.std.specs.Borrow.{Bor}
 use Rattle.std.specs.Option.{MatchOption}
 use Rattle.tcap_end.specs.declared.half.HalfName.{HalfName}
-use Rattle.tcap_end.specs.declared.half.Phase.TheVariants as phases
 use Rattle.tcap_end.specs.declared.half.Slot.{Slot}
 use Rattle.tcap_end.specs.declared.half.Slot.TheVariants.{Begun, Accepted}
 use Rattle.tcap_end.specs.declared.half.Standing.{Standing}
@@ -13,9 +12,10 @@ use Rattle.tcap_end.specs.declared.halves.Place.{Place}
 use Rattle.tcap_end.specs.declared.halves.Place.TheVariants.{Open, Closed}
 use Rattle.tcap_end.specs.declared.halves.HalfKey.{HalfKey}
 use Rattle.tcap_end.specs.End.{End, KeptHalf, named, with_own, with_peer}
-use Rattle.tcap_end.specs.Half.{Half, fresh, is_closed}
+use Rattle.tcap_end.specs.Begins.{fresh_in}
+use Rattle.tcap_end.specs.Half.{Half, is_closed}
 use Rattle.tcap_end.specs.HalfState.{half_of, other_id}
-use Rattle.tcap_end.specs.Halves.{HasOpen, IsNew, end_of, half_at, kept_half, places_of}
+use Rattle.tcap_end.specs.Halves.{HasOpen, IsNew, end_of, half_at, kept_half, name_in, places_of}
 use Rattle.tcap_end.specs.ReachableEnd.{Has, IsEnd, IsKept}
 use Rattle.tcap_end.specs.Table.{octets_cmp}
 use Rattle.tcap_end.proofs.FindLaws.{closed_there, has_there, none_there}
@@ -148,17 +148,13 @@ new_half s slot key h start follows slot_is is_open kept alone free = record {
     is_alone Begun peer = follows.peer ∙ peer
     is_alone Accepted own = follows.own ∙ own
 
--- Its end sends the Begin, with an own ID that no half has.
-pub new_begun : (s : Halves) (key : List ℕ) (h : HalfState) (standing : Standing) → IsEnd (end_of s) → with_own (end_of s) key ≡ None
-    → h.slot ≡ Begun → Follows (fresh phases.Sent (Some key) None standing) (half_of h) → IsNew key h s
-new_begun s key h standing sound none slot_is follows =
-    new_half s Begun key h (fresh phases.Sent (Some key) None standing) follows slot_is refl refl refl
+-- Its end sends or receives the Begin, with an ID that no half has.
+pub new_by : (s : Halves) (slot : Slot) (key : List ℕ) (h : HalfState) (standing : Standing) → IsEnd (end_of s)
+    → named (end_of s) (name_in slot key) ≡ None → h.slot ≡ slot → Follows (fresh_in slot key standing) (half_of h) → IsNew key h s
+new_by s Begun key h standing sound none slot_is follows =
+    new_half s Begun key h (fresh_in Begun key standing) follows slot_is refl refl refl
     (none_placed s Begun key (λ x had. none_own (end_of s) key (kept_half Begun key x) none had (sound.kept (kept_half Begun key x) had)))
-
--- Its end receives the Begin, with a peer's ID that no half has.
-pub new_accepted : (s : Halves) (key : List ℕ) (h : HalfState) (standing : Standing) → IsEnd (end_of s) → with_peer (end_of s) key ≡ None
-    → h.slot ≡ Accepted → Follows (fresh phases.Received None (Some key) standing) (half_of h) → IsNew key h s
-new_accepted s key h standing sound none slot_is follows =
-    new_half s Accepted key h (fresh phases.Received None (Some key) standing) follows slot_is refl refl refl
+new_by s Accepted key h standing sound none slot_is follows =
+    new_half s Accepted key h (fresh_in Accepted key standing) follows slot_is refl refl refl
     (none_placed s Accepted key
     (λ x had. none_peer (end_of s) key (kept_half Accepted key x) none had (sound.kept (kept_half Accepted key x) had)))

@@ -19,10 +19,10 @@ use Rattle.tcap_end.specs.End.{End, KeptHalf, all_closed, named, nothing, put, q
 use Rattle.tcap_end.specs.Step.{◌>>=◌}
 use Rattle.tcap_end.specs.HiddenSteps.{close_each, may_close, open_halves, open_names, quiet_unseen}
 use Rattle.tcap_end.specs.Halves.{closing, kept_half, name_in}
-use Rattle.tcap_end.specs.ReachableEnd.{Has, IsEnd, IsKept, Rises}
+use Rattle.tcap_end.specs.ReachableEnd.{Has, IsEnd, Rises}
 use Rattle.tcap_lists.proofs.MapLaws.{behind_first, below_first, found_first, found_later}
 use Rattle.tcap_end.proofs.FoundLaws.{half_at, octets_total}
-use Rattle.tcap_end.proofs.FindLaws.{Finds, own_finds, peer_finds}
+use Rattle.tcap_end.proofs.FindLaws.{id_finds, is_its}
 use Rattle.tcap_end.proofs.HiddenLaws.{half_closes, stays_open}
 use Rattle.tcap_lists.proofs.PlaceLaws.{shifted}
 use Rattle.tcap_end.proofs.StepLaws.{closes}
@@ -58,19 +58,12 @@ open_are e = ap₂ ◌++◌ (names_are Begun e.begun) (names_are Accepted e.acce
 
 -- A half is found by its name.
 named_is : (e : End) (f : KeptHalf) → IsEnd e → Has e f → named e (name_of f) ≡ Some f
-named_is e f sound had = by f.slot (sound.kept f had)
-  where
-    exact : {id_in : Half → Option (List ℕ)} {o : Option KeptHalf} → Finds id_in e f.key o
-        → id_in f.half ≡ Some f.key → o ≡ Some f
-    exact finds its =
-        let it = finds.one f had its in
-        let there = (finds.had (kept_half f.slot f.key it.0) it.1).0 in
-        let same : it.0 ≡ f.half = cc in
-        it.1 ∙ ap (λ (h : Half). Some (kept_half f.slot f.key h)) same
-
-    by : (slot : Slot) → IsKept slot f.key f.half → named e (name_in slot f.key) ≡ Some f
-    by Begun own = exact (own_finds e f.key sound) own
-    by Accepted peer = exact (peer_finds e f.key sound) peer
+named_is e f sound had =
+    let finds = id_finds f.slot e f.key sound in
+    let it = finds.one f had (is_its f.slot f.key f.half (sound.kept f had)) in
+    let there = (finds.had (kept_half f.slot f.key it.0) it.1).0 in
+    let same : it.0 ≡ f.half = cc in
+    it.1 ∙ ap (λ (h : Half). Some (kept_half f.slot f.key h)) same
 
 -- ---- the first open half closes
 

@@ -1,4 +1,4 @@
--- How the step of a sent Begin is computed, and that of a Continue, an End or an Abort over the half that was found.
+-- How the step of a sent Continue, End or Abort over the half that was found is computed.
 use Rattle.std.proofs.Common.{◌≡◌, List, ℕ, true, false, Option, Some, None, Result, Ok, Err, refl, sym, ap, subst, ◌∙◌}
 use Rattle.tcap_parts.specs.declared.component.Component.{Component}
 use Rattle.tcap_parts.specs.declared.dialogue.Dialogue.{Dialogue}
@@ -13,12 +13,12 @@ use Rattle.tcap_end.specs.declared.half_components.Way.TheVariants.{Out}
 use Rattle.tcap_end.specs.declared.halves.Halves.{Halves}
 use Rattle.tcap_end.specs.Step.{◌>>=◌}
 use Rattle.tcap_end.specs.Table.{Table}
-use Rattle.tcap_end.specs.End.{End, KeptHalf, is_id, put, with_own, with_peer}
-use Rattle.tcap_end.specs.Half.{Half, closed_half, fresh, is_closed}
+use Rattle.tcap_end.specs.End.{End, KeptHalf, is_id, put, with_peer}
+use Rattle.tcap_end.specs.Half.{Half, closed_half, is_closed}
 use Rattle.tcap_end.specs.Halves.{Becomes, end_of, kept_half}
 use Rattle.tcap_end.specs.Kinds.{reason_of_dialogue}
-use Rattle.tcap_end.specs.Dialogue.{first_standing, may_abort, may_begin, may_go_on}
-use Rattle.tcap_end.specs.Message.{active_half, is_active, is_received, send_abort, send_begin, send_end, send_first_continue, send_next_continue}
+use Rattle.tcap_end.specs.Dialogue.{may_abort, may_go_on}
+use Rattle.tcap_end.specs.Message.{active_half, is_active, is_received, send_abort, send_end, send_first_continue, send_next_continue}
 use Rattle.tcap_end.specs.ReachableEnd.{FitsPhase, Has, IsEnd, IsKept}
 use Rattle.tcap_end.specs.ComponentSteps.{components_by, way_of}
 use Rattle.tcap_end.proofs.FoundLaws.{octets_total}
@@ -78,14 +78,6 @@ received_accepted e f sound had is = by f.slot (sound.kept f had)
     by : (slot : Slot) → IsKept slot f.key f.half → slot ≡ Accepted
     by Begun kept = let none = received_own e f sound had is in cc
     by Accepted kept = refl
-
--- ---- a Begin
-
--- No half has the Begin's ID, and the Begin may carry the dialogue portion.
-pub begins : {half : Half} (table : Table) (e : End) (otid : List ℕ) (dialogue : Option Dialogue) (components : List Component)
-    → with_own e otid ≡ None → may_begin dialogue ≡ true → half ≡ fresh phases.Sent (Some otid) None (first_standing dialogue)
-    → send_begin table e otid dialogue components ≡ (components_by Out table half components >>= λ g. Ok (put e Begun otid g))
-begins {half} table e otid dialogue components none may same = rw (sends_out table half components, same, none, may) refl
 
 -- ---- a Continue over a half that has its originating ID
 

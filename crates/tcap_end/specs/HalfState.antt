@@ -111,6 +111,11 @@ abbrev pub other_id : Slot → Half → Option (List ℕ)
 other_id Begun h = h.peer
 other_id Accepted h = h.own
 
+-- the transaction ID by which a half in that slot is kept
+abbrev pub kept_id : Slot → Half → Option (List ℕ)
+kept_id Begun = λ h. h.own
+kept_id Accepted = λ h. h.peer
+
 -- the half with this ID as that other one
 abbrev pub with_other_id : Slot → Option (List ℕ) → Half → Half
 with_other_id Begun id h = record h { peer = id }

@@ -112,6 +112,11 @@ abbrev pub name_in : Slot → List ℕ → HalfName
 name_in Begun = names.Own
 name_in Accepted = names.Peer
 
+-- the slot that is not this one
+abbrev pub other_slot : Slot → Slot
+other_slot Begun = Accepted
+other_slot Accepted = Begun
+
 -- the index of a slot: from the other IDs of its halves to their keys
 abbrev pub index_of : Slot → Halves → List (List ℕ × List ℕ)
 index_of Begun s = s.by_peer.entries

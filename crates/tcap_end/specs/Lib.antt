@@ -19,4 +19,5 @@ pub mod OldestPlace
 pub mod KindTest
 pub mod HalfState
 pub mod Halves
+pub mod Begins
 pub mod Kinds

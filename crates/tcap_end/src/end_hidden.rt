@@ -4,14 +4,13 @@ ghost use Rattle.std.specs.Prelude.{◌≡◌, ◌<◌, ◌^◌, ◌++◌, Some,
 ghost use Rattle.tcap_end.specs.declared.fault.EndFault.TheVariants as EndFault;
 ghost use Rattle.tcap_end.specs.Step.{Answers};
 ghost use Rattle.tcap_end.specs.HiddenSteps.{close, expire, may_close, open_halves, open_names, quiet_unseen};
-ghost use Rattle.tcap_end.specs.Half.{Half};
-ghost use Rattle.tcap_end.specs.End.{named, nothing};
+ghost use Rattle.tcap_end.specs.End.{nothing};
 ghost use Rattle.tcap_end.specs.ReachableEnd.{IsEnd, halves_of};
-ghost use Rattle.tcap_end.specs.Halves.{AllPlaced, IsNumbered, IsHeld, closing, end_of, kept_half, name_in};
+ghost use Rattle.tcap_end.specs.Halves.{AllPlaced, IsHeld, closing, end_of, name_in};
 
 use crate::fault::EndFault;
 use crate::half::{HalfName, Phase, Slot};
-use crate::halves::{HalfKey, Halves};
+use crate::halves::Halves;
 use crate::table::Table;
 use std::alloc::AllocError;
 use tcap_msg::TransactionId;
@@ -39,20 +38,6 @@ fn may_close(table: &Table, phase: Phase) -> bool
 }
 
 impl Halves {
-    /// Finds the half with this name.
-    fn named(&self, name: HalfName) -> Option<HalfKey>
-        requires held { IsHeld self.now }
-        requires sound { IsEnd (end_of self.now) }
-        ensures half { MatchOption result (named (end_of self.now) name ≡ None)
-            (λ found. (h : Half) × (named (end_of self.now) name ≡ Some (kept_half found.slot found.key h))) }
-        ensures found { IfSome result (λ found. IsNumbered found self.now) }
-    {
-        match name {
-            HalfName::Own(id) => self.with_own(id.view()),
-            HalfName::Peer(id) => self.with_peer(id.view()),
-        }
-    }
-
     /// Lets the own invocation of an ID expire.
     pub(crate) fn expire(&mut self, table: &Table, name: HalfName, id: i8) -> Result<(), EndFault>
         requires held { IsHeld self.old }
@@ -62,7 +47,7 @@ impl Halves {
         ensures held { IsHeld self.new }
         ensures placed { AllPlaced self.old → AllPlaced self.new }
     {
-        let Some(found) = self.named(name) else {
+        let Some(found) = self.named(&name) else {
             return Err(EndFault::CannotExpire);
         };
         let Some(half) = self.half(&found) else {
@@ -84,7 +69,7 @@ impl Halves {
         ensures held { IsHeld self.new }
         ensures placed { AllPlaced self.old → AllPlaced self.new }
     {
-        let Some(found) = self.named(name) else {
+        let Some(found) = self.named(&name) else {
             return Err(EndFault::CannotClose);
         };
         let Some(half) = self.half(&found) else {

@@ -1,21 +1,20 @@
 //! How an end receives a message (Q.774 3.2 and 3.3).
 
-ghost use Rattle.std.specs.Prelude.{◌≡◌, ◌≢◌, IsSome, Some, None, OnErr, option_map};
+ghost use Rattle.std.specs.Prelude.{◌≡◌, ◌≢◌, IsSome, Some, OnErr, option_map};
 ghost use Rattle.tcap_parts.specs.DialogueMeaning.{dialogue_of};
 ghost use Rattle.tcap_parts.specs.Meaning.{components_left};
 ghost use Rattle.tcap_msg.specs.Parts.{otid_in};
 ghost use Rattle.tcap_end.specs.Step.{AnswersInMemory};
 ghost use Rattle.tcap_end.specs.End.{with_own};
-ghost use Rattle.tcap_end.specs.Message.{receive, receive_begin, receive_continue, receive_end};
+ghost use Rattle.tcap_end.specs.Message.{receive, receive_continue, receive_end};
 ghost use Rattle.tcap_end.specs.ReachableEnd.{IsEnd};
 ghost use Rattle.tcap_end.specs.Halves.{AllPlaced, IsHeld, end_of};
 
 use crate::changes::Changes;
-use crate::dialogues::{answers_request, first_standing};
+use crate::dialogues::answers_request;
 use crate::fault::EndFault;
 use crate::half::{Phase, Slot};
 use crate::half_components::Way;
-use crate::half_state::HalfState;
 use crate::halves::{Halves, is_id};
 use crate::table::Table;
 use tcap_msg::{Kind, MessageParts, TransactionIdView};
@@ -43,7 +42,7 @@ impl Halves {
         match (message.kind(), message.otid(), message.dtid()) {
             (Kind::Unidirectional, _, _) => Ok(()),
             (Kind::Begin, Some(otid), _) => {
-                self.receive_begin(changes, table, otid, dialogue, components)
+                self.begin(changes, table, Slot::Accepted, otid, dialogue, components)
             }
             (Kind::Continue, Some(otid), Some(dtid)) => {
                 self.receive_continue(changes, table, otid, dtid, dialogue, components)
@@ -55,41 +54,6 @@ impl Halves {
             // Each kind of message has its transaction IDs.
             _ => unreachable!(),
         }
-    }
-
-    /// Receives a Begin.
-    fn receive_begin(
-        &mut self,
-        changes: &mut Changes,
-        table: &Table,
-        otid: TransactionIdView,
-        dialogue: Option<DialogueView>,
-        components: Components,
-    ) -> Result<(), EndFault>
-        requires held { IsHeld self.old }
-        requires sound { IsEnd (end_of self.old) }
-        ensures step { AnswersInMemory (receive_begin table.now (end_of self.old) otid.entry.octets.now
-            (option_map dialogue_of dialogue.entry) (components_left components.entry)) result (end_of self.new) }
-        ensures kept { OnErr result (end_of self.new ≡ end_of self.old) }
-        ensures held { IsHeld self.new }
-        ensures placed { AllPlaced self.old → AllPlaced self.new }
-    {
-        if self.with_peer(otid).is_some() {
-            return Err(EndFault::IdUsed);
-        }
-        let peer = Some(otid.to_transaction_id());
-        let standing = first_standing(dialogue);
-        let mut half = HalfState::new(
-            changes.alloc(),
-            Slot::Accepted,
-            Phase::Received,
-            None,
-            peer,
-            standing,
-        );
-        half.step_components(changes, table, Way::In, components)?;
-        self.add(otid.to_transaction_id(), half)?;
-        Ok(())
     }
 
     /// Receives a Continue.
@@ -111,7 +75,7 @@ impl Halves {
         ensures held { IsHeld self.new }
         ensures placed { AllPlaced self.old → AllPlaced self.new }
     {
-        let Some(found) = self.with_own(dtid) else {
+        let Some(found) = self.with_id(Slot::Begun, dtid) else {
             return Err(EndFault::NoTransaction);
         };
         let Some(half) = self.half(&found) else {
@@ -120,7 +84,7 @@ impl Halves {
         match half.phase {
             Phase::Sent => {
                 let standing = half.standing;
-                if self.with_peer(otid).is_some() {
+                if self.with_id(Slot::Accepted, otid).is_some() {
                     return Err(EndFault::IdUsed);
                 }
                 if !answers_request(standing, dialogue) {
@@ -147,7 +111,7 @@ impl Halves {
         ensures held { IsHeld self.new }
         ensures placed { AllPlaced self.old → AllPlaced self.new }
     {
-        let Some(found) = self.with_own(dtid) else {
+        let Some(found) = self.with_id(Slot::Begun, dtid) else {
             return;
         };
         if self.half(&found).is_some() {

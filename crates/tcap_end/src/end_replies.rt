@@ -9,6 +9,7 @@ ghost use Rattle.tcap_end.specs.ReachableEnd.{IsEnd};
 ghost use Rattle.tcap_end.specs.Halves.{IsHeld, end_of};
 
 use crate::fault::EndFault;
+use crate::half::Slot;
 use crate::halves::Halves;
 use tcap_msg::{Kind, MessageParts, TransactionIdView};
 
@@ -52,7 +53,7 @@ pub(crate) fn refuse_begin<B: MessageParts, A: MessageParts>(
     match (begin.kind(), begin.otid()) {
         (Kind::Begin, Some(otid)) => {
             needs(aborts(RESOURCE_LIMITATION, otid, abort))?;
-            needs(halves.with_peer(otid).is_none())
+            needs(halves.with_id(Slot::Accepted, otid).is_none())
         }
         _ => Err(EndFault::NoTransaction),
     }
@@ -83,7 +84,7 @@ fn has_open(halves: &Halves, id: TransactionIdView) -> bool
     requires sound { IsEnd (end_of halves.now) }
     ensures { result ≡ is_open (with_own (end_of halves.now) id.entry.octets.now) }
 {
-    match halves.with_own(id) {
+    match halves.with_id(Slot::Begun, id) {
         Some(found) => halves.half(&found).is_some(),
         None => false,
     }

@@ -1,6 +1,6 @@
 //! How an end sends a message (Q.774 3.2 and 3.3).
 
-ghost use Rattle.std.specs.Prelude.{◌≡◌, ◌≢◌, Some, None, Ok, Err, OnErr, IfErr, OnOk, [], option_map};
+ghost use Rattle.std.specs.Prelude.{◌≡◌, ◌≢◌, Some, None, Ok, Err, OnErr, option_map};
 ghost use Rattle.tcap_parts.specs.DialogueMeaning.{dialogue_of};
 ghost use Rattle.tcap_parts.specs.Meaning.{components_left};
 ghost use Rattle.tcap_msg.specs.declared.kind.Kind.TheVariants as Kind;
@@ -8,28 +8,17 @@ ghost use Rattle.tcap_msg.specs.Parts.{kind_in};
 ghost use Rattle.tcap_end.specs.declared.fault.EndFault.TheVariants as EndFault;
 ghost use Rattle.tcap_end.specs.Step.{Answers, AnswersInMemory};
 ghost use Rattle.tcap_end.specs.Half.{Half};
-ghost use Rattle.tcap_end.specs.End.{End, with_own, with_peer};
-ghost use Rattle.tcap_end.specs.Message.{
-  is_active,
-  is_received,
-  send,
-  send_abort,
-  send_begin,
-  send_continue,
-  send_end,
-  send_first_continue,
-  send_next_continue,
-};
+ghost use Rattle.tcap_end.specs.End.{End, with_own};
+ghost use Rattle.tcap_end.specs.Message.{is_active, is_received, send, send_abort, send_continue, send_end, send_first_continue, send_next_continue};
 ghost use Rattle.tcap_end.specs.ReachableEnd.{Has, IsEnd};
 ghost use Rattle.tcap_end.specs.Halves.{AllPlaced, IsNumbered, IsHeld, end_of, kept_half};
 ghost use Rattle.tcap_end.specs.Kinds.{reason_of_dialogue};
 
 use crate::changes::Changes;
-use crate::dialogues::{first_standing, may_abort, may_be_uni, may_begin, may_go_on};
+use crate::dialogues::{may_abort, may_be_uni, may_go_on};
 use crate::fault::EndFault;
 use crate::half::{Phase, Slot};
 use crate::half_components::Way;
-use crate::half_state::HalfState;
 use crate::halves::{HalfKey, Halves, is_id};
 use crate::table::Table;
 use crate::unidirectional::check_components;
@@ -88,7 +77,7 @@ impl Halves {
         match (message.kind(), message.otid(), message.dtid()) {
             (Kind::Unidirectional, _, _) => check_unidirectional(changes.alloc(), table, message),
             (Kind::Begin, Some(otid), _) => {
-                self.send_begin(changes, table, otid, dialogue, components)
+                self.begin(changes, table, Slot::Begun, otid, dialogue, components)
             }
             (Kind::Continue, Some(otid), Some(dtid)) => {
                 self.send_continue(changes, table, otid, dtid, dialogue, components)
@@ -101,44 +90,6 @@ impl Halves {
             // Each kind of message has its transaction IDs.
             _ => unreachable!(),
         }
-    }
-
-    /// Sends a Begin.
-    fn send_begin(
-        &mut self,
-        changes: &mut Changes,
-        table: &Table,
-        otid: TransactionIdView,
-        dialogue: Option<DialogueView>,
-        components: Components,
-    ) -> Result<(), EndFault>
-        requires held { IsHeld self.old }
-        requires sound { IsEnd (end_of self.old) }
-        ensures step { AnswersInMemory (send_begin table.now (end_of self.old) otid.entry.octets.now
-            (option_map dialogue_of dialogue.entry) (components_left components.entry)) result (end_of self.new) }
-        ensures kept { OnErr result (end_of self.new ≡ end_of self.old) }
-        ensures held { IsHeld self.new }
-        ensures placed { AllPlaced self.old → AllPlaced self.new }
-    {
-        if self.with_own(otid).is_some() {
-            return Err(EndFault::IdUsed);
-        }
-        if !may_begin(dialogue) {
-            return Err(EndFault::WrongDialogue);
-        }
-        let own = Some(otid.to_transaction_id());
-        let standing = first_standing(dialogue);
-        let mut half = HalfState::new(
-            changes.alloc(),
-            Slot::Begun,
-            Phase::Sent,
-            own,
-            None,
-            standing,
-        );
-        half.step_components(changes, table, Way::Out, components)?;
-        self.add(otid.to_transaction_id(), half)?;
-        Ok(())
     }
 
     /// Sends a Continue, by the half with its originating ID if there is one.
@@ -161,7 +112,7 @@ impl Halves {
         ensures held { IsHeld self.new }
         ensures placed { AllPlaced self.old → AllPlaced self.new }
     {
-        match self.with_own(otid) {
+        match self.with_id(Slot::Begun, otid) {
             Some(found) => {
                 self.send_next_continue(changes, table, &found, dtid, dialogue, components)
             }
@@ -225,7 +176,7 @@ impl Halves {
         ensures held { IsHeld self.new }
         ensures placed { AllPlaced self.old → AllPlaced self.new }
     {
-        let Some(found) = self.with_peer(dtid) else {
+        let Some(found) = self.with_id(Slot::Accepted, dtid) else {
             return Err(EndFault::NoTransaction);
         };
         let Some(half) = self.half(&found) else {
@@ -257,7 +208,7 @@ impl Halves {
         ensures held { IsHeld self.new }
         ensures placed { AllPlaced self.old → AllPlaced self.new }
     {
-        let Some(found) = self.with_peer(dtid) else {
+        let Some(found) = self.with_id(Slot::Accepted, dtid) else {
             return Err(EndFault::NoTransaction);
         };
         let Some(half) = self.half(&found) else {
@@ -286,7 +237,7 @@ impl Halves {
         ensures held { IsHeld self.new }
         ensures placed { AllPlaced self.old → AllPlaced self.new }
     {
-        let Some(found) = self.with_peer(dtid) else {
+        let Some(found) = self.with_id(Slot::Accepted, dtid) else {
             return Err(EndFault::NoTransaction);
         };
         let Some(half) = self.half(&found) else {

@@ -27,7 +27,7 @@ pub(crate) enum Way {
 impl Slot {
     /// Returns the direction of the Continue that answers a half's Begin: received if the half sent the Begin, sent if
     /// it received it.
-    fn way(self) -> Way
+    pub(crate) fn way(self) -> Way
         ensures { result ≡ way_of self }
     {
         match self {

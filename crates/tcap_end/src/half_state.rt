@@ -1,6 +1,7 @@
 //! The state of an open half, and undoing its changes.
 
 ghost use Rattle.std.specs.Prelude.{◌≡◌, ◌∷◌, OnErr, OnOk};
+ghost use Rattle.tcap_end.specs.Begins.{fresh_in};
 ghost use Rattle.tcap_end.specs.Half.{Half, fresh};
 ghost use Rattle.tcap_end.specs.Component.{own_invocation};
 ghost use Rattle.tcap_end.specs.HiddenSteps.{may_expire};
@@ -47,7 +48,7 @@ pub(crate) enum Change {
 
 impl HalfState {
     /// Creates a half with no invocations and no answers.
-    pub(crate) fn new(
+    fn fresh(
         alloc: Global,
         slot: Slot,
         phase: Phase,
@@ -67,6 +68,19 @@ impl HalfState {
             out: Outs::new(alloc),
             inn: Lists::new(alloc),
             grants: Lists::new(alloc),
+        }
+    }
+
+    /// Creates the half of a Begin with this originating ID, before the Begin's components.
+    pub(crate) fn new(alloc: Global, slot: Slot, id: TransactionId, standing: Standing) -> HalfState
+        ensures half { half_of result ≡ fresh_in slot id standing }
+        ensures slot { result.slot ≡ slot }
+    {
+        match slot {
+            Slot::Begun => { HalfState::fresh(alloc, slot, Phase::Sent, Some(id), None, standing) }
+            Slot::Accepted => {
+                HalfState::fresh(alloc, slot, Phase::Received, None, Some(id), standing)
+            }
         }
     }
 

@@ -1,11 +1,8 @@
 //! A read-only view of an open half.
 
 ghost use Rattle.std.specs.Prelude.{◌≡◌, MatchOption, None, Some, IfSome, is_some, option_copied, option_map};
-ghost use Rattle.std.specs.Ordering.{int_cmp};
-ghost use Rattle.std.specs.Map.{lookup};
-ghost use Rattle.std.specs.BTreeMap.{is_at};
 ghost use Rattle.tcap_parts.specs.Meaning.{code_of};
-ghost use Rattle.tcap_end.specs.Half.{Half, listed};
+ghost use Rattle.tcap_end.specs.Half.{Half};
 ghost use Rattle.tcap_end.specs.End.{named};
 ghost use Rattle.tcap_end.specs.ReachableEnd.{IsEnd};
 ghost use Rattle.tcap_end.specs.Halves.{IsNumbered, IsHeld, end_of, kept_half};
@@ -13,7 +10,7 @@ ghost use Rattle.tcap_end.specs.HiddenSteps.{open_named};
 ghost use Rattle.tcap_end.specs.Component.{own_invocation};
 ghost use Rattle.tcap_end.specs.HalfState.{half_of};
 
-use crate::half::{HalfName, InvocationState, Phase, Standing};
+use crate::half::{HalfName, InvocationState, Phase, Slot, Standing};
 use crate::half_state::HalfState;
 use crate::halves::{HalfKey, Halves};
 use std::alloc::{AllocError, Global};
@@ -132,7 +129,7 @@ impl<'a> OpenHalf<'a> {
 
 impl Halves {
     /// Finds the half with this name.
-    fn kept(&self, name: &HalfName) -> Option<HalfKey>
+    pub(crate) fn named(&self, name: &HalfName) -> Option<HalfKey>
         requires held { IsHeld self.now }
         requires sound { IsEnd (end_of self.now) }
         ensures half { MatchOption result (named (end_of self.now) name.now ≡ None)
@@ -140,8 +137,8 @@ impl Halves {
         ensures found { IfSome result (λ found. IsNumbered found self.now) }
     {
         match name {
-            HalfName::Own(id) => self.with_own(id.view()),
-            HalfName::Peer(id) => self.with_peer(id.view()),
+            HalfName::Own(id) => self.with_id(Slot::Begun, id.view()),
+            HalfName::Peer(id) => self.with_id(Slot::Accepted, id.view()),
         }
     }
 
@@ -151,7 +148,7 @@ impl Halves {
         requires sound { IsEnd (end_of self.now) }
         ensures { result ≡ is_some (named (end_of self.now) name.now) }
     {
-        self.kept(name).is_some()
+        self.named(name).is_some()
     }
 
     /// Returns the open half with this name.
@@ -161,7 +158,7 @@ impl Halves {
         ensures { MatchOption result (open_named (end_of self.now) name.now ≡ None)
             (λ half. open_named (end_of self.now) name.now ≡ Some (half_of half.now)) }
     {
-        let Some(found) = self.kept(name) else {
+        let Some(found) = self.named(name) else {
             return None;
         };
         let Some(half) = self.half(&found) else {

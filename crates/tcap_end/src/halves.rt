@@ -14,9 +14,9 @@ ghost use Rattle.tcap_end.specs.Component.{own_invocation};
 ghost use Rattle.tcap_end.specs.HiddenSteps.{without_invocation};
 ghost use Rattle.tcap_end.specs.Message.{active_half};
 ghost use Rattle.tcap_end.specs.ComponentSteps.{components_by, way_of};
-ghost use Rattle.tcap_end.specs.End.{KeptHalf, all_closed, is_id, nothing, put, with_own, with_peer};
+ghost use Rattle.tcap_end.specs.End.{KeptHalf, all_closed, is_id, named, nothing, put};
 ghost use Rattle.tcap_end.specs.ReachableEnd.{Has, IsEnd};
-ghost use Rattle.tcap_end.specs.Halves.{AllPlaced, AnswersOver, Becomes, HasOpen, IsAt, IsNumbered, IsHeld, IsNew, end_of, index_of, kept_half, open_at, places_of};
+ghost use Rattle.tcap_end.specs.Halves.{AllPlaced, AnswersOver, Becomes, HasOpen, IsAt, IsNumbered, IsHeld, IsNew, end_of, index_of, kept_half, name_in, open_at, other_slot, places_of};
 
 use crate::changes::Changes;
 use crate::fault::EndFault;
@@ -72,6 +72,18 @@ pub(crate) fn is_id(id: TransactionIdView, other: &Option<TransactionId>) -> boo
     }
 }
 
+impl Slot {
+    /// Returns the other slot.
+    pub(crate) fn other(self) -> Slot
+        ensures { result ≡ other_slot self }
+    {
+        match self {
+            Slot::Begun => Slot::Accepted,
+            Slot::Accepted => Slot::Begun,
+        }
+    }
+}
+
 impl Halves {
     /// Creates an end without halves.
     pub(crate) fn new(alloc: Global) -> Halves
@@ -124,35 +136,30 @@ impl Halves {
         })
     }
 
-    /// Finds the half with this own transaction ID.
-    pub(crate) fn with_own(&self, id: TransactionIdView) -> Option<HalfKey>
-        requires held { IsHeld self.now }
-        requires sound { IsEnd (end_of self.now) }
-        ensures half { MatchOption result (with_own (end_of self.now) id.entry.octets.now ≡ None)
-            (λ found. (h : Half) × (with_own (end_of self.now) id.entry.octets.now
-            ≡ Some (kept_half found.slot found.key h))) }
-        ensures found { IfSome result (λ found. IsNumbered found self.now) }
+    /// Returns the index of a slot: the IDs by which its halves are not kept, each mapped to the ID by which it is kept.
+    fn indexed(&self, slot: Slot) -> &BTreeMap<TransactionId, TransactionId>
+        ensures { result.now.entries ≡ index_of slot self.now }
     {
-        let key = id.to_transaction_id();
-        match self.find(Slot::Begun, &key) {
-            Some(found) => Some(found),
-            None => self.find(Slot::Accepted, self.by_own.get(&key)?),
+        match slot {
+            Slot::Begun => &self.by_peer,
+            Slot::Accepted => &self.by_own,
         }
     }
 
-    /// Finds the half with this transaction ID of the peer.
-    pub(crate) fn with_peer(&self, id: TransactionIdView) -> Option<HalfKey>
+    /// Finds the half with this transaction ID: as its own for `Begun`, as the peer's for `Accepted`.
+    pub(crate) fn with_id(&self, slot: Slot, id: TransactionIdView) -> Option<HalfKey>
         requires held { IsHeld self.now }
         requires sound { IsEnd (end_of self.now) }
-        ensures half { MatchOption result (with_peer (end_of self.now) id.entry.octets.now ≡ None)
-            (λ found. (h : Half) × (with_peer (end_of self.now) id.entry.octets.now
+        ensures half { MatchOption result (named (end_of self.now) (name_in slot id.entry.octets.now) ≡ None)
+            (λ found. (h : Half) × (named (end_of self.now) (name_in slot id.entry.octets.now)
             ≡ Some (kept_half found.slot found.key h))) }
         ensures found { IfSome result (λ found. IsNumbered found self.now) }
     {
         let key = id.to_transaction_id();
-        match self.find(Slot::Accepted, &key) {
+        let other = slot.other();
+        match self.find(slot, &key) {
             Some(found) => Some(found),
-            None => self.find(Slot::Begun, self.by_peer.get(&key)?),
+            None => self.find(other, self.indexed(other).get(&key)?),
         }
     }
 

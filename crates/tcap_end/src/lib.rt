@@ -5,6 +5,7 @@
 mod changes;
 mod class;
 mod dialogues;
+mod end_beginning;
 mod end_hidden;
 mod end_receiving;
 mod end_replies;

@@ -26,7 +26,7 @@ returns-then-is_some-clause-step c _ =
     c.requires.sound c.in-Some.ensures.half c.in-Some-half.ensures in
     over_used c.args.table.now (end_of s) id c.args.dtid.octets.now (option_map dialogue_of c.args.dialogue)
     (components_left c.args.components) over.is c.in-Sent.is
-    (told_some (with_peer (end_of s) id) c.with_peer.result (sym c.is_some.ensures ∙ c.if-is_some.true) c.with_peer.ensures.half)
+    (told_some (with_peer (end_of s) id) c.with_id-in-Sent.result (sym c.is_some.ensures ∙ c.if-is_some.true) c.with_id-in-Sent.ensures.half)
 
 pub returns-then-not-answers_request-clause-step : goal.returns-then-not-answers_request-clause-step
 returns-then-not-answers_request-clause-step c _ =
@@ -36,7 +36,7 @@ returns-then-not-answers_request-clause-step c _ =
     c.requires.sound c.in-Some.ensures.half c.in-Some-half.ensures in
     over_unanswered c.args.table.now (end_of s) id c.args.dtid.octets.now (option_map dialogue_of c.args.dialogue)
     (components_left c.args.components) over.is c.in-Sent.is
-    (told_none (with_peer (end_of s) id) c.with_peer.result (sym c.is_some.ensures ∙ c.if-is_some.false) c.with_peer.ensures.half)
+    (told_none (with_peer (end_of s) id) c.with_id-in-Sent.result (sym c.is_some.ensures ∙ c.if-is_some.false) c.with_id-in-Sent.ensures.half)
     (sym c.answers_request.ensures ∙ c.if-not-answers_request.true)
 
 pub activate_over-requires-clause-open : goal.activate_over-requires-clause-open
@@ -58,7 +58,7 @@ activate_over-requires-clause-unused c f has its =
     let over = over_own c.args.self.now c.args.dtid.octets.now c.in-Some.found c.in-Some-half.half.now
     c.requires.sound c.in-Some.ensures.half c.in-Some-half.ensures in
     let at = sent_begun e (over_half c.in-Some.found c.in-Some-half.half.now) c.requires.sound over.had c.in-Sent.is in
-    none_peer e id f (told_none (with_peer e id) c.with_peer.result (sym c.is_some.ensures ∙ c.if-is_some.false) c.with_peer.ensures.half) has
+    none_peer e id f (told_none (with_peer e id) c.with_id-in-Sent.result (sym c.is_some.ensures ∙ c.if-is_some.false) c.with_id-in-Sent.ensures.half) has
     (rw (at, c.to_transaction_id.ensures) at its)
 
 pub returns-then-not-is_id-clause-step : goal.returns-then-not-is_id-clause-step
@@ -92,7 +92,7 @@ returns-else-not-answers_request-clause-step c =
     rw (
       over_first c.args.table.now (end_of s) id c.args.dtid.octets.now (option_map dialogue_of c.args.dialogue)
           (components_left c.args.components) over.is c.in-Sent.is
-          (told_none (with_peer (end_of s) id) c.with_peer.result (sym c.is_some.ensures ∙ c.if-is_some.false) c.with_peer.ensures.half)
+          (told_none (with_peer (end_of s) id) c.with_id-in-Sent.result (sym c.is_some.ensures ∙ c.if-is_some.false) c.with_id-in-Sent.ensures.half)
           (sym c.answers_request.ensures ∙ c.if-not-answers_request.false) at,
       ← c.to_transaction_id.ensures,
     )
