@@ -65,6 +65,14 @@ def version():
     return b"tcapjudge 0.1.0 (proved, %s)\n" % kit
 
 
+def given_twice(first, second):
+    """Returns the required fault of a command line with two `-`."""
+    words = f"- is given for {first}, and again for {second}"
+    return f"error: {words}; the standard input can be read once\n".encode()
+
+
+LOOKS_LIKE_A_TABLE = b"  hint: this looks like an operation table, which `tcapjudge table` prints\n"
+NO_TABLE = b"error: the standard input: the text is no JSON, or not UTF-8\n"
 NONE = "/no/such/file"
 SOME = object()
 
@@ -74,6 +82,44 @@ ROWS = [
     (["show"], b"", b"", b"", 0),
     (["show"], BEGIN + b"\x43", LINE + b"FAULT 20 6\n", b"", 3),
     (["show"], bytes.fromhex("4162054801016c00"), b"0 A FAULT 11 6\n", b"", 3),
+    # `-` is the standard input.
+    (["show", "-"], BEGIN, LINE, b"", 0),
+    (["show", "--why", "-"], BEGIN, LINE, b"", 0),
+    (["show", "--lines", "-"], LINES, LINE, b"", 0),
+    (["pack", "-"], LINES, BEGIN, b"", 0),
+    (["check", "-", "TABLE", "CERT"], DIALOGUE, b"LAWFUL 2\n", b"", 0),
+    (["check", "DIALOGUE", "-", "CERT"], TABLE, b"LAWFUL 2\n", b"", 0),
+    (["check", "DIALOGUE", "TABLE", "-"], CERT, b"LAWFUL 2\n", b"", 0),
+    (["check", "--end", "A", "-", "TABLE", "CERT"], DIALOGUE, b"LAWFUL 2 unheard 0\n", b"", 0),
+    (["judge", "-", "TABLE"], DIALOGUE, b"LAWFUL 2\n", b"", 0),
+    (["judge", "DIALOGUE", "-"], TABLE, b"LAWFUL 2\n", b"", 0),
+    (["judge", "-", "TABLE"], DIALOGUE[:-1], b"FAULT 21 28\n", b"", 3),
+    (["blame", "-", "TABLE"], DIALOGUE, b"LAWFUL 2\nLAWFUL A 2 unheard 0\nLAWFUL B 2 unheard 0\n", b"", 0),
+    (["blame", "DIALOGUE", "-"], TABLE, b"LAWFUL 2\nLAWFUL A 2 unheard 0\nLAWFUL B 2 unheard 0\n", b"", 0),
+    (["explain", "-", "TABLE", "CERT"], DIALOGUE, SOME, b"", 0),
+    (["explain", "DIALOGUE", "-", "CERT"], TABLE, SOME, b"", 0),
+    (["explain", "DIALOGUE", "TABLE", "-"], CERT, SOME, b"", 0),
+    (["table", "-"], TABLE, b"op=45 class=1\n", b"", 0),
+    (["test", "--table", "-", "LINES"], TABLE, SOME, b"", 0),
+    # A hint on the standard input has no path.
+    (["judge", "-", "TABLE"], TABLE, b"FAULT 20 0\n", LOOKS_LIKE_A_TABLE, 3),
+    (["table", "-"], BEGIN, SOME, b"  hint: this looks like a record, which `tcapjudge show` prints\n", 3),
+    (["test", "--table", "-", "LINES"], b"{", SOME, NO_TABLE, 3),
+    # It can be read once.
+    (["judge", "-", "-"], DIALOGUE, b"", given_twice("RECORD", "TABLE"), 4),
+    (["blame", "-", "-"], DIALOGUE, b"", given_twice("RECORD", "TABLE"), 4),
+    (["check", "-", "-", "CERT"], DIALOGUE, b"", given_twice("RECORD", "TABLE"), 4),
+    (["check", "-", "TABLE", "-"], DIALOGUE, b"", given_twice("RECORD", "CERT"), 4),
+    (["check", "DIALOGUE", "-", "-"], TABLE, b"", given_twice("TABLE", "CERT"), 4),
+    (["check", "-", "-", "-"], TABLE, b"", given_twice("RECORD", "TABLE"), 4),
+    (["explain", "-", "-"], DIALOGUE, b"", given_twice("RECORD", "TABLE"), 4),
+    (["explain", "-", "TABLE", "-"], DIALOGUE, b"", given_twice("RECORD", "CERT"), 4),
+    (["test", "-", "LINES", "-"], LINES, b"", given_twice("TRACE", "TRACE"), 4),
+    (["test", "--table", "-", "-"], TABLE, b"", given_twice("--table", "TRACE"), 4),
+    (["test", "-", "--table", "-"], TABLE, b"", given_twice("--table", "TRACE"), 4),
+    (["test", "--table", "-", "--table", "-", "LINES"], TABLE, b"", given_twice("--table", "--table"), 4),
+    # It is no output.
+    (["explain", "DIALOGUE", "TABLE", "--chart", "-"], b"", b"", b"error: --chart takes the path of a file\n", 4),
     ([], b"", b"", SOME, 4),
     (["shew"], b"", b"", SOME, 4),
     (["show", "RECORD"], b"", LINE, b"", 0),

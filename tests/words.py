@@ -431,6 +431,14 @@ PRINTED = [
     (["test", "-h"], "Example: tcapjudge test --table map.json traces/*.hex"),
     (["test", "--help"], "[possible values: again, settled, once]"),
     (["test", "--help"], "Writes a page with the dialogues that do not pass to this file"),
+    *[([word, "--help"], "The file of the record; - is the standard input") for word in ("check", "judge", "explain", "blame")],
+    *[([word, "--help"], "The file of the operation table; - is the standard input") for word in ("check", "judge", "explain", "blame")],
+    *[([word, "--help"], "; by default, or if it is -, the standard input") for word in ("show", "pack")],
+    (["check", "--help"], "The file of the certificate; - is the standard input"),
+    (["explain", "--help"], "The file of a certificate to replay, or - for the standard input"),
+    (["table", "--help"], "The file of a table or a book of them; - is the standard input"),
+    (["test", "--help"], "The file of a table, or of a book of them; - is the standard input"),
+    (["test", "--help"], "The file of a trace; - is the standard input"),
 ]
 
 # Wrong words, and a part of the error.

@@ -25,6 +25,12 @@ static STATUSES: &str = "Exit statuses:
   4  the command line is wrong
 For `test`: 0 if all pass, 1 if a dialogue fails, 2 if one is inconclusive, 3 if there is an error";
 
+/// The help on the file of a record.
+static RECORD_HELP: &str = "The file of the record; - is the standard input";
+
+/// The help on the file of an operation table.
+static TABLE_HELP: &str = "The file of the operation table; - is the standard input";
+
 /// Creates a required positional argument.
 fn needed_arg<'a>(alloc: Global, id: &'a str, text: &'a str) -> Arg<'a>
     ensures rule { rule_of result ≡ needed_rule id.entry.now }
@@ -128,7 +134,9 @@ fn tables_arg<'a>(alloc: Global) -> Arg<'a>
         .long("table")
         .action(ArgAction::Append)
         .value_name("FILE")
-        .help("The file of an operation table, or of a book of them; may be given several times")
+        .help(
+            "The file of a table, or of a book of them; - is the standard input; may be given several times",
+        )
 }
 
 /// Creates the option `--linger`, whose value is a number.
@@ -159,9 +167,13 @@ fn traces_arg<'a>(alloc: Global) -> Arg<'a>
 fn check_command<'a>(alloc: Global) -> Result<Command<'a>, AllocError>
     ensures { IfOk result (λ c. (placeless_shape (shape_of c) ≡ check_shape) × ((out-Command c).has_globals ≡ false)) }
 {
-    let record = needed_arg(alloc, "RECORD", "The file of the record");
-    let table = needed_arg(alloc, "TABLE", "The file of the operation table");
-    let cert = needed_arg(alloc, "CERT", "The file of the certificate");
+    let record = needed_arg(alloc, "RECORD", RECORD_HELP);
+    let table = needed_arg(alloc, "TABLE", TABLE_HELP);
+    let cert = needed_arg(
+        alloc,
+        "CERT",
+        "The file of the certificate; - is the standard input",
+    );
     Command::new(alloc, "check")
         .about("Replays a certificate for a record")
         .after_help("Example: tcapjudge check record table.json cert.json")
@@ -175,8 +187,8 @@ fn check_command<'a>(alloc: Global) -> Result<Command<'a>, AllocError>
 fn judge_command<'a>(alloc: Global) -> Result<Command<'a>, AllocError>
     ensures { IfOk result (λ c. (placeless_shape (shape_of c) ≡ judge_shape) × ((out-Command c).has_globals ≡ false)) }
 {
-    let record = needed_arg(alloc, "RECORD", "The file of the record");
-    let table = needed_arg(alloc, "TABLE", "The file of the operation table");
+    let record = needed_arg(alloc, "RECORD", RECORD_HELP);
+    let table = needed_arg(alloc, "TABLE", TABLE_HELP);
     let cert = flag_arg(alloc, "cert", "Prints the certificate after LAWFUL");
     Command::new(alloc, "judge")
         .about("Judges a record")
@@ -191,12 +203,12 @@ fn judge_command<'a>(alloc: Global) -> Result<Command<'a>, AllocError>
 fn explain_command<'a>(alloc: Global) -> Result<Command<'a>, AllocError>
     ensures { IfOk result (λ c. (placeless_shape (shape_of c) ≡ explain_shape) × ((out-Command c).has_globals ≡ false)) }
 {
-    let record = needed_arg(alloc, "RECORD", "The file of the record");
-    let table = needed_arg(alloc, "TABLE", "The file of the operation table");
+    let record = needed_arg(alloc, "RECORD", RECORD_HELP);
+    let table = needed_arg(alloc, "TABLE", TABLE_HELP);
     let cert = left_out_arg(
         alloc,
         "CERT",
-        "The file of a certificate to replay; by default, one is searched for",
+        "The file of a certificate to replay, or - for the standard input; by default, one is searched for",
     );
     let chart = file_arg(
         alloc,
@@ -217,8 +229,8 @@ fn explain_command<'a>(alloc: Global) -> Result<Command<'a>, AllocError>
 fn blame_command<'a>(alloc: Global) -> Result<Command<'a>, AllocError>
     ensures { IfOk result (λ c. (shape_of c ≡ blame_shape) × ((out-Command c).has_globals ≡ false)) }
 {
-    let record = needed_arg(alloc, "RECORD", "The file of the record");
-    let table = needed_arg(alloc, "TABLE", "The file of the operation table");
+    let record = needed_arg(alloc, "RECORD", RECORD_HELP);
+    let table = needed_arg(alloc, "TABLE", TABLE_HELP);
     Command::new(alloc, "blame")
         .about("Says which end is at fault")
         .after_help("Example: tcapjudge blame record table.json")
@@ -233,7 +245,7 @@ fn show_command<'a>(alloc: Global) -> Result<Command<'a>, AllocError>
     let record = left_out_arg(
         alloc,
         "RECORD",
-        "The file of the record; by default, the standard input",
+        "The file of the record; by default, or if it is -, the standard input",
     );
     let why = flag_arg(
         alloc,
@@ -257,7 +269,7 @@ fn pack_command<'a>(alloc: Global) -> Result<Command<'a>, AllocError>
     let lines = left_out_arg(
         alloc,
         "LINES",
-        "The file of the lines; by default, the standard input",
+        "The file of the lines; by default, or if it is -, the standard input",
     );
     Command::new(alloc, "pack")
         .about("Makes a record of lines of hex digits")
@@ -273,7 +285,7 @@ fn table_command<'a>(alloc: Global) -> Result<Command<'a>, AllocError>
     let table = left_out_arg(
         alloc,
         "TABLE",
-        "The file of an operation table, or of a book of them; by default, the book that the program carries",
+        "The file of a table or a book of them; - is the standard input; by default, the book that the program carries",
     );
     Command::new(alloc, "table")
         .about("Prints the rows of an operation table, or of a book of them")

@@ -1,6 +1,7 @@
 //! The subcommand `explain`: a verdict, its reasons, and a chart of the run.
 
-use crate::opening::{is_fault, is_same, status_of, tell};
+use crate::opening::{DASH, WRONG_WORDS, is_fault, is_read_twice, status_of, tell};
+use crate::outputs::is_input;
 use crate::source::Source;
 use std::{fs, io};
 use tcap_ber::Counted;
@@ -89,16 +90,30 @@ fn explained_check(
     finish(rt, paths.chart, &chart, ended)
 }
 
+/// Returns whether `-` is given for several inputs, or for the chart. If so, standard error says so.
+fn is_wrong(rt: &HostRuntime, paths: Paths) -> bool {
+    if paths.chart == Some(DASH) {
+        let _ = eprintln!(rt; "error: --chart takes the path of a file");
+        return true;
+    }
+    let cert = paths.cert.unwrap_or("");
+    is_read_twice(
+        rt,
+        &["RECORD", "TABLE", "CERT"],
+        &[&[paths.entries], &[paths.table], &[cert]],
+    )
+}
+
 /// Returns whether the file of the chart is one of the input files.
 fn is_overwritten(rt: &HostRuntime, paths: Paths) -> bool {
     let Some(chart) = paths.chart else {
         return false;
     };
-    if is_same(rt, chart, paths.table) || is_same(rt, chart, paths.entries) {
+    if is_input(rt, paths.table, chart) || is_input(rt, paths.entries, chart) {
         return true;
     }
     match paths.cert {
-        Some(cert) => is_same(rt, chart, cert),
+        Some(cert) => is_input(rt, cert, chart),
         None => false,
     }
 }
@@ -109,6 +124,9 @@ fn is_overwritten(rt: &HostRuntime, paths: Paths) -> bool {
 /// The files are opened in the order in which they are read: the table, the record, the certificate. If the chart would
 /// overwrite one of them, nothing is read, and standard error says so.
 pub(crate) fn explain(rt: &HostRuntime, paths: Paths, asked: Asked) -> u8 {
+    if is_wrong(rt, paths) {
+        return WRONG_WORDS;
+    }
     if is_overwritten(rt, paths) {
         let _ = eprintln!(rt; "error: the chart would be written over a file that is read");
         return Status::Fault.number();

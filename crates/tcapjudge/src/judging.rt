@@ -1,6 +1,6 @@
 //! The words `judge`, `blame` and `check`: verdicts on a record, by an operation table.
 
-use crate::opening::{is_fault, status_of, tell};
+use crate::opening::{WRONG_WORDS, is_fault, is_read_twice, status_of, tell};
 use crate::source::Source;
 use std::io;
 use tcap_ber::Counted;
@@ -20,13 +20,20 @@ pub(crate) enum Question {
 /// Replays the certificate of the file `cert` over the record of the file `entries`, by the table of the file `table`; for one end
 /// alone if `judged` is given. The files are opened in the order in which they are read: the table, the certificate, the record. The
 /// line is printed at once. Returns the exit status.
-pub(crate) fn check(
+pub(crate) fn check<'a>(
     rt: &HostRuntime,
-    entries: &str,
-    table: &str,
-    cert: &str,
+    entries: &'a str,
+    table: &'a str,
+    cert: &'a str,
     judged: Option<End>,
 ) -> u8 {
+    if is_read_twice(
+        rt,
+        &["RECORD", "TABLE", "CERT"],
+        &[&[entries], &[table], &[cert]],
+    ) {
+        return WRONG_WORDS;
+    }
     let mut book = Source::noted(rt, table);
     let mut certificate = Source::noted(rt, cert);
     let mut record = Source::noted(rt, entries);
@@ -49,7 +56,15 @@ pub(crate) fn check(
 
 /// Answers what is asked of the record of the file `entries`, by the table of the file `table`. The table is opened first, since it is
 /// read first. What is printed goes out at once. Returns the exit status.
-pub(crate) fn judge(rt: &HostRuntime, entries: &str, table: &str, question: Question) -> u8 {
+pub(crate) fn judge<'a>(
+    rt: &HostRuntime,
+    entries: &'a str,
+    table: &'a str,
+    question: Question,
+) -> u8 {
+    if is_read_twice(rt, &["RECORD", "TABLE"], &[&[entries], &[table]]) {
+        return WRONG_WORDS;
+    }
     let mut book = Source::noted(rt, table);
     let mut record = Source::noted(rt, entries);
     let (alloc, mut writer) = (rt.alloc(), Counted::new(io::writer(rt)));

@@ -13,6 +13,7 @@ mod writing;
 
 use crate::explaining::{Paths, explain};
 use crate::judging::{Question, check, judge};
+use crate::opening::{DASH, named};
 use crate::source::Source;
 use crate::testing::test;
 use crate::wording::tell_no_text;
@@ -115,12 +116,10 @@ fn answer(rt: &HostRuntime, request: Request) -> io::Result<u8> {
     }
 }
 
-/// Runs a task over the file with this path, or over the standard input if there is no path.
+/// Runs a task over the file with this path, or over the standard input if there is no path, or the path is `-`.
 fn over_path(rt: &HostRuntime, task: Task, path: Option<&str>) -> io::Result<u8> {
-    let source = match path {
-        Some(path) => Source::open(rt, path),
-        None => Source::input(rt),
-    };
+    let path = named(path.unwrap_or(DASH));
+    let source = Source::open(rt, path.unwrap_or(DASH));
     over(rt, task, path, source)
 }
 

@@ -8,6 +8,12 @@ use tcap_ber::{Counted, Read};
 use tcap_diagnostics::{Noted, Role, write_code_hints, write_hint};
 use tcap_lines::{Status, WriteFailed};
 
+/// The path by which an input is the standard input.
+pub(crate) const DASH: &str = "-";
+
+/// The exit status for a wrong command line.
+pub(crate) const WRONG_WORDS: u8 = 4;
+
 /// The number of octets of a file that a hint looks at.
 const LOOKED_AT: usize = 512;
 
@@ -24,6 +30,44 @@ pub(crate) fn is_plain(rt: &HostRuntime, path: &str) -> bool {
     match fs::metadata(rt, path) {
         Ok(found) => found.is_file(),
         Err(_) => false,
+    }
+}
+
+/// Returns whether several inputs are the standard input. If so, standard error names the first two. `names` are the words
+/// of the help for the inputs, and `inputs` the paths of each.
+pub(crate) fn is_read_twice(rt: &HostRuntime, names: &[&str], inputs: &[&[&str]]) -> bool {
+    let mut first = None;
+    for (name, paths) in names.iter().zip(inputs) {
+        for path in *paths {
+            if *path != DASH {
+                continue;
+            }
+            let Some(first) = first else {
+                first = Some(*name);
+                continue;
+            };
+            let _ = eprintln!(rt;
+                "error: - is given for {first}, and again for {name}; the standard input can be read once"
+            );
+            return true;
+        }
+    }
+    false
+}
+
+/// Returns the words that name an input in a fault.
+pub(crate) fn shown<'a>(path: &'a str) -> &'a str {
+    match path {
+        DASH => "the standard input",
+        _ => path,
+    }
+}
+
+/// Returns the path of an input, or None if it is the standard input.
+pub(crate) fn named<'a>(path: &'a str) -> Option<&'a str> {
+    match path {
+        DASH => None,
+        _ => Some(path),
     }
 }
 
@@ -46,7 +90,7 @@ pub(crate) fn is_same(rt: &HostRuntime, one: &str, other: &str) -> bool {
 /// Writes on standard error, after a fault, what the file with this path looks like, if that does not fit its role. If
 /// nothing of a plain file was read yet, reads its first octets.
 pub(crate) fn tell(rt: &HostRuntime, role: Role, path: &str, reader: &mut Noted<Source>) {
-    if reader.first().is_empty() && is_plain(rt, path) {
+    if reader.first().is_empty() && path != DASH && is_plain(rt, path) {
         let mut piece = [0; LOOKED_AT];
         let _ = reader.read(&mut piece);
     }
@@ -56,13 +100,13 @@ pub(crate) fn tell(rt: &HostRuntime, role: Role, path: &str, reader: &mut Noted<
 /// Writes on standard error what a file that begins with these octets looks like, if that does not fit its role.
 pub(crate) fn tell_text(rt: &HostRuntime, role: Role, path: &str, octets: &[u8]) {
     let mut faults = Counted::new(rt.stderr());
-    let _ = write_hint(role, Some(path), octets, &mut faults);
+    let _ = write_hint(role, named(path), octets, &mut faults);
 }
 
 /// Writes hints on the codes of the table with this path to standard error.
 pub(crate) fn tell_codes(rt: &HostRuntime, path: &str, table: &[u8]) {
     let mut faults = Counted::new(rt.stderr());
-    let _ = write_code_hints(rt.alloc(), path, table, &mut faults);
+    let _ = write_code_hints(rt.alloc(), shown(path), table, &mut faults);
 }
 
 /// Returns whether a run ended with a fault.

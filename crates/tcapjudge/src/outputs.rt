@@ -1,6 +1,6 @@
 //! The output files of `test`. None of them may be a file that it reads, or another output file.
 
-use crate::opening::{is_plain, is_same};
+use crate::opening::{DASH, is_plain, is_same};
 use crate::writing::Output;
 use std::fs;
 use std::fs::File;
@@ -49,12 +49,22 @@ fn is_stream(rt: &HostRuntime, stream: &str, path: &str) -> bool {
     is_plain(rt, stream) && is_same(rt, stream, path)
 }
 
-/// Returns whether the trace is read from the file `path`.
-fn is_trace(rt: &HostRuntime, trace: &str, path: &str) -> bool {
-    match trace {
-        "-" => is_stream(rt, INPUT, path),
-        _ => is_same(rt, trace, path),
+/// Returns whether an input is read from the file `path`.
+pub(crate) fn is_input(rt: &HostRuntime, input: &str, path: &str) -> bool {
+    match input {
+        DASH => is_stream(rt, INPUT, path),
+        _ => is_same(rt, input, path),
     }
+}
+
+/// Returns an input that is read from the file `path`, with the path of the standard input for `-`.
+fn input_of<'a>(rt: &HostRuntime, inputs: &[&'a str], path: &str) -> Option<&'a str> {
+    for input in inputs {
+        if is_input(rt, *input, path) {
+            return Some(if *input == DASH { INPUT } else { *input });
+        }
+    }
+    None
 }
 
 /// Returns the path of an input, or of an earlier output in `written`, that is the file `path`.
@@ -64,14 +74,9 @@ fn taken_by<'a>(
     written: &[Option<&'a str>],
     path: &str,
 ) -> Option<&'a str> {
-    for trace in &test.traces {
-        if is_trace(rt, *trace, path) {
-            return Some(if *trace == "-" { INPUT } else { *trace });
-        }
-    }
-    for table in &test.tables {
-        if is_same(rt, *table, path) {
-            return Some(*table);
+    for inputs in [&test.traces, &test.tables] {
+        if let Some(input) = input_of(rt, inputs, path) {
+            return Some(input);
         }
     }
     for other in written {

@@ -2,7 +2,7 @@
 
 ghost use Rattle.std.specs.Prelude.{None};
 
-use crate::opening::is_folder;
+use crate::opening::{DASH, is_folder};
 use std::fs;
 use std::fs::File;
 use std::io::StdinLock;
@@ -46,8 +46,12 @@ impl Source {
         Source::new(Origin::Input(Counted::new(rt.reader())))
     }
 
-    /// Opens the file with this path. If the file can't be opened, or is a directory, standard error says so.
+    /// Opens the file with this path, or the standard input if the path is `-`. If the file can't be opened, or is a
+    /// directory, standard error says so.
     pub(crate) fn open(rt: &HostRuntime, path: &str) -> Source {
+        if path == DASH {
+            return Source::input(rt);
+        }
         match fs::open(rt, path) {
             Ok(file) => {
                 if is_folder(rt, path) {

@@ -6,12 +6,13 @@ ghost use Rattle.tcap_traces.specs.Verdict.{status_of};
 ghost use Rattle.tcap_report.specs.Counts.{HasJudged, worst_of};
 ghost use Rattle.tcapjudge.specs.TestStatus.{AreCounted, IsStatus, IsWorst};
 
-use crate::opening::{is_folder, tell_codes, tell_text};
+use crate::opening::{DASH, WRONG_WORDS, is_folder, is_read_twice, shown, tell_codes, tell_text};
 use crate::outputs::{INPUT, Outputs, stand_ins};
 use crate::source::Source;
 use crate::writing::{Output, Sink, tell_unprinted};
 use std::alloc::AllocError;
 use std::fmt::Display;
+use std::io::Read as _;
 use std::time::Instant;
 use std::{fs, io};
 use tcap_ber::Write;
@@ -139,7 +140,7 @@ impl Given {
         if let (Some(table), Some(path)) = (self.book.tables().get(number), paths.get(file)) {
             table.push_words(text, place)?;
             text.push_str(" of ")?;
-            text.push_str(*path)?;
+            text.push_str(shown(*path))?;
         }
         Ok(())
     }
@@ -162,9 +163,19 @@ impl Given {
     }
 }
 
+/// Reads all octets of the file with this path, or of the standard input if the path is `-`.
+fn octets_of(rt: &HostRuntime, path: &str) -> io::Result<Vec<u8>> {
+    if path != DASH {
+        return fs::read(rt, path);
+    }
+    let mut octets = Vec::new(rt.alloc());
+    rt.reader().read_to_end(&mut octets)?;
+    Ok(octets)
+}
+
 /// Reads the table set in the file with this path. Returns the fault if it has one, and writes it on standard error.
 fn read_path(rt: &HostRuntime, path: &str) -> Result<Result<Book, String>, Stop> {
-    let octets = match fs::read(rt, path) {
+    let octets = match octets_of(rt, path) {
         Ok(octets) => octets,
         Err(error) => return Ok(Err(told_fault(rt, Some(path), &error)?)),
     };
@@ -227,7 +238,7 @@ fn read_book(rt: &HostRuntime, name: &str, text: &[u8]) -> Result<Result<Book, S
 fn told_fault<E: Display>(rt: &HostRuntime, name: Option<&str>, fault: &E) -> Result<String, Stop> {
     let mut why = String::new(rt.alloc());
     if let Some(name) = name {
-        why.push_str(name)?;
+        why.push_str(shown(name))?;
         why.push_str(": ")?;
     }
     if write!(why, "{fault}").is_err() {
@@ -255,7 +266,7 @@ fn test_path<W: Write, J: Lines, P: Watch>(
     if let Some(why) = refused {
         return tell_unread(alloc, asked, why, sinks);
     }
-    if path == "-" {
+    if path == DASH {
         if is_folder(rt, INPUT) {
             return tell_unread(alloc, asked, IS_FOLDER, sinks);
         }
@@ -410,18 +421,14 @@ fn written(rt: &HostRuntime, test: &Test, sum: &mut Sum) -> Result<Verdict, Stop
     Ok(verdict)
 }
 
-/// The exit status for a wrong command line.
-const WRONG_WORDS: u8 = 4;
-
 /// Judges each dialogue of the traces. Returns the exit status, which is that of the worst verdict.
 pub(crate) fn test(rt: &HostRuntime, test: &Test) -> u8
     ensures { IsStatus (length test.now.traces.items) result }
 {
-    if test.traces.iter().filter(|path| **path == "-").count() > 1 {
-        let _ = eprintln!(rt; "error: the standard input can be read once");
+    if is_read_twice(rt, &["--table", "TRACE"], &[&test.tables, &test.traces]) {
         return WRONG_WORDS;
     }
-    if [test.json, test.junit, test.html].contains(&Some("-")) {
+    if [test.json, test.junit, test.html].contains(&Some(DASH)) {
         let _ = eprintln!(rt; "error: --json, --junit and --html take the path of a file");
         return WRONG_WORDS;
     }
