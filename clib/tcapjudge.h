@@ -97,7 +97,7 @@ struct tcapjudge_asked {
 /* What tcapjudge test asks without flags: struct tcapjudge_asked asked = TCAPJUDGE_ASKED; */
 #define TCAPJUDGE_ASKED {10000, 0, TCAPJUDGE_IDS_AGAIN, 0}
 
-/* tcapjudge test --json LINES --table BOOK TRACE, of one trace
+/* tcapjudge test --json LINES --table BOOK TRACE, of one trace, without the line of the run
  *
  * trace: the text of lines of digits, or the octets of a record: the first octets tell which (docs/TRACES.md). book: the text of an
  * operation table, or of a book of them; where book_len is 0 it is the book that the library carries, which has MAP and CAP.

@@ -35,10 +35,10 @@ STEPS = [
     ("these lines pass", "tcapjudge test lines/pair-1.hex", 0, "1 trace: 1 pass, 0 inconc, 0 fail, 0 error"),
     ("a trace fails", "tcapjudge test --table examples/operations.json examples/answered_already.hex", 1, "B: fail at entry 1"),
 ]
-# The example of the library says what the program says.
+# The example of the library says what the program says, without the line of the run.
 AGREES = (
     "for it in crossing answered_already; do cp examples/$it.hex trace; tcapjudge test --table examples/operations.json --json said trace "
-    ">/dev/null || true; {} --test trace examples/operations.json | cmp - said; done"
+    ">/dev/null || true; head -n -1 said > lines; {} --test trace examples/operations.json | cmp - lines; done"
 )
 LIBRARY_STEPS = [
     ("the C example is linked with the archive", "cc -Wall -Werror clib/example.c clib/out/libtcapjudge.a -o static", 0, ""),

@@ -212,7 +212,8 @@ def verdicts_of(folder, table, paths):
     out, found = f"{folder}/verdicts", {}
     forget([out])
     run(PROGRAM, "test", *table, "--json", out, *paths)
-    for one in map(json.loads, read(out).splitlines()):
+    # The last line is that of the run.
+    for one in map(json.loads, read(out).splitlines()[:-1]):
         blamed = found.setdefault(one["trace"], [None, None])
         if "dialogues" in one:
             blamed[0] = one["verdict"]

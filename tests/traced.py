@@ -3,6 +3,7 @@ XML and the page; and checks that they agree."""
 
 import collections
 import contextlib
+import functools
 import itertools
 import json
 import os
@@ -14,7 +15,7 @@ import xml.etree.ElementTree
 import rooms  # noqa: F401
 from evidence import WORDS
 from tested import PROGRAM
-from trace_page import lines_in, look_at_page
+from trace_page import lines_in, look_at_page, sum_of
 from trace_rows import CAME_AGAIN, OPERATIONS
 
 with contextlib.suppress(ImportError):
@@ -57,8 +58,8 @@ def content(path):
 
 
 class Report:
-    """The results of a run: its streams and status, the lines of JSON, the dialogues by trace, JUnit's XML and the
-    page."""
+    """The results of a run: its streams and status, the lines of JSON, the dialogues by trace, the object of the run,
+    JUnit's XML and the page."""
 
     def __init__(self, folder, flags, traces, given=b"", table=OPERATIONS):
         table = put(folder, "table.json", table.encode())
@@ -70,6 +71,8 @@ class Report:
         self.page = content(files["--html"]).decode()
         self.shown = lines_in(self.page)
         self.objects = [json.loads(line) for line in self.json.decode().split("\n") if line]
+        # The last object is that of the run, if the run ended.
+        self.of_run = self.objects.pop() if self.objects and "total" in self.objects[-1] else None
         # A quiet mark is the last entry of the dialogues that it ends; the rows describe only their messages.
         for it in self.objects:
             if it.get("marked"):
@@ -144,7 +147,7 @@ def as_xml(name):
 
 
 def look_by_schema(checks, report):
-    for it in [*report.objects, *map(json.loads, report.shown[-1:])] if SCHEMA else []:
+    for it in [*report.objects, report.of_run, *map(json.loads, report.shown[-1:])] if SCHEMA else []:
         # If a dialogue has very many entries, only the first ones: the others are alike, and take long.
         it = it | {key: it[key][:MOST_LOOKED_AT] for key in ("entries", "lines") if key in it}
         it.pop("mark", None)
@@ -312,9 +315,24 @@ def look_at_names(checks, dialogues):
         judged.add(it["dialogue"])
 
 
+@functools.cache
+def version():
+    """Returns what the program prints as its version, without its name."""
+    return run(["--version"]).stdout.decode().removeprefix("tcapjudge ").rstrip("\n")
+
+
+def look_at_run(checks, report):
+    """Checks that the object of the run has the sums of the traces, the worst verdict, and the version of the
+    program."""
+    verdict = worst(it["verdict"] for it in report.traces.values())
+    wanted = {"total": sum_of([*report.traces.values()]), "verdict": verdict, "version": version()}
+    checks.same("the object of the run", report.of_run, wanted)
+
+
 def agree(checks, report):
     """Checks that JSON, JUnit's XML and the text agree on the traces, and add up."""
     look_by_schema(checks, report)
+    look_at_run(checks, report)
     look_at_page(checks, report.page, report.shown, report.json.decode())
     root = xml.etree.ElementTree.fromstring(report.junit)
     suites = root.findall("testsuite")

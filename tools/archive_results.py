@@ -19,6 +19,8 @@ VERDICTS = ["pass", "inconc", "fail", "error"]
 STATUS = {"pass": 0, "inconc": 2, "fail": 1, "error": 3}
 # The fields that the line of a trace has and the line of a dialogue has not.
 SUMS = {"verdict", "messages", "dialogues", "unheard"}
+# The fields of the line of a run.
+OF_RUN = {"total", "verdict", "version"}
 
 
 def stamp_of(path):
@@ -55,13 +57,28 @@ def last_line(octets):
     return octets[octets[:-1].rfind(b"\n") + 1 :]
 
 
-def trace_of(lines):
-    """Returns the object of the trace, which is the last of its lines of JSON, or None if that line is not there as a
-    whole."""
+def object_with(fields, lines):
+    """Returns the object in the last of these lines of JSON, or None if that line is not there as a whole, or lacks one
+    of these fields."""
     with contextlib.suppress(ValueError):
         found = json.loads(last_line(lines)) if lines.endswith(b"\n") else None
-        return found if isinstance(found, dict) and SUMS <= found.keys() else None
+        return found if isinstance(found, dict) and fields <= found.keys() else None
     return None
+
+
+def run_of(lines):
+    """Returns the object of the run, which is the last of its lines of JSON, or None if the run did not end."""
+    return object_with(OF_RUN, lines)
+
+
+def without_run(lines):
+    """Returns the lines of JSON without the last one, which is that of the run."""
+    return lines.removesuffix(last_line(lines))
+
+
+def trace_of(lines):
+    """Returns the object of the trace, which comes before that of the run, or None if it is not there."""
+    return object_with(SUMS, without_run(lines))
 
 
 def has_error(said):
@@ -75,10 +92,11 @@ def fault_of(status, text, said, lines):
     of that verdict, and its output for one trace is complete."""
     if status < 0:
         return f"the judge was killed by signal {-status}"
-    trace, why = trace_of(lines), said.decode(errors="replace").strip()
+    trace, has_ended, why = trace_of(lines), run_of(lines) is not None, said.decode(errors="replace").strip()
     if status not in STATUS.values() or has_error(said):
         return f"no verdict, status {status}: {why}"
-    if not trace or STATUS.get(trace["verdict"]) != status or not re.match(rb"1 trace: .*\n$", last_line(text)):
+    is_whole = trace and has_ended and re.match(rb"1 trace: .*\n$", last_line(text))
+    if not is_whole or STATUS.get(trace["verdict"]) != status:
         return f"no verdict, status {status}, and a part of what the judge writes is missing: {why}".removesuffix(": ")
     return None
 
@@ -174,9 +192,23 @@ class Sum:
         front = f"{all_of(self.traces, 'trace')}; {counted(self.messages, 'message')}"
         return f"{front}, {all_of(self.dialogues, 'dialogue')}; {self.unheard} pass unheard or unanswered\n"
 
+    def object(self, version):
+        """Returns the line of JSON that `tcapjudge test` of this version writes for the run over all of them."""
+
+        def all_of(counts):
+            return {verdict: counts[verdict] for verdict in VERDICTS}
+
+        total = {"traces": all_of(self.traces), "messages": self.messages, "dialogues": all_of(self.dialogues)}
+        found = {"total": total | {"unheard": self.unheard}, "verdict": self.worst(), "version": version}
+        return json.dumps(found, separators=(",", ":")) + "\n"
+
+    def worst(self):
+        """Returns the worst verdict."""
+        return max(self.traces, key=VERDICTS.index, default="pass")
+
     def status(self):
         """Returns the exit status of the worst verdict."""
-        return STATUS[max(self.traces, key=VERDICTS.index, default="pass")]
+        return STATUS[self.worst()]
 
 
 def counted(count, thing):

@@ -269,15 +269,18 @@ def said_of_captures(names, results):
 
 def put_out(names, results, path):
     """Prints the verdicts on all traces, in order, and writes the lines of JSON. Returns the exit status."""
-    total = archive_results.Sum()
+    total, version = archive_results.Sum(), ""
     try:
         with open(f"{path}.part", "wb") as file, open(1, "wb", closefd=False) as out:
             for name in traces_of(names, results):
                 text, lines = results.parts(name)
                 total.add(archive_results.trace_of(lines))
+                # All are of one program.
+                version = archive_results.run_of(lines)["version"]
                 out.write(text)
-                file.write(lines)
+                file.write(archive_results.without_run(lines))
             out.write(total.line().encode())
+            file.write(total.object(version).encode())
         os.replace(f"{path}.part", path)
     except OSError as error:
         raise Fault(f"standard output or {path} can't be written: {error.strerror}") from None

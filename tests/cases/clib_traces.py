@@ -1,6 +1,6 @@
 """The call `tcapjudge_test` of the library for programs in C, for tests/clib.py: of the traces of examples/, of trace_rows.py, of
 lines with a fault and of random ones, as lines of digits and as records, it writes octet by octet what `tcapjudge test --json` writes
-of a file of the name `trace`. It keeps to the room that it is given, refuses each number that is unknown, and says what is wrong
+of a file of the name `trace`, without the line of the run. It keeps to the room that it is given, refuses each number that is unknown, and says what is wrong
 with a book in the words of the program. Some traces were judged by hand."""
 
 import ctypes
@@ -84,6 +84,11 @@ def flags_in(words):
     return asked | ({"of": OF[asked["of"]]} if "of" in asked else {})
 
 
+def without_run(lines):
+    """Lines of JSON without the last one, which is that of the run."""
+    return b"".join(lines.splitlines(True)[:-1])
+
+
 class Word:
     """The word `test` of the program, over a file `trace` in a folder."""
 
@@ -98,13 +103,13 @@ class Word:
             file.write(octets)
 
     def said(self, trace, book, words):
-        """What it writes as JSON, its status, and what it says on standard error."""
+        """What it writes as JSON without the line of the run, its status, and what it says on standard error."""
         self.put("trace", trace)
         self.put("book", book)
         self.put("lines", b"")
         of_book = ["--table", "book"] if book else []
         ran = self.run(["test", "--json", "lines", *of_book, *words.split(), "trace"])
-        return octets_in(f"{self.folder}/lines"), ran.returncode, ran.stderr.decode()
+        return without_run(octets_in(f"{self.folder}/lines")), ran.returncode, ran.stderr.decode()
 
     def packed(self, trace):
         """The record of lines of digits; nothing where one has a fault."""
@@ -150,7 +155,7 @@ def compare_books(count, library, word):
     """What is wrong with a book is said in the one line of the trace, in the words that the program has for it, without the file."""
     os.mkdir(f"{word.folder}/folder")
     word.run(["test", "--json", "unread", "folder"])
-    unread = json.loads(octets_in(f"{word.folder}/unread"))
+    unread = json.loads(without_run(octets_in(f"{word.folder}/unread")))
     trace = trace_rows.lines(*trace_rows.SHORT).encode()
     for book in map(str.encode, NO_BOOKS):
         _, status, error = word.said(trace, book, "")

@@ -6,20 +6,33 @@ import itertools
 import json
 import os
 import re
+import signal
 import subprocess
 import time
+import xml.etree.ElementTree
 
 import trace_rows
 from tested import PROGRAM
 from trace_files import IS_FOLDER, NO_FILE, NO_SPACE, says
+from trace_page import lines_in
 from traced import Checks, Report, agree, content, put, run
-from trace_rows import OPERATIONS, SHORT, lines
+from trace_rows import OPERATIONS, SHORT, WRONG_END, lines
 
 FLAGS = ["--json", "--junit", "--html"]
 # So long a line of JSON is waited for, in seconds.
 PATIENCE = 30
 OVER = b"error: what is said would be written over a file that is read, or twice into one: "
 UNPRINTED = "error: standard output can't be written: "
+# What a file of JUnit XML has until the run ends.
+NOT_ENDED = b"""<?xml version="1.0" encoding="UTF-8"?>
+<testsuites tests="1" failures="0" errors="1">
+  <testsuite name="tcapjudge" tests="1" failures="0" errors="1">
+    <testcase classname="tcapjudge" name="run">
+      <error type="error" message="this run did not end"></error>
+    </testcase>
+  </testsuite>
+</testsuites>
+"""
 
 
 def given(folder):
@@ -49,7 +62,7 @@ def slow(_, folder):
             ran.stdin.flush()
             checks.same("with those of dialogues", (waited(path, count), ran.poll()), (count, None))
         ran.stdin.close()
-        checks.same("status, and all lines", (ran.wait(), content(path).count(b"\n")), (0, 5))
+        checks.same("status, and all lines", (ran.wait(), content(path).count(b"\n")), (0, 6))
     return checks
 
 
@@ -133,11 +146,69 @@ def anew(_, folder):
         path = put(folder, "old", b"old")
         says(checks, run(["test", "--table", f"{folder}/none.json", flag, path, good]), "none.json", NO_FILE)
         checks.holds(f"{flag}, no table", NO_FILE.encode() in content(path) and not content(path).startswith(b"old"))
+        if flag == "--junit":
+            checks.holds("JUnit says of what it is", NOT_ENDED not in content(path))
         for other in FLAGS:
             path = put(folder, "old", b"old")
             if other != flag:
                 says(checks, run(["test", "--table", table, flag, path, other, f"{folder}/none/x", good]), "none/x", NO_FILE)
-                checks.same(f"{flag}, no {other}", content(path), b"")
+                checks.same(f"{flag}, no {other}", content(path), NOT_ENDED if flag == "--junit" else b"")
+    return checks
+
+
+# ---- a run that does not end
+
+
+def killed(_, folder):
+    """What a run leaves that is killed while it waits for its trace: JSON has no line of the run, JUnit XML one error, and the page no
+    sum. Until then none of them looks whole."""
+    checks, (_, table) = Checks("a run that is killed"), given(folder)
+    paths = [f"{folder}/left.{form}" for form in ("json", "xml", "html")]
+    words = [PROGRAM, "test", "--table", table, *itertools.chain(*zip(FLAGS, paths)), "-"]
+    for number in signal.SIGTERM, signal.SIGKILL:
+        with subprocess.Popen(words, stdin=subprocess.PIPE, stdout=subprocess.PIPE) as ran:
+            ran.stdin.write(lines(*SHORT, "Q").encode())
+            ran.stdin.flush()
+            checks.same("the line of the dialogue", waited(paths[0], 1), 1)
+            ran.send_signal(number)
+            ran.stdin.close()
+            checks.same("status, text", (ran.wait(), ran.stdout.read()), (-number, b""))
+        json_text, junit, page = map(content, paths)
+        checks.same("JSON", ["dialogue" in json.loads(line) for line in json_text.splitlines()], [True])
+        checks.same("JUnit", junit, NOT_ENDED)
+        checks.same("the page", (page[:15], lines_in(page.decode()), b"</html>" in page), (b"<!doctype html>", [], False))
+    return checks
+
+
+def over_the_first(_, folder):
+    """The report as JUnit XML is written over the text with which its file began, also if it is shorter; a pipe has only the report, and
+    the file keeps its other names and its rights."""
+    checks, (_, table) = Checks("JUnit XML over the first text"), given(folder)
+    trace, path = put(folder, "x", lines(*SHORT).encode()), put(folder, "old", b"old" * 1000)
+    os.link(path, f"{folder}/hard")
+    os.chmod(path, 0o640)
+    words = [PROGRAM, "test", "--table", table, "--junit"]
+    status = subprocess.run([*words, path, "x"], cwd=folder, stdout=subprocess.DEVNULL, check=False).returncode
+    junit = content(f"{folder}/hard")
+    checks.holds(f"it is shorter: {junit}", len(junit) < len(NOT_ENDED))
+    (suite,) = xml.etree.ElementTree.fromstring(junit)
+    checks.same("status, the suite, rights", (status, suite.get("name"), os.stat(path).st_mode & 0o777), (0, "x", 0o640))
+    ran = subprocess.run([*words, "/dev/stderr", "x"], cwd=folder, stdout=subprocess.DEVNULL, stderr=subprocess.PIPE, check=False)
+    checks.same("a pipe", (ran.returncode, ran.stderr), (0, junit))
+    put(folder, "x", lines(SHORT[0], WRONG_END).encode())
+    report = Report(folder, [], [trace])
+    agree(checks, report)
+    checks.holds("a longer one", len(report.junit) > len(NOT_ENDED))
+    return checks
+
+
+def first_text(_, _folder):
+    """The text with which a file of JUnit XML begins has one testcase, an error."""
+    checks, root = Checks("the first text of JUnit XML"), xml.etree.ElementTree.fromstring(NOT_ENDED)
+    ((suite,), (case,), (error,)) = [*root], [*root.iter("testcase")], [*root.iter("error")]
+    counts = [tuple(it.get(name) for name in ("tests", "failures", "errors")) for it in (root, suite)]
+    checks.same("counts", counts, [("1", "0", "1")] * 2)
+    checks.same("the testcase", (case.get("name"), error.get("message")), ("run", "this run did not end"))
     return checks
 
 
@@ -185,7 +256,7 @@ def closed(_, folder):
     ran = subprocess.run(["sh", "-c", 'exec "$@" <&- >&- 2>&-', "sh", *words], check=False)
     json_text, junit, page = (content(path) for path in paths)
     # The line of the dialogue is written before that of its trace, which can't be printed.
-    checks.same("status, JUnit", (ran.returncode, junit), (3, b""))
+    checks.same("status, JUnit", (ran.returncode, junit), (3, NOT_ENDED))
     checks.same("JSON", [json.loads(line)["verdict"] for line in json_text.splitlines()], ["pass"])
     checks.holds("the page", page.startswith(b"<!doctype html>") and b"2 messages" not in page)
     return checks
@@ -193,5 +264,5 @@ def closed(_, folder):
 
 def jobs():
     """Each case, with what it is about."""
-    for case in progress, slow, one_file, hard_links, anew, unprinted, closed:
+    for case in progress, slow, one_file, hard_links, anew, killed, over_the_first, first_text, unprinted, closed:
         yield case, None

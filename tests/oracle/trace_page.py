@@ -60,7 +60,8 @@ def shown(lines):
 
 def look_at_page(checks, page, found, text):
     """Checks that the page has the lines of JSON of traces and of dialogues that do not pass, and then the sum."""
-    lines = [line for line in text.split("\n") if line]
+    # The last line is that of the run.
+    *lines, _ = [line for line in text.split("\n") if line]
     checks.holds("JSON has nothing that means something to HTML", not TOLD_BY_NUMBER.search(text))
     wanted, left_out = shown(lines)
     *found, last = found or ["null"]

@@ -1,4 +1,4 @@
-//! Reports as lines of JSON (NDJSON): an object for each dialogue, then one for its trace.
+//! Reports as lines of JSON (NDJSON): an object for each dialogue, then one for its trace, and at the end one for the run.
 //!
 //! Each function returns `AllocError` if memory runs out.
 
@@ -258,10 +258,24 @@ pub(crate) fn push_trace(json: &mut String, told: Told) -> Result<(), AllocError
     json.push_str("}\n")
 }
 
-/// Appends the object of all traces. `left_out` is the number of dialogues that do not pass and found no room.
-pub(crate) fn push_total(json: &mut String, sum: &Sum, left_out: u64) -> Result<(), AllocError> {
+/// Appends the sum of all traces.
+fn push_sum(json: &mut String, sum: &Sum) -> Result<(), AllocError> {
     json.push_str("{\"total\":{\"traces\":")?;
     push_verdicts(json, &sum.traces)?;
     push_sums(json, sum.messages, &sum.dialogues, sum.unheard)?;
-    writeln!(json, "}},\"left_out\":{left_out}}}")
+    json.push_str("}")
+}
+
+/// Appends the object of all traces in a page. `left_out` is the number of dialogues that do not pass and found no room.
+pub(crate) fn push_total(json: &mut String, sum: &Sum, left_out: u64) -> Result<(), AllocError> {
+    push_sum(json, sum)?;
+    writeln!(json, ",\"left_out\":{left_out}}}")
+}
+
+/// Appends the object of the run. `version` is that of the program.
+pub(crate) fn push_run(json: &mut String, sum: &Sum, version: &str) -> Result<(), AllocError> {
+    push_sum(json, sum)?;
+    push_named(json, "verdict", sum.worst().word())?;
+    push_named(json, "version", version)?;
+    json.push_str("}\n")
 }

@@ -29,6 +29,17 @@ pub struct Junit {
     sum: Tally,
 }
 
+/// The XML of a run that did not end: one error.
+pub const NOT_ENDED: &str = "<?xml version=\"1.0\" encoding=\"UTF-8\"?>
+<testsuites tests=\"1\" failures=\"0\" errors=\"1\">
+  <testsuite name=\"tcapjudge\" tests=\"1\" failures=\"0\" errors=\"1\">
+    <testcase classname=\"tcapjudge\" name=\"run\">
+      <error type=\"error\" message=\"this run did not end\"></error>
+    </testcase>
+  </testsuite>
+</testsuites>
+";
+
 /// Appends text with XML's special characters escaped. A character that XML does not allow, or a carriage return,
 /// becomes U+FFFD.
 fn push_xml(xml: &mut String, text: &str) -> Result<(), AllocError> {

@@ -34,7 +34,7 @@ mod words;
 
 pub use ending::tell_unread;
 pub use fault::Stop;
-pub use junit::Junit;
+pub use junit::{Junit, NOT_ENDED};
 pub use page::Page;
 pub use sinks::{Lines, Sinks};
 pub use sum::Sum;

@@ -55,7 +55,7 @@ impl<'a, J: Write> Page<'a, J> {
     ///
     /// # Errors
     /// `Stop::Write` if the writer fails, `Stop::Memory` if memory runs out.
-    pub fn end(&mut self, alloc: Global, sum: &Sum) -> Result<(), Stop> {
+    pub(crate) fn end(&mut self, alloc: Global, sum: &Sum) -> Result<(), Stop> {
         let mut line = String::new(alloc);
         push_total(&mut line, sum, self.left_out)?;
         self.write(&line)?;

@@ -157,4 +157,23 @@ impl<W: Write, J: Lines, P> Sinks<'_, W, J, P> {
         }
         Ok(())
     }
+
+    /// Ends the reports on all traces: writes the object of the run as JSON, and ends the page. `version` is that of the
+    /// program.
+    ///
+    /// # Errors
+    /// `Stop::Memory` if memory runs out, `Stop::Write` if a sink fails.
+    pub fn end_run(&mut self, alloc: Global, version: &str) -> Result<(), Stop>
+        ensures { self.new.sum ≡ self.old.sum }
+    {
+        if let Some(writer) = &mut self.json {
+            let mut line = String::new(alloc);
+            json::push_run(&mut line, self.sum, version)?;
+            write_text(*writer, &line)?;
+        }
+        match &mut self.page {
+            Some(page) => page.end(alloc, self.sum),
+            None => Ok(()),
+        }
+    }
 }

@@ -14,7 +14,7 @@ use std::alloc::{AllocError, Global};
 
 /// The version, with the kit that proved the program. dev/unproved.py writes `not proved` instead in a copy of this
 /// file.
-static VERSION: &str = "0.1.0 (proved, rattle-kit-13f logic dac8208d650f15bf)";
+pub const VERSION: &str = "0.1.0 (proved, rattle-kit-13f logic dac8208d650f15bf)";
 
 /// The meaning of each exit status.
 static STATUSES: &str = "Exit statuses:

@@ -5,5 +5,6 @@ mod command_line;
 mod requests;
 mod words;
 
+pub use command_line::VERSION;
 pub use requests::{Ids, Request, Test};
 pub use words::{WordsFault, request};

@@ -4,7 +4,7 @@ use crate::opening::{DASH, is_plain, is_same};
 use crate::writing::Output;
 use std::fs;
 use std::fs::File;
-use tcap_report::Stop;
+use tcap_report::{NOT_ENDED, Stop};
 use tcap_words::Test;
 
 /// The path of the standard input.
@@ -118,15 +118,19 @@ fn is_overwritten(rt: &HostRuntime, test: &Test) -> bool {
     false
 }
 
-/// Empties a file, if it was opened.
-fn emptied(rt: &HostRuntime, opened: Result<Option<Output>, Stop>) -> Result<Option<Output>, Stop> {
-    Output::emptied(rt, opened?)
+/// Puts `text` in place of what a file holds, if it was opened.
+fn begun(
+    rt: &HostRuntime,
+    opened: Result<Option<Output>, Stop>,
+    text: &str,
+) -> Result<Option<Output>, Stop> {
+    Output::begun(rt, opened?, text)
 }
 
 impl Outputs {
-    /// Opens the output files and empties all that could be opened, if each is a file of its own. Two paths of one
-    /// missing file look different, so this is checked again when all files exist. If this fails, standard error says
-    /// why.
+    /// Opens the output files and empties all that could be opened, if each is a file of its own. That of JUnit XML then
+    /// says that the run did not end. Two paths of one missing file look different, so this is checked again when all files
+    /// exist. If this fails, standard error says why.
     pub(crate) fn open(rt: &HostRuntime, test: &Test) -> Result<Outputs, Stop> {
         if is_overwritten(rt, test) {
             return Err(Stop::Write);
@@ -137,7 +141,9 @@ impl Outputs {
         if is_overwritten(rt, test) {
             return Err(Stop::Write);
         }
-        let (json, html, junit) = (emptied(rt, json), emptied(rt, html), emptied(rt, junit));
+        let json = begun(rt, json, "");
+        let html = begun(rt, html, "");
+        let junit = begun(rt, junit, NOT_ENDED);
         Ok(Outputs {
             json: json?,
             html: html?,

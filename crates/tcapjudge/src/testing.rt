@@ -21,7 +21,7 @@ use tcap_diagnostics::Role;
 use tcap_dialogues::Reuse;
 use tcap_report::{Asked, Junit, Lines, Page, Sinks, Stop, Sum, Watch, run_trace, tell_unread};
 use tcap_traces::Verdict;
-use tcap_words::{Ids, Test};
+use tcap_words::{Ids, Test, VERSION};
 
 /// A progress report on standard error, once a second.
 #[derive(Drop)]
@@ -323,10 +323,10 @@ fn write_junit(output: Option<&mut Output>, junit: &Junit) -> Result<(), Stop> {
         return Ok(());
     };
     let text = junit.text()?;
-    output.write_all(text.as_bytes()).map_err(|_| Stop::Write)
+    output.replace(text.as_bytes()).map_err(|_| Stop::Write)
 }
 
-/// Judges all traces with these sinks, and ends the page.
+/// Judges all traces with these sinks, and ends the reports on them.
 fn test_over<W: Write, P: Watch>(
     rt: &HostRuntime,
     test: &Test,
@@ -337,9 +337,7 @@ fn test_over<W: Write, P: Watch>(
     ensures worst { IfOk result (λ verdict. verdict ≡ worst_of sinks.new.sum.now) }
 {
     let verdict = test_all(rt, test, tables, sinks)?;
-    if let Some(page) = &mut sinks.page {
-        page.end(rt.alloc(), sinks.sum)?;
-    }
+    sinks.end_run(rt.alloc(), VERSION)?;
     Ok(verdict)
 }
 
@@ -400,8 +398,8 @@ fn judged(
     Ok(verdict)
 }
 
-/// Judges all traces. The output files are opened and emptied before the first table is read, so that none is left from
-/// an earlier run.
+/// Judges all traces. The output files are opened and emptied before the first table is read, so that nothing is left
+/// from an earlier run. Until the end, that of JUnit XML says that the run did not end.
 fn written(rt: &HostRuntime, test: &Test, sum: &mut Sum) -> Result<Verdict, Stop>
     ensures { IfOk result (λ verdict. IsWorst (length test.now.traces.items) sum.old sum.new verdict) }
 {

@@ -1,10 +1,12 @@
 //! The writers of `test`: files, and the standard output.
 
 ghost use Rattle.std.specs.Prelude.{None};
+ghost use Rattle.tcap_ber.specs.Device.{CountsFailure};
 
 use std::fs::{File, OpenOptions};
 use std::io;
 use std::io::{BufWriter, Write as _};
+use std::os::unix::fs::FileExt;
 use tcap_ber::{Failed, Write};
 use tcap_report::{Lines, Stop};
 
@@ -28,7 +30,17 @@ impl<W: io::Write> Sink<W> {
 
     /// Writes what the writer keeps back.
     fn flush(&mut self) -> Result<(), Failed> {
-        match self.writer.flush() {
+        let ended = self.writer.flush();
+        self.noted(ended)
+    }
+}
+
+impl<W> Sink<W> {
+    /// Keeps the error of a call, if it failed, and counts the failure.
+    fn noted(&mut self, ended: io::Result<()>) -> Result<(), Failed>
+        ensures { CountsFailure self.old.failures self.new.failures result }
+    {
+        match ended {
             Ok(()) => Ok(()),
             Err(error) => {
                 self.error = Some(error);
@@ -45,14 +57,8 @@ impl<W: io::Write> Write for Sink<W> {
     ghost failures = { λ sink. sink.failures };
 
     fn write_all(&mut self, octets: &[u8]) -> Result<(), Failed> {
-        match self.writer.write_all(octets) {
-            Ok(()) => Ok(()),
-            Err(error) => {
-                self.error = Some(error);
-                self.failures = self.failures.saturating_add(1);
-                Err(Failed)
-            }
-        }
+        let ended = self.writer.write_all(octets);
+        self.noted(ended)
     }
 }
 
@@ -96,10 +102,20 @@ fn unwritten(rt: &HostRuntime, path: &str, error: io::Error) -> Stop {
     Stop::Write
 }
 
-/// Empties a plain file. Other files keep nothing.
-fn empty(file: &File) -> io::Result<()> {
+/// Puts `text` in place of what a plain file holds. What is written next goes over it. Other files keep nothing, and get
+/// nothing.
+fn begin(file: &File, text: &str) -> io::Result<()> {
     if file.metadata()?.is_file() {
-        return file.set_len(0);
+        file.set_len(0)?;
+        file.write_all_at(text.as_bytes(), 0)?;
+    }
+    Ok(())
+}
+
+/// Cuts off what a plain file has after `len` octets.
+fn cut(file: &File, len: usize) -> io::Result<()> {
+    if file.metadata()?.is_file() {
+        file.set_len(len as u64)?;
     }
     Ok(())
 }
@@ -126,18 +142,28 @@ impl Output {
         }))
     }
 
-    /// Empties a file, if there is one. If this fails, standard error says why.
-    pub(crate) fn emptied(
+    /// Puts `text` in place of what a plain file holds, if there is one. What is written next goes over it. If this fails,
+    /// standard error says why.
+    pub(crate) fn begun(
         rt: &HostRuntime,
         output: Option<Output>,
+        text: &str,
     ) -> Result<Option<Output>, Stop> {
         let Some(output) = output else {
             return Ok(None);
         };
-        match empty(output.sink.writer.get_ref()) {
+        match begin(output.sink.writer.get_ref(), text) {
             Ok(()) => Ok(Some(output)),
             Err(error) => Err(unwritten(rt, &output.path, error)),
         }
+    }
+
+    /// Writes all that a file is to hold, over the text with which it began.
+    pub(crate) fn replace(&mut self, octets: &[u8]) -> Result<(), Failed> {
+        self.sink.write_all(octets)?;
+        self.sink.flush()?;
+        let ended = cut(self.sink.writer.get_ref(), octets.len());
+        self.sink.noted(ended)
     }
 
     /// Writes the rest of a file, if there is one. If a write failed, standard error says why.
