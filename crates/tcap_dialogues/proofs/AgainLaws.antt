@@ -9,7 +9,8 @@ use Rattle.tcap_dialogues.specs.declared.reuse.Reuse.{Reuse}
 use Rattle.tcap_dialogues.specs.Cut.{IdOf, is_among, is_same}
 use Rattle.tcap_dialogues.proofs.CourseEnds.{among, ended_with, listed}
 use Rattle.tcap_dialogues.proofs.CourseStretch.{one_more}
-use Rattle.tcap_dialogues.proofs.CourseJoins.{IsNew, hit_by, id_comes, id_stays, ids_more, joins, number_comes, which, with_new}
+use Rattle.tcap_dialogues.proofs.CourseJoins.{IsNew, hit_by, ids_more}
+use Rattle.tcap_dialogues.proofs.Joins.{id_comes, id_stays, joins, number_comes, which, with_new}
 use Rattle.tcap_dialogues.proofs.CourseLaws.{Among, AreCourses, among_from, courses_then, done_then, left_then, no_courses}
 use Rattle.tcap_dialogues.proofs.CourseMore.{courses_more}
 use Rattle.tcap_dialogues.proofs.CutIds.{among_in, in_among, one_of}
@@ -72,7 +73,7 @@ module _ (headings : List Heading) (n : ℕ) (h : Heading) (here : slice_get hea
 
   -- the live dialogues after one more entry
   abbrev more : List Course
-  more = with_new earlier n h left new made
+  more = with_new made.joins
 
   -- A dialogue that is done and shares an ID with the new one has an entry that the new one has not.
   with_id : (e : Course) (id : IdOf) → Contains done e → is_among new.ids id ≡ true → is_among e.ids id ≡ true → Sharer done new
@@ -84,7 +85,7 @@ module _ (headings : List Heading) (n : ℕ) (h : Heading) (here : slice_get hea
         entry = i;
         has = has;
         lacks = false_from_ne_true (has_entry new i)
-            (λ bad. (courses_more headings n h here done left c new made).no_number e new i old (joins earlier n h left new made) has bad);
+            (λ bad. (courses_more headings n h here done left c new made).no_number e new i old (joins made.joins) has bad);
         id = id;
         its = its;
         hers = hers;
@@ -100,13 +101,13 @@ module _ (headings : List Heading) (n : ℕ) (h : Heading) (here : slice_get hea
           let (there, one) = kept_in (λ d. have_one (ids_in h) d.ids) left x hit in
           let w = a.shares x (inr there) again in
           with_id w.course w.id w.listed
-          (id_stays earlier n h left new made x w.id (record { listed = there; hit = one }) w.its) w.hers
+          (id_stays made.joins x w.id (record { listed = there; hit = one }) w.its) w.hers
       by (inr one) =
           let (id, its, was) = one_of (ids_more h left) earlier one in
           let (e, old, hers) = found_of (is_same id) (λ d. d.ids) done was in
           let (entry_has, _) = kept_in (λ i. not (list_any (λ d. is_among d.ids i) (hit_by h left))) (ids_in h) id
           (among_in (ids_more h left) id its) in
-          with_id e id old (id_comes earlier n h left new made id (in_among (ids_in h) id entry_has)) hers
+          with_id e id old (id_comes made.joins id (in_among (ids_in h) id entry_has)) hers
 
   -- They hold after one more entry.
   shared_more : AreShared done more
@@ -114,11 +115,11 @@ module _ (headings : List Heading) (n : ℕ) (h : Heading) (here : slice_get hea
     where
       entered_by : (d : Course) → (Contains left d × (have_one (ids_in h) d.ids ≡ false)) ⊎ (new ≡ d) → (i : ℕ) × (has_entry d i ≡ true)
       entered_by d (inl (there, misses)) = a.entered d (inr there)
-      entered_by d (inr same) = (n, ap (λ e. has_entry e n) (sym same) ∙ number_comes earlier n h left new made)
+      entered_by d (inr same) = (n, ap (λ e. has_entry e n) (sym same) ∙ number_comes made.joins)
 
       entered_more : (d : Course) → Among done more d → (i : ℕ) × (has_entry d i ≡ true)
       entered_more d (inl old) = a.entered d (inl old)
-      entered_more d (inr has) = entered_by d (which earlier n h left new made d has)
+      entered_more d (inr has) = entered_by d (which made.joins d has)
 
       shares_by : (d : Course) → (Contains left d × (have_one (ids_in h) d.ids ≡ false)) ⊎ (new ≡ d) → d.again ≡ true → Sharer done d
       shares_by d (inl (there, misses)) so = a.shares d (inr there) so
@@ -126,7 +127,7 @@ module _ (headings : List Heading) (n : ℕ) (h : Heading) (here : slice_get hea
 
       shares_more : (d : Course) → Among done more d → d.again ≡ true → Sharer done d
       shares_more d (inl old) so = a.shares d (inl old) so
-      shares_more d (inr has) so = shares_by d (which earlier n h left new made d has) so
+      shares_more d (inr has) so = shares_by d (which made.joins d has) so
 
 -- They hold for a whole segment, if they hold for the entries before.
 shared_behind : (reuse : Reuse) (headings left : List Heading) (n : ℕ) (s : Courses) → ((k : ℕ) → slice_get left k ≡ slice_get headings (n + k))
@@ -137,7 +138,7 @@ shared_behind reuse headings (h ∷ left) n s same c a =
     let here : slice_get headings n ≡ Some h = first_left headings left n h same in
     shared_behind reuse headings left (n + 1) (comes reuse n h s) (later_left headings left n h same) (one_more reuse headings n h s here c)
     (shared_more headings n h here _ _ (courses_then headings n s.done s.live c (is_free reuse n s h)) _
-    (record { numbers_are = refl; ids_are = refl; again_is = refl }) (shared_then headings n s c (is_free reuse n s h) a))
+    (record { joins = record { numbers_are = refl; ids_are = refl }; again_is = refl }) (shared_then headings n s c (is_free reuse n s h) a))
 
 -- A dialogue with a reused ID shares it with another dialogue of the segment, which has an entry that the first has
 -- not.

@@ -9,7 +9,8 @@ use Rattle.tcap_dialogues.specs.Cut.{IdOf, is_among, is_same}
 use Rattle.tcap_dialogues.specs.CutState.{AreApart, Lingers, is_given_up, is_past_by}
 use Rattle.tcap_dialogues.specs.declared.reuse.Reuse.{Reuse}
 use Rattle.tcap_dialogues.specs.declared.reuse.Reuse.TheVariants as reuses
-use Rattle.tcap_dialogues.proofs.CourseJoins.{Hit, IsNew, hit_by, id_comes, id_stays, in_hit, number_comes, number_stays, which}
+use Rattle.tcap_dialogues.proofs.CourseJoins.{IsNew, hit_by}
+use Rattle.tcap_dialogues.proofs.Joins.{Hit, id_comes, id_stays, in_hit, number_comes, number_stays, which}
 use Rattle.tcap_dialogues.proofs.CourseLaws.{AreCourses, courses_then, left_from, no_courses}
 use Rattle.tcap_dialogues.proofs.CourseMore.{courses_more}
 use Rattle.tcap_dialogues.proofs.CutLists.{first_left, found_more, later_left, none_in}
@@ -20,7 +21,7 @@ pub one_more : (reuse : Reuse) (headings : List Heading) (n : ℕ) (h : Heading)
     → AreCourses headings n s.done s.live → AreCourses headings (n + 1) (comes reuse n h s).done (comes reuse n h s).live
 one_more reuse headings n h s here c =
     courses_more headings n h here _ _ (courses_then headings n s.done s.live c (is_free reuse n s h)) _
-    (record { numbers_are = refl; ids_are = refl; again_is = refl })
+    (record { joins = record { numbers_are = refl; ids_are = refl }; again_is = refl })
 
 -- ---- a live dialogue
 
@@ -81,18 +82,18 @@ module _ (reuse : Reuse) (n : ℕ) (h : Heading) (earlier : Earlier) (left : Lis
 
   made : IsNew earlier.ids n h left new
   unfolding new
-  made = record { numbers_are = refl; ids_are = refl; again_is = refl }
+  made = record { joins = record { numbers_are = refl; ids_are = refl }; again_is = refl }
 
   Hits : Course → Type 0
-  Hits = Hit earlier.ids n h left new made
+  Hits = Hit made.joins
 
   over_from : (number : ℕ) → new.over ≡ Some number → ((d : Course) × Hits d × (d.over ≡ Some number)) ⊎ (n ≡ number)
   unfolding new Hits
   over_from number is = by (lower_is (first_over (hit_by h left)) (over_by n h) number is)
     where
       by : (first_over (hit_by h left) ≡ Some number) ⊎ (over_by n h ≡ Some number)
-          → ((d : Course) × Hit earlier.ids n h left new made d × (d.over ≡ Some number)) ⊎ (n ≡ number)
-      by (inl old) = let (d, has, so) = over_of (hit_by h left) number old in inl (d, in_hit earlier.ids n h left new made d has, so)
+          → ((d : Course) × Hit made.joins d × (d.over ≡ Some number)) ⊎ (n ≡ number)
+      by (inl old) = let (d, has, so) = over_of (hit_by h left) number old in inl (d, in_hit made.joins d has, so)
       by (inr now) = inr (over_is n number h now)
 
   -- Its lists of IDs are among its IDs.
@@ -104,9 +105,9 @@ module _ (reuse : Reuse) (n : ℕ) (h : Heading) (earlier : Earlier) (left : Lis
     where
       by : ((d : Course) × Contains (hit_by h left) d × (is_among (part d) id ≡ true)) ⊎ (is_among more id ≡ true) → is_among new.ids id ≡ true
       by (inl (d, has, so)) =
-          let hit = in_hit earlier.ids n h left new made d has in
-          id_stays earlier.ids n h left new made d id hit (old d id hit.listed so)
-      by (inr its) = id_comes earlier.ids n h left new made id (now id its)
+          let hit = in_hit made.joins d has in
+          id_stays made.joins d id hit (old d id hit.listed so)
+      by (inr its) = id_comes made.joins id (now id its)
 
   new_sound : IsSound reuse (n + 1) new
   unfolding new Hits
@@ -118,18 +119,18 @@ module _ (reuse : Reuse) (n : ℕ) (h : Heading) (earlier : Earlier) (left : Lis
     lingers = lingers_by new.over over_from;
   }
     where
-      over_by_cases : (number : ℕ) → ((d : Course) × Hit earlier.ids n h left new made d × (d.over ≡ Some number)) ⊎ (n ≡ number) → has_entry new number ≡ true
+      over_by_cases : (number : ℕ) → ((d : Course) × Hit made.joins d × (d.over ≡ Some number)) ⊎ (n ≡ number) → has_entry new number ≡ true
       over_by_cases number (inl (d, hit, so)) =
-          number_stays earlier.ids n h left new made d number hit ((sound d hit.listed).over_in number so)
-      over_by_cases number (inr now) = ap (has_entry new) (sym now) ∙ number_comes earlier.ids n h left new made
+          number_stays made.joins d number hit ((sound d hit.listed).over_in number so)
+      over_by_cases number (inr now) = ap (has_entry new) (sym now) ∙ number_comes made.joins
 
       lingers_by : (over : Option ℕ)
-          → ((number : ℕ) → over ≡ Some number → ((d : Course) × Hit earlier.ids n h left new made d × (d.over ≡ Some number)) ⊎ (n ≡ number))
+          → ((number : ℕ) → over ≡ Some number → ((d : Course) × Hit made.joins d × (d.over ≡ Some number)) ⊎ (n ≡ number))
           → Lingers reuse (n + 1) over
       lingers_by None from = lingers_none reuse (n + 1)
       lingers_by (Some number) from = at (from number refl)
         where
-          at : ((d : Course) × Hit earlier.ids n h left new made d × (d.over ≡ Some number)) ⊎ (n ≡ number) → Lingers reuse (n + 1) (Some number)
+          at : ((d : Course) × Hit made.joins d × (d.over ≡ Some number)) ⊎ (n ≡ number) → Lingers reuse (n + 1) (Some number)
           at (inl (d, hit, so)) = subst (Lingers reuse (n + 1)) so (sound d hit.listed).lingers
           at (inr now) = subst (λ k. Lingers reuse (n + 1) (Some k)) now (lingers_new reuse n)
 
@@ -137,7 +138,7 @@ module _ (reuse : Reuse) (n : ℕ) (h : Heading) (earlier : Earlier) (left : Lis
   all_sound : (d : Course) → Contains (filter (λ e. not (have_one (ids_in h) e.ids)) left ++ with_entry earlier n h (hit_by h left) ∷ []) d
       → IsSound reuse (n + 1) d
   unfolding new
-  all_sound d has = by (which earlier.ids n h left new made d has)
+  all_sound d has = by (which made.joins d has)
     where
       by : (Contains left d × (have_one (ids_in h) d.ids ≡ false)) ⊎ (new ≡ d) → IsSound reuse (n + 1) d
       by (inl (there, misses)) = sound d there

@@ -1,5 +1,5 @@
 -- The laws of the dialogues of a list, from the invariant of each front of it.
-use Rattle.std.proofs.Common.{arith, ◌≡◌, ◌⊎◌, inl, inr, ℕ, ◌+◌, ◌<◌, ◌≤◌, ◌-◌, Bool, true, false, List, [], ◌∷◌, Some, None, refl, sym, ap, ◌∙◌}
+use Rattle.std.proofs.Common.{arith, ◌≡◌, ◌⊎◌, inl, inr, ℕ, ◌+◌, ◌<◌, ◌≤◌, ◌-◌, Bool, true, List, [], ◌∷◌, Some, None, sym, ap, ◌∙◌}
 use Rattle.std.specs.Prelude.{Contains, slice_get}
 use Rattle.std.proofs.lemmas.Bool.{cases_lt}
 use Rattle.tcap_msg.specs.declared.message.Message.{Message}
@@ -14,6 +14,7 @@ use Rattle.tcap_dialogues.proofs.CutLists.{first_left, later_left}
 use Rattle.tcap_dialogues.proofs.CutLaws.{IsCut, Owner, cut_more, cut_none, cut_quiet}
 use Rattle.tcap_dialogues.proofs.PartLaws.{part_keeps}
 use Rattle.tcap_dialogues.proofs.PartLists.{from_zero}
+use Rattle.tcap_dialogues.proofs.HeldLists.{both_so}
 
 -- ---- a closed part
 
@@ -23,15 +24,10 @@ pub closed_from : (keeps : ℕ → Bool) (items : List Item)
     → keeps i ≡ true → keeps j ≡ true) → IsClosed keeps items
 closed_from keeps items follows = record { same = λ i j s t m o is so shared. agree i j s t m o is so shared }
   where
-    both : (a b : Bool) → (a ≡ true → b ≡ true) → (b ≡ true → a ≡ true) → a ≡ b
-    both true b there back = sym (there refl)
-    both false true there back = back refl
-    both false false there back = refl
-
     agree : (i j : ℕ) (s t : Side) (m o : Message) → slice_get items i ≡ Some (Sent s m) → slice_get items j ≡ Some (Sent t o)
         → ShareId s m t o → keeps i ≡ keeps j
     agree i j s t m o is so (end, id, hers, his) =
-        both (keeps i) (keeps j) (follows i j s t m o is so (end, id, hers, his)) (follows j i t s o m so is (end, id, his, hers))
+        both_so (keeps i) (keeps j) (follows i j s t m o is so (end, id, hers, his)) (follows j i t s o m so is (end, id, his, hers))
 
 -- ---- the whole list
 

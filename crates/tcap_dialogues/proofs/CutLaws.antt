@@ -1,15 +1,15 @@
 -- The invariant of the dialogues of a list: no two share an ID, each is whole, and each message has one. One more
 -- message keeps it.
-use Rattle.std.proofs.Common.{arith, ◌≡◌, ◌⊎◌, inl, inr, ℕ, ◌+◌, ◌<◌, ◌≤◌, Bool, true, false, List, [], Some, sym, ap, subst, ◌∙◌}
-use Rattle.std.specs.Prelude.{Contains, slice_get}
-use Rattle.std.proofs.lemmas.Bool.{cases_Bool, cases_lt, true≢false}
+use Rattle.std.proofs.Common.{arith, ◌≡◌, ◌⊎◌, inl, inr, ℕ, ◌+◌, ◌<◌, ◌≤◌, Bool, true, false, List, [], Some, refl, sym, ap, subst, ◌∙◌}
+use Rattle.std.specs.Prelude.{Contains, filter, slice_get}
+use Rattle.std.proofs.lemmas.Bool.{cases_Bool, cases_lt}
 use Rattle.tcap_msg.specs.declared.message.Message.{Message}
 use Rattle.tcap_record.specs.declared.entry.End.{End as Side}
 use Rattle.tcap_model.specs.World.{Item, Sent}
-use Rattle.tcap_dialogues.specs.Cut.{Dialogue, IdOf, has_one, ids_of, is_among, is_of, with_message}
+use Rattle.tcap_dialogues.specs.Cut.{Dialogue, IdOf, has_one, ids_of, is_among, is_of, joined, with_message}
 use Rattle.tcap_dialogues.specs.Part.{IsClosed, ShareId}
-use Rattle.tcap_dialogues.proofs.CutIds.{among_is, one_from, one_of}
-use Rattle.tcap_dialogues.proofs.CutJoins.{Hit, comes, id_comes, id_from, id_stays, new, number_comes, number_of, number_stays, stays, which}
+use Rattle.tcap_dialogues.proofs.CutIds.{among_is, one_of}
+use Rattle.tcap_dialogues.proofs.Joins.{Hit, IsJoin, below_more, id_comes, id_from, id_stays, joins, number_comes, number_of, number_stays, one_id_more, one_number_more, stays, which}
 use Rattle.tcap_dialogues.proofs.CutLists.{none_in}
 
 -- the dialogue of a message, which has its IDs
@@ -91,11 +91,14 @@ module _ (items : List Item) (n : ℕ) (dialogues : List Dialogue) (sender : Sid
 
   -- the new dialogue
   abbrev one : Dialogue
-  one = new n ids dialogues
+  one = joined (filter (has_one ids) dialogues) n ids
+
+  made : IsJoin (λ (d : Dialogue). d.numbers) (λ (d : Dialogue). d.ids) n ids dialogues one
+  made = record { numbers_are = refl; ids_are = refl }
 
   -- a dialogue that the message joins
   abbrev Joins : Dialogue → Type 0
-  Joins = Hit n ids dialogues
+  Joins = Hit made
 
   -- The dialogue of a message stays, or is joined.
   owner_stays : (i : ℕ) (of_it : List IdOf) → Owner dialogues i of_it → Owner more i of_it
@@ -106,13 +109,13 @@ module _ (items : List Item) (n : ℕ) (dialogues : List Dialogue) (sender : Sid
           let h : Joins o.dialogue = record { listed = o.listed; hit = hits } in
           record {
             dialogue = one;
-            listed = comes n ids dialogues;
-            has = number_stays n ids dialogues o.dialogue i h o.has;
-            all = λ id is. id_stays n ids dialogues o.dialogue id h (o.all id is);
+            listed = joins made;
+            has = number_stays made o.dialogue i h o.has;
+            all = λ id is. id_stays made o.dialogue id h (o.all id is);
           }
       by (inr misses) = record {
         dialogue = o.dialogue;
-        listed = stays n ids dialogues o.dialogue o.listed misses;
+        listed = stays made o.dialogue o.listed misses;
         has = o.has;
         all = o.all;
       }
@@ -128,67 +131,14 @@ module _ (items : List Item) (n : ℕ) (dialogues : List Dialogue) (sender : Sid
       let same_message : m ≡ message = cc in
       rw (at, same_side, same_message) (record {
         dialogue = one;
-        listed = comes n ids dialogues;
-        has = number_comes n ids dialogues;
-        all = λ id is. id_comes n ids dialogues id is;
+        listed = joins made;
+        has = number_comes made;
+        all = λ id is. id_comes made id is;
       })
-
-  -- No number is above that of the message.
-  below_more : (d : Dialogue) (i : ℕ) → Contains more d → is_of d i ≡ true → i < n + 1
-  below_more d i has is = by (which n ids dialogues d has)
-    where
-      new_below : ((e : Dialogue) × Joins e × (is_of e i ≡ true)) ⊎ (n ≡ i) → i < n + 1
-      new_below (inl (e, h, so)) = let less = c.below e i h.listed so in omega (arith, less)
-      new_below (inr at) = omega arith
-
-      by : (Contains dialogues d × (has_one ids d ≡ false)) ⊎ (one ≡ d) → i < n + 1
-      by (inl (old, misses)) = let less = c.below d i old is in omega (arith, less)
-      by (inr same) = new_below (number_of n ids dialogues i (ap (λ e. is_of e i) same ∙ is))
-
-  -- A dialogue that stays is not joined.
-  apart : (d e : Dialogue) → has_one ids d ≡ false → Joins e → d ≡ e → ⊥
-  apart d e misses h same = true≢false (sym h.hit ∙ sym (ap (has_one ids) same) ∙ misses)
-
-  -- It shares no number with the new one.
-  no_number : (d : Dialogue) (i : ℕ) → Contains dialogues d → has_one ids d ≡ false → is_of d i ≡ true → is_of one i ≡ true → ⊥
-  no_number d i old misses is so = by (number_of n ids dialogues i so)
-    where
-      by : ((e : Dialogue) × Joins e × (is_of e i ≡ true)) ⊎ (n ≡ i) → ⊥
-      by (inl (e, h, its)) = apart d e misses h (c.one_number d e i old h.listed is its)
-      by (inr at) = let less = c.below d i old is in absurd (omega (arith, less))
-
-  -- It shares no ID with the new one.
-  no_id : (d : Dialogue) (id : IdOf) → Contains dialogues d → has_one ids d ≡ false → is_among d.ids id ≡ true
-      → is_among one.ids id ≡ true → ⊥
-  no_id d id old misses is so = by (id_from n ids dialogues id so)
-    where
-      by : ((e : Dialogue) × Joins e × (is_among e.ids id ≡ true)) ⊎ (is_among ids id ≡ true) → ⊥
-      by (inl (e, h, its)) = apart d e misses h (c.one_id d e id old h.listed is its)
-      by (inr its) = true≢false (sym (one_from ids d.ids id its is) ∙ misses)
-
-  -- Two dialogues with one number are equal.
-  one_number_more : (d e : Dialogue) (i : ℕ) → Contains more d → Contains more e → is_of d i ≡ true → is_of e i ≡ true → d ≡ e
-  one_number_more d e i has hers is so = by (which n ids dialogues d has) (which n ids dialogues e hers)
-    where
-      by : (Contains dialogues d × (has_one ids d ≡ false)) ⊎ (one ≡ d) → (Contains dialogues e × (has_one ids e ≡ false)) ⊎ (one ≡ e) → d ≡ e
-      by (inl (old, misses)) (inl (older, missing)) = c.one_number d e i old older is so
-      by (inl (old, misses)) (inr same) = absurd (no_number d i old misses is (ap (λ x. is_of x i) same ∙ so))
-      by (inr same) (inl (older, missing)) = absurd (no_number e i older missing so (ap (λ x. is_of x i) same ∙ is))
-      by (inr same) (inr equal) = sym same ∙ equal
-
-  -- Two dialogues with one ID are equal.
-  one_id_more : (d e : Dialogue) (id : IdOf) → Contains more d → Contains more e → is_among d.ids id ≡ true → is_among e.ids id ≡ true → d ≡ e
-  one_id_more d e id has hers is so = by (which n ids dialogues d has) (which n ids dialogues e hers)
-    where
-      by : (Contains dialogues d × (has_one ids d ≡ false)) ⊎ (one ≡ d) → (Contains dialogues e × (has_one ids e ≡ false)) ⊎ (one ≡ e) → d ≡ e
-      by (inl (old, misses)) (inl (older, missing)) = c.one_id d e id old older is so
-      by (inl (old, misses)) (inr same) = absurd (no_id d id old misses is (ap (λ x. is_among x.ids id) same ∙ so))
-      by (inr same) (inl (older, missing)) = absurd (no_id e id older missing so (ap (λ x. is_among x.ids id) same ∙ is))
-      by (inr same) (inr equal) = sym same ∙ equal
 
   -- The message, or one of a joined dialogue, carries each ID of the new one.
   bearer_new : (id : IdOf) → is_among one.ids id ≡ true → Bearer items one id
-  bearer_new id is = by (id_from n ids dialogues id is)
+  bearer_new id is = by (id_from made id is)
     where
       by : ((e : Dialogue) × Joins e × (is_among e.ids id ≡ true)) ⊎ (is_among ids id ≡ true) → Bearer items one id
       by (inl (e, h, its)) =
@@ -198,15 +148,15 @@ module _ (items : List Item) (n : ℕ) (dialogues : List Dialogue) (sender : Sid
             side = b.side;
             message = b.message;
             listed = b.listed;
-            has = number_stays n ids dialogues e b.i h b.has;
+            has = number_stays made e b.i h b.has;
             bears = b.bears;
           }
       by (inr its) =
-          record { i = n; side = sender; message = message; listed = here; has = number_comes n ids dialogues; bears = its }
+          record { i = n; side = sender; message = message; listed = here; has = number_comes made; bears = its }
 
   -- Some message carries each ID of each dialogue.
   bearer_more : (d : Dialogue) (id : IdOf) → Contains more d → is_among d.ids id ≡ true → Bearer items d id
-  bearer_more d id has is = by (which n ids dialogues d has)
+  bearer_more d id has is = by (which made d has)
     where
       by : (Contains dialogues d × (has_one ids d ≡ false)) ⊎ (one ≡ d) → Bearer items d id
       by (inl (old, misses)) = c.bearer d id old is
@@ -223,7 +173,7 @@ module _ (items : List Item) (n : ℕ) (dialogues : List Dialogue) (sender : Sid
 
   -- So it is for the new dialogue.
   new_whole : (keeps : ℕ → Bool) → IsClosed keeps items → (i : ℕ) → is_of one i ≡ true → keeps i ≡ keeps n
-  new_whole keeps closed i is = by (number_of n ids dialogues i is)
+  new_whole keeps closed i is = by (number_of made i is)
     where
       by : ((e : Dialogue) × Joins e × (is_of e i ≡ true)) ⊎ (n ≡ i) → keeps i ≡ keeps n
       by (inl (e, h, so)) = joined_whole keeps closed e i h so
@@ -232,7 +182,7 @@ module _ (items : List Item) (n : ℕ) (dialogues : List Dialogue) (sender : Sid
   -- The part has all messages of each dialogue, or none.
   whole_more : (keeps : ℕ → Bool) → IsClosed keeps items → (d : Dialogue) (i j : ℕ) → Contains more d → is_of d i ≡ true → is_of d j ≡ true
       → keeps i ≡ keeps j
-  whole_more keeps closed d i j has is so = by (which n ids dialogues d has)
+  whole_more keeps closed d i j has is so = by (which made d has)
     where
       by : (Contains dialogues d × (has_one ids d ≡ false)) ⊎ (one ≡ d) → keeps i ≡ keeps j
       by (inl (old, misses)) = c.whole keeps closed d i j old is so
@@ -243,9 +193,9 @@ module _ (items : List Item) (n : ℕ) (dialogues : List Dialogue) (sender : Sid
   pub cut_more : IsCut items (n + 1) (with_message n (ids_of sender message) dialogues)
   cut_more = record {
     owner = λ i side m is less. owner_more i side m is less (cases_lt i n);
-    below = below_more;
-    one_number = one_number_more;
-    one_id = one_id_more;
+    below = below_more made c.below;
+    one_number = one_number_more made c.below c.one_number;
+    one_id = one_id_more made c.one_id;
     bearer = bearer_more;
     whole = whole_more;
   }

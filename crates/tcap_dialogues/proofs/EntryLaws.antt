@@ -1,22 +1,23 @@
 -- An entry joins the live dialogues that have one of its IDs: which these are, and the values kept with it.
-use Rattle.std.proofs.Common.{arith, ◌≡◌, ◌⊎◌, inl, inr, ℕ, suc, Bool, true, false, cond, List, [], ◌∷◌, ◌++◌, Option, Some, None, is_none, is_some, refl, sym, ap, ◌∙◌}
+use Rattle.std.proofs.Common.{arith, ◌≡◌, ℕ, suc, Bool, true, false, cond, List, [], ◌∷◌, ◌++◌, Option, Some, None, is_none, is_some, refl, sym, ap, ◌∙◌}
 use Rattle.std.specs.Prelude.{◌==◌, ◌&&◌, ◌||◌, nat_lt, not, Contains, filter, length}
 use Rattle.std.specs.List.{flat_map, list_any}
-use Rattle.std.proofs.lemmas.Bool.{cases_Bool, eq-eqb, eqb-true, lt-ltb, or_left, or_right}
-use Rattle.std.proofs.lemmas.List.Elements.{Contains-append_cases, Contains-append_left, Contains-append_right, filter-append}
+use Rattle.std.proofs.Math.Bool.{and-false}
+use Rattle.std.proofs.lemmas.Bool.{eq-eqb, eqb-true, lt-ltb}
+use Rattle.std.proofs.lemmas.List.Elements.{filter-append}
 use Rattle.std.proofs.lemmas.List.Folds.{list_any-append}
 use Rattle.tcap_record.specs.declared.entry.End.{End as Side}
 use Rattle.tcap_model.specs.World.{is_side}
 use Rattle.tcap_dialogues.specs.Course.{Course, Courses, Earlier, Heading, begun_by, earlier_in, has_begin, has_entry, have_one, ids_in, over_by, own_ids, peer_ids, with_entry}
 use Rattle.tcap_dialogues.specs.Cut.{IdOf, is_among, is_same}
-use Rattle.tcap_dialogues.specs.CutState.{AreApart, AreKept, AreLives, earlier_of, higher, is_named, is_unsettled, others, those}
+use Rattle.tcap_dialogues.specs.CutState.{AreApart, AreKept, AreLives, earlier_of, higher, is_named, is_unsettled}
 use Rattle.tcap_dialogues.specs.CutUpdate.{HasEntry, ids_at}
 use Rattle.tcap_dialogues.specs.declared.known_ids.Known.{Known}
 use Rattle.tcap_dialogues.specs.declared.live.Live.{Live}
 use Rattle.tcap_dialogues.proofs.CourseJoins.{hit_by, ids_more}
-use Rattle.tcap_dialogues.proofs.CutLists.{finds, kept_in, left_in}
+use Rattle.tcap_dialogues.proofs.CutLists.{finds}
 use Rattle.tcap_dialogues.proofs.HeldLaws.{one_name}
-use Rattle.tcap_dialogues.proofs.HeldLists.{AreSame, any_flat, any_none, both_so, or_none}
+use Rattle.tcap_dialogues.proofs.HeldLists.{any_flat, any_none, both_so, or_none}
 use Rattle.tcap_dialogues.proofs.HeldOvers.{lower_none}
 use Rattle.tcap_dialogues.proofs.LiveLaws.{either, some_higher}
 use Rattle.tcap_dialogues.proofs.OwnerLaws.{IsOf, Owns, done_ids, firm_ids}
@@ -42,76 +43,6 @@ module _ (live : List Course) (names : Course → ℕ) (lives : Rattle.std.specs
           ap (λ x. have_one ids x.ids)
           (one_name live names lives are apart d e has owner.listed (eqb-true (names d) name is ∙ sym owner.named)) ∙ owner.has)
 
-  module _ (h : Heading) (own peer : Option ℕ) (own_is : (d : Course) → Contains live d → have_one (own_ids h) d.ids ≡ is_named names own d)
-      (peer_is : (d : Course) → Contains live d → have_one (peer_ids h) d.ids ≡ is_named names peer d) where
-    -- the dialogues with the own ID's name, those of the rest with the peer ID's name, and those left
-    abbrev pub joined_ones : List Course
-    joined_ones = those names own live ++ those names peer (others names own live)
-
-    abbrev pub left_ones : List Course
-    left_ones = others names peer (others names own live)
-
-    hit_is : (d : Course) → Contains live d → have_one (ids_in h) d.ids ≡ (is_named names own d || is_named names peer d)
-    hit_is d has =
-        list_any-append (is_among d.ids) (own_ids h) (peer_ids h) ∙ ap (λ b. b || have_one (peer_ids h) d.ids) (own_is d has)
-        ∙ ap (λ b. is_named names own d || b) (peer_is d has)
-
-    -- The former are those that have one of the entry's IDs.
-    pub joined_hit : AreSame joined_ones (hit_by h live)
-    joined_hit = record {
-      there = λ d has. there d (Contains-append_cases (those names own live) _ d has);
-      back = λ d has.
-          let (listed, hit) = kept_in (λ e. have_one (ids_in h) e.ids) live d has in
-          back d listed (cases_Bool (is_named names own d)) (sym (hit_is d listed) ∙ hit);
-    }
-      where
-        there : (d : Course) → Contains (those names own live) d ⊎ Contains (those names peer (others names own live)) d
-            → Contains (hit_by h live) d
-        there d (inl has) =
-            let (listed, named) = kept_in (is_named names own) live d has in
-            left_in (λ e. have_one (ids_in h) e.ids) live d listed (hit_is d listed ∙ or_left _ _ named)
-        there d (inr has) =
-            let (in_others, named) = kept_in (is_named names peer) (others names own live) d has in
-            let (listed, not_own) = kept_in (λ e. not (is_named names own e)) live d in_others in
-            left_in (λ e. have_one (ids_in h) e.ids) live d listed (hit_is d listed ∙ or_right _ _ named)
-
-        back : (d : Course) → Contains live d → (is_named names own d ≡ true) ⊎ (is_named names own d ≡ false)
-            → (is_named names own d || is_named names peer d) ≡ true → Contains joined_ones d
-        back d listed (inl is) hit =
-            Contains-append_left (those names own live) _ d (left_in (is_named names own) live d listed is)
-        back d listed (inr is) hit =
-            Contains-append_right (those names own live) _ d
-            (left_in (is_named names peer) (others names own live) d
-            (left_in (λ e. not (is_named names own e)) live d listed (ap not is)) (sym (ap (λ b. b || is_named names peer d) is) ∙ hit))
-
-    -- The latter are those that have none.
-    pub left_miss : AreSame left_ones (filter (λ d. not (have_one (ids_in h) d.ids)) live)
-    left_miss = record {
-      there = λ d has.
-          let (in_others, not_peer) = kept_in (λ e. not (is_named names peer e)) (others names own live) d has in
-          let (listed, not_own) = kept_in (λ e. not (is_named names own e)) live d in_others in
-          left_in (λ e. not (have_one (ids_in h) e.ids)) live d listed
-          (ap not (hit_is d listed) ∙ neither (is_named names own d) (is_named names peer d) not_own not_peer);
-      back = λ d has.
-          let (listed, missed) = kept_in (λ e. not (have_one (ids_in h) e.ids)) live d has in
-          let missing = sym (ap not (hit_is d listed)) ∙ missed in
-          left_in (λ e. not (is_named names peer e)) (others names own live) d
-          (left_in (λ e. not (is_named names own e)) live d listed (first (is_named names own d) (is_named names peer d) missing))
-          (second (is_named names own d) (is_named names peer d) missing);
-    }
-      where
-        neither : (a b : Bool) → not a ≡ true → not b ≡ true → not (a || b) ≡ true
-        neither true b is so = cc
-        neither false b is so = so
-
-        first : (a b : Bool) → not (a || b) ≡ true → not a ≡ true
-        first true b is = cc
-        first false b is = refl
-
-        second : (a b : Bool) → not (a || b) ≡ true → not b ≡ true
-        second true b is = cc
-        second false b is = is
-
 -- ---- reused IDs of the entry
 
 -- a reused ID is unsettled if it is not firm
@@ -130,10 +61,6 @@ module _ (live hits : List Course) (names : Course → ℕ) (end : Side) (octets
       → list_any test (filter news (ids_at end octets)) ≡ (is_none known.dialogue && so)
   again_is test so is = by octets is owns in_hits
     where
-      none : (b : Bool) → false ≡ (b && false)
-      none true = refl
-      none false = refl
-
       at : (id : IdOf) (o : Option ℕ) → Owns live names (id ∷ []) known o
           → ((d : Course) → Contains live d → have_one (id ∷ []) d.ids ≡ true → Contains hits d) → news id ≡ is_none o
       at id None nobody inside =
@@ -148,7 +75,7 @@ module _ (live hits : List Course) (names : Course → ℕ) (end : Side) (octets
       by : (o : Option (List ℕ)) → so ≡ list_any test (ids_at end o) → Owns live names (ids_at end o) known known.dialogue
           → ((d : Course) → Contains live d → have_one (ids_at end o) d.ids ≡ true → Contains hits d)
           → list_any test (filter news (ids_at end o)) ≡ (is_none known.dialogue && so)
-      by None agrees owned inside = none (is_none known.dialogue) ∙ ap (λ b. is_none known.dialogue && b) (sym agrees)
+      by None agrees owned inside = sym (and-false (is_none known.dialogue)) ∙ ap (λ b. is_none known.dialogue && b) (sym agrees)
       by (Some x) agrees owned inside =
           let id : IdOf = record { end = end; octets = x } in
           one id (news id) ∙ ap (λ b. b && (test id || false)) (at id known.dialogue owned inside)

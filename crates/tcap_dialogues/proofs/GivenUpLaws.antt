@@ -1,5 +1,6 @@
 -- Which live dialogue has an ID that its sender reuses.
 use Rattle.std.proofs.Common.{◌≡◌, ◌⊎◌, inl, inr, ℕ, Bool, true, false, List, Option, Some, None, is_some, refl, sym, ap, ◌∙◌}
+use Rattle.std.proofs.Math.Bool.{and-false}
 use Rattle.std.specs.Prelude.{◌==◌, ◌&&◌, ◌||◌, not, Contains}
 use Rattle.std.specs.List.{flat_map, list_any}
 use Rattle.std.proofs.lemmas.Bool.{cases_Bool, eq-eqb, eqb-true, false_from_ne_true, or_left, or_right, true≢false}
@@ -132,11 +133,7 @@ module _ (s : Courses) (names : Course → ℕ) (h : Heading) where
     not_own is =
         ap (λ b. (is_begin h.kind && b) || (b && list_any (accepts_one h) s.live)
         || (b && is_continue h.kind && has_begin d && (h.under_way || h.known) && not (names_peer s h))) is
-        ∙ by (is_begin h.kind)
-      where
-        by : (b : Bool) → ((b && false) || false || false) ≡ false
-        by true = refl
-        by false = refl
+        ∙ ap (λ b. b || false || false) (and-false (is_begin h.kind))
 
     -- A Begin reuses it.
     pub own_begin : have_one (own_ids h) d.ids ≡ true → is_begin h.kind ≡ true → is_used_anew s h d ≡ true
@@ -214,11 +211,7 @@ module _ (s : Courses) (names : Course → ℕ) (lives : Rattle.std.specs.BTreeM
     (are : AreLives s.live names lives) (h : Heading) (own : Known) where
   -- If no live dialogue has the own ID, none is given up.
   pub gives_up_nobody : IsNobodys s.live (own_ids h) own → (d : Course) → Contains s.live d → (is_some d.over && is_used_anew s h d) ≡ false
-  gives_up_nobody nobody d has = ap (λ b. is_some d.over && b) (not_own s names h d (nobody.0 d has)) ∙ none (is_some d.over)
-    where
-      none : (b : Bool) → (b && false) ≡ false
-      none true = refl
-      none false = refl
+  gives_up_nobody nobody d has = ap (λ b. is_some d.over && b) (not_own s names h d (nobody.0 d has)) ∙ and-false (is_some d.over)
 
   -- Otherwise, the dialogue that has it is given up if it is over and reused.
   pub gives_up_is : (name : ℕ) (e : Course) → IsOwner s.live names (own_ids h) name own e → (gives : Bool)
@@ -235,11 +228,7 @@ module _ (s : Courses) (names : Course → ℕ) (lives : Rattle.std.specs.BTreeM
           ap (λ b. is_some d.over && b)
           (not_own s names h d (false_from_ne_true _
           (λ so. true≢false (sym (eq-eqb (names d) name (ap names (owner.only d has so) ∙ owner.named)) ∙ differs))))
-          ∙ none (is_some d.over) ∙ ap (λ b. b && gives) (sym differs)
-        where
-          none : (b : Bool) → (b && false) ≡ false
-          none true = refl
-          none false = refl
+          ∙ and-false (is_some d.over) ∙ ap (λ b. b && gives) (sym differs)
 
 -- the name, if a dialogue is given up
 pub all_given : (gives named : Bool) → gives ≡ (named && true) → gives ≡ named

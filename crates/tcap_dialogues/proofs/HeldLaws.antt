@@ -26,9 +26,6 @@ use Rattle.tcap_dialogues.proofs.HeldOvers.{lower_none, over_same}
 pub at_number : (a b : ℕ) → is_at (nat_cmp a) b ≡ (a == b)
 at_number a b = unsigned_tied a b
 
-pub turned : (a b : ℕ) → (a == b) ≡ (b == a)
-turned a b = both_so (a == b) (b == a) (λ is. eq-eqb b a (sym (eqb-true a b is))) (λ is. eq-eqb a b (sym (eqb-true b a is)))
-
 -- ---- the same dialogues in another order
 
 pub same_kept : (ds es : List Course) (l : Live) → AreSame ds es → AreKept ds l → AreKept es l

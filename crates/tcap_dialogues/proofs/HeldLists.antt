@@ -1,11 +1,11 @@
 -- Tests of lists, by the elements that they have.
 use Rattle.std.proofs.Common.{◌≡◌, ◌⊎◌, inl, inr, Bool, true, false, ◌||◌, List, [], ◌∷◌, ◌++◌, refl, sym, ap, ◌∙◌}
-use Rattle.std.specs.Prelude.{Contains, filter, not}
+use Rattle.std.specs.Prelude.{Contains}
 use Rattle.std.specs.List.{flat_map, list_any}
-use Rattle.std.proofs.lemmas.Bool.{cases_Bool, false_from_ne_true, true≢false}
+use Rattle.std.proofs.lemmas.Bool.{false_from_ne_true, true≢false}
 use Rattle.std.proofs.lemmas.List.Elements.{Contains-append_cases, Contains-append_left, Contains-append_right}
 use Rattle.std.proofs.lemmas.List.Folds.{list_any-append}
-use Rattle.tcap_dialogues.proofs.CutLists.{finds, found, left_in}
+use Rattle.tcap_dialogues.proofs.CutLists.{finds, found}
 
 -- ---- tests
 
@@ -51,23 +51,8 @@ module _ {X : Type 0} (p : X → Bool) where
       false_from_ne_true (list_any p xs)
       (λ is. let (y, has, so) = found p xs is in true≢false (sym so ∙ none y has))
 
-  -- If the test fails, no element passes.
-  pub none_of : (xs : List X) (x : X) → list_any p xs ≡ false → Contains xs x → p x ≡ false
-  none_of xs x none has = false_from_ne_true (p x) (λ so. true≢false (sym (finds p xs x has so) ∙ none))
-
 -- the test of joined lists
 pub any_flat : {X A : Type 0} (p : A → Bool) (f : X → List A) (xs : List X)
     → list_any p (flat_map f xs) ≡ list_any (λ x. list_any p (f x)) xs
 any_flat p f [] = refl
 any_flat p f (x ∷ xs) = list_any-append p (f x) (flat_map f xs) ∙ ap (λ b. list_any p (f x) || b) (any_flat p f xs)
-
--- ---- elements that pass, and those left
-
-module _ {X : Type 0} (test : X → Bool) (xs : List X) where
-  -- Each passes, or is left.
-  pub which : (x : X) → Contains xs x → Contains (filter test xs) x ⊎ Contains (filter (λ y. not (test y)) xs) x
-  which x has = by (cases_Bool (test x))
-    where
-      by : (test x ≡ true) ⊎ (test x ≡ false) → Contains (filter test xs) x ⊎ Contains (filter (λ y. not (test y)) xs) x
-      by (inl is) = inl (left_in test xs x has is)
-      by (inr is) = inr (left_in (λ y. not (test y)) xs x has (ap not is))

@@ -1,5 +1,5 @@
 -- An end without the halves outside a part: which halves it finds, and what it is after a half is put.
-use Rattle.std.proofs.Common.{◌≡◌, ◌⊎◌, inl, inr, ℕ, Bool, true, false, cond, List, [], ◌∷◌, Option, Some, None, Result, Ok, refl, sym, ap, ◌∙◌}
+use Rattle.std.proofs.Common.{◌≡◌, ◌⊎◌, inl, inr, ℕ, Bool, true, false, List, Option, Some, None, Result, Ok, refl, sym, ap, ◌∙◌}
 use Rattle.std.specs.Prelude.{ok_or}
 use Rattle.tcap_end.specs.declared.fault.EndFault.{EndFault}
 use Rattle.tcap_end.specs.declared.half.HalfName.{HalfName}
@@ -12,6 +12,7 @@ use Rattle.tcap_end.specs.End.{End, KeptHalf, first_half, half_where, is_id, nam
 use Rattle.tcap_end.specs.ReachableEnd.{Has, IsEnd, IsKept}
 use Rattle.tcap_end.proofs.EndLaws.{IsThere, no_half, put_has}
 use Rattle.tcap_end.proofs.FoundLaws.{own_has, peer_has}
+use Rattle.tcap_model.proofs.SentMoves.{own_is, peer_is}
 use Rattle.tcap_model.proofs.TurnLaws.{id_is}
 use Rattle.tcap_dialogues.proofs.ThinLaws.{all_kept, first_thin, thin, thin_in, thin_out}
 
@@ -31,35 +32,6 @@ then_so_on rest x is goes = rw is goes
 pub found_so_on : {A B F : Type 0} {o : Option A} {r : Result B F} (reason : F) (rest : A → Result B F) (x : A) → o ≡ Some x → rest x ≡ r
     → (ok_or o reason >>= rest) ≡ r
 found_so_on reason rest x is goes = rw is goes
-
--- The half found passes.
-first_passes : (passes : Half → Bool) (slot : Slot) (es : List (List ℕ × Half)) (f : KeptHalf) → first_half passes slot es ≡ Some f
-    → passes f.half ≡ true
-first_passes passes slot [] f is = cc
-first_passes passes slot (e ∷ es) f is = by (passes e.1) refl is (first_passes passes slot es f)
-  where
-    first : KeptHalf
-    first = record { slot = slot; key = e.0; half = e.1 }
-
-    by : (b : Bool) → passes e.1 ≡ b → cond b (Some first) (first_half passes slot es) ≡ Some f
-        → (first_half passes slot es ≡ Some f → passes f.half ≡ true) → passes f.half ≡ true
-    by true so is rest = let same : first ≡ f = cc in rw (← same) so
-    by false so is rest = rest is
-
--- So does the half found in an end.
-where_passes : (passes : Half → Bool) (e : End) (f : KeptHalf) → half_where passes e ≡ Some f → passes f.half ≡ true
-where_passes passes e f is = by (first_half passes Begun e.begun) refl
-  where
-    by : (o : Option KeptHalf) → first_half passes Begun e.begun ≡ o → passes f.half ≡ true
-    by None none = first_passes passes Accepted e.accepted f (rw none at is)
-    by (Some g) some = first_passes passes Begun e.begun f (let same = rw some at is in some ∙ same)
-
--- The half found by an ID has this ID.
-pub own_is : (e : End) (id : List ℕ) (f : KeptHalf) → with_own e id ≡ Some f → f.half.own ≡ Some id
-own_is e id f is = id_is id f.half.own (where_passes (λ h. is_id id h.own) e f is)
-
-pub peer_is : (e : End) (id : List ℕ) (f : KeptHalf) → with_peer e id ≡ Some f → f.half.peer ≡ Some id
-peer_is e id f is = id_is id f.half.peer (where_passes (λ h. is_id id h.peer) e f is)
 
 -- ---- an end without the halves outside
 

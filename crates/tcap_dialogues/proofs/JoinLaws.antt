@@ -17,13 +17,14 @@ use Rattle.tcap_dialogues.specs.declared.live.Live.{Live}
 use Rattle.tcap_dialogues.proofs.CourseJoins.{hit_by, ids_more}
 use Rattle.tcap_dialogues.proofs.CourseStretch.{left_apart}
 use Rattle.tcap_dialogues.proofs.CutLists.{finds, kept_in, left_in}
-use Rattle.tcap_dialogues.proofs.EntryLaws.{again_both, again_is, entry_kept, joined_hit, left_miss, owned_is, unsettled_at, unsettled_by}
+use Rattle.tcap_dialogues.proofs.EntryLaws.{again_both, again_is, entry_kept, owned_is, unsettled_at, unsettled_by}
 use Rattle.tcap_dialogues.proofs.HeldLists.{any_none}
 use Rattle.tcap_dialogues.proofs.JoinedLaws.{joined_same}
 use Rattle.tcap_dialogues.proofs.JoiningIds.{ids_then}
 use Rattle.tcap_dialogues.proofs.JoiningLaws.{lives_then, name_known, names_then, overs_then}
 use Rattle.tcap_dialogues.proofs.LiveLaws.{either, some_earlier, some_higher, some_unsettled}
 use Rattle.tcap_dialogues.proofs.OwnerLaws.{IsOf, Owns, known_is}
+use Rattle.tcap_dialogues.proofs.TwoNames.{named_ones, other_ones}
 
 module _ (s : Courses) (names : Course → ℕ) (sent : IdOf → Bool) (h : Heading) (apart : AreApart s.live) (old : Cut)
     (held : IsHeld s names sent old) (own peer : Known) (own_known : own ≡ known_of old.ids h.sender h.otid)
@@ -45,6 +46,9 @@ module _ (s : Courses) (names : Course → ℕ) (sent : IdOf → Bool) (h : Head
 
   peer_is : (d : Course) → Contains live d → have_one (peer_ids h) d.ids ≡ is_named names peer.dialogue d
   peer_is = owned_is live names old.live apart held.lives (peer_ids h) peer peer_of.owns
+
+  hit_is : (d : Course) → Contains live d → have_one (ids_in h) d.ids ≡ (is_named names own.dialogue d || is_named names peer.dialogue d)
+  hit_is d has = list_any-append (is_among d.ids) (own_ids h) (peer_ids h) ∙ either _ _ _ _ (own_is d has) (peer_is d has)
 
   -- The entry begins a new dialogue if it has an ID and no live dialogue has one of its IDs.
   pub begins_is : (has_ids own_none peer_none : Bool) → has_ids ≡ not (is_alone h) → is_some own.dialogue ≡ not own_none
@@ -136,7 +140,7 @@ module _ (s : Courses) (names : Course → ℕ) (sent : IdOf → Bool) (h : Head
       all : IsJoined second.count (hit_by h live) second third l
       all =
           joined_same second.count (ones ++ more) (hit_by h live) second third l
-          (joined_hit live names old.live apart held.lives h own.dialogue peer.dialogue own_is peer_is) joined
+          (named_ones live names own.dialogue peer.dialogue (λ d. have_one (ids_in h) d.ids) hit_is) joined
 
       hit_live : (d : Course) → Contains (hit_by h live) d → Contains live d
       hit_live d has = (kept_in (λ e. have_one (ids_in h) e.ids) live d has).0
@@ -183,7 +187,7 @@ module _ (s : Courses) (names : Course → ℕ) (sent : IdOf → Bool) (h : Head
 
       miss : Rattle.tcap_dialogues.proofs.HeldLists.AreSame
           (others names peer.dialogue (others names own.dialogue live)) (Rattle.std.specs.Prelude.filter (λ d. not (have_one (ids_in h) d.ids)) live)
-      miss = left_miss live names old.live apart held.lives h own.dialogue peer.dialogue own_is peer_is
+      miss = other_ones live names own.dialogue peer.dialogue (λ d. have_one (ids_in h) d.ids) hit_is
 
       pub entry_comes : IsCutOf old.reuse (old.count + 1) (joined_by old.count h s.done s.live) (λ id. sent id || is_among (own_ids h) id)
           (record put { count = old.count + 1 })

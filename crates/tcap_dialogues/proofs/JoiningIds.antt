@@ -1,5 +1,6 @@
 -- What is known of transaction IDs after an entry joins the live dialogues that have one of its IDs.
 use Rattle.std.proofs.Common.{◌≡◌, ◌⊎◌, inl, inr, ℕ, ◌<◌, Bool, true, false, cond, List, [], Option, Some, None, refl, sym, ap, subst, ◌∙◌}
+use Rattle.std.proofs.Math.Bool.{and-false, and-true}
 use Rattle.std.specs.Prelude.{◌&&◌, ◌||◌, Contains}
 use Rattle.std.specs.List.{list_any}
 use Rattle.std.proofs.lemmas.Bool.{cases_Bool, false_from_ne_true, or_left, or_right, true≢false}
@@ -12,7 +13,8 @@ use Rattle.tcap_dialogues.specs.CutUpdate.{AreNoted, own_known}
 use Rattle.tcap_dialogues.specs.declared.known_ids.Change.TheVariants as changes
 use Rattle.tcap_dialogues.specs.declared.known_ids.Ids.{Ids}
 use Rattle.tcap_dialogues.specs.declared.known_ids.Known.{Known}
-use Rattle.tcap_dialogues.proofs.CourseJoins.{Hit, hit_by, hit_in, id_comes, id_from, id_stays, in_hit}
+use Rattle.tcap_dialogues.proofs.CourseJoins.{hit_by}
+use Rattle.tcap_dialogues.proofs.Joins.{Hit, hit_in, id_comes, id_from, id_stays, in_hit}
 use Rattle.tcap_dialogues.proofs.CutIds.{one_from}
 use Rattle.tcap_dialogues.proofs.CutLists.{finds, found, left_in}
 use Rattle.tcap_dialogues.proofs.EntryLaws.{any_part}
@@ -44,15 +46,15 @@ module _ (s : Courses) (names : Course → ℕ) (sent : IdOf → Bool) (n : ℕ)
 
   -- The dialogue that has an ID of the new one is one of those joined.
   owner_hit : (d : Course) (id : IdOf) → Contains live d → is_among d.ids id ≡ true → is_among it.ids id ≡ true → Contains hits d
-  owner_hit d id listed its has = by (id_from earlier.ids n h live it is_made id has)
+  owner_hit d id listed its has = by (id_from is_made.joins id has)
     where
-      by : ((e : Course) × Hit earlier.ids n h live it is_made e × (is_among e.ids id ≡ true)) ⊎ (is_among (ids_in h) id ≡ true) → Contains hits d
+      by : ((e : Course) × Hit is_made.joins e × (is_among e.ids id ≡ true)) ⊎ (is_among (ids_in h) id ≡ true) → Contains hits d
       by (inl (e, hit, so)) =
-          subst (Contains hits) (apart.one_id e d id hit.listed listed so its) (hit_in earlier.ids n h live it is_made e hit)
+          subst (Contains hits) (apart.one_id e d id hit.listed listed so its) (hit_in is_made.joins e hit)
       by (inr here) = left_in (λ e. have_one (ids_in h) e.ids) live d listed (one_from (ids_in h) d.ids id here its)
 
   in_live : (d : Course) → Contains hits d → Contains live d
-  in_live d has = (in_hit earlier.ids n h live it is_made d has).listed
+  in_live d has = (in_hit is_made.joins d has).listed
 
   -- What is known is whether one of them used or began the ID.
   flag : (part : Course → List IdOf) (known : Bool) (id : IdOf) → is_among it.ids id ≡ true
@@ -176,7 +178,7 @@ module _ (s : Courses) (names : Course → ℕ) (sent : IdOf → Bool) (n : ℕ)
           let o : Old live names earlier n h apart later below d = (
             listed,
             false_from_ne_true _
-                (λ hit. true≢false (sym (id_stays earlier.ids n h live it is_made d id (record { listed = listed; hit = hit }) its) ∙ none)),
+                (λ hit. true≢false (sym (id_stays is_made.joins d id (record { listed = listed; hit = hit }) its) ∙ none)),
           ) in (
             d,
             old_later live names earlier n h apart later below d o,
@@ -198,11 +200,7 @@ module _ (s : Courses) (names : Course → ℕ) (sent : IdOf → Bool) (n : ℕ)
         subst (Then id) (sym (noted id)) (by (is_among (peer_ids h) id) (is_among (own_ids h) id) refl refl)
       where
         old_flags : (a b : Bool) → b ≡ false → a ≡ (a || (is_begin h.kind && b))
-        old_flags a b none = sym (ap (λ x. a || (is_begin h.kind && x)) none ∙ ap (λ x. a || x) (none_too (is_begin h.kind)) ∙ or_none a)
-          where
-            none_too : (x : Bool) → (x && false) ≡ false
-            none_too true = refl
-            none_too false = refl
+        old_flags a b none = sym (ap (λ x. a || (is_begin h.kind && x)) none ∙ ap (λ x. a || x) (and-false (is_begin h.kind)) ∙ or_none a)
 
         stays : is_among it.ids id ≡ true → is_among (own_ids h) id ≡ false → Then id (changed (changes.JoinTo k) (known_at old id))
         stays has not_own =
@@ -214,7 +212,7 @@ module _ (s : Courses) (names : Course → ℕ) (sent : IdOf → Bool) (n : ℕ)
             → Then id (cond c (changed (changes.JoinTo k) (known_at old id)) (known_at old id))
         left true is not_peer not_own =
             let (d, has, its) = found (λ x. is_among x.ids id) hits is in
-            stays (id_stays earlier.ids n h live it is_made d id (in_hit earlier.ids n h live it is_made d has) its) not_own
+            stays (id_stays is_made.joins d id (in_hit is_made.joins d has) its) not_own
         left false is not_peer not_own =
             of_old id (any_part (is_same id) (λ d. d.ids) hits (ids_in h) ∙ ap (λ b. b || is_among (ids_in h) id) is
             ∙ here id ∙ ap (λ b. b || is_among (peer_ids h) id) not_own ∙ not_peer) not_own
@@ -223,17 +221,13 @@ module _ (s : Courses) (names : Course → ℕ) (sent : IdOf → Bool) (n : ℕ)
             → Then id (cond a (changed (changes.JoinTo k) peer) (cond b (own_known h k own) (known_at mid id)))
         by true b is so =
             subst (λ known. Then id (changed (changes.JoinTo k) known)) (sym (peer_is ∙ known_here old (other h.sender) h.dtid id is))
-            (stays (id_comes earlier.ids n h live it is_made id (here id ∙ or_right _ _ is))
+            (stays (id_comes is_made.joins id (here id ∙ or_right _ _ is))
             (false_from_ne_true _ (λ own_too. ends_apart h id own_too is)))
         by false true is so =
             subst (λ known. Then id (own_known h k known)) (sym (own_is ∙ known_here old h.sender h.otid id so))
             (of_new id true ((known_at old id).begun || is_begin h.kind) true
-            (id_comes earlier.ids n h live it is_made id (here id ∙ or_left _ _ so))
+            (id_comes is_made.joins id (here id ∙ or_left _ _ so))
             (sym (or_right (known_at old id).used _ so))
-            (ap (λ b. (known_at old id).begun || b) (sym (ap (λ x. is_begin h.kind && x) so ∙ all (is_begin h.kind))))
+            (ap (λ b. (known_at old id).begun || b) (sym (ap (λ x. is_begin h.kind && x) so ∙ and-true (is_begin h.kind))))
             (sym (or_right (sent id) _ so)))
-          where
-            all : (x : Bool) → (x && true) ≡ x
-            all true = refl
-            all false = refl
         by false false is so = subst (Then id) (sym (joined id)) (left (list_any (λ d. is_among d.ids id) hits) refl is so)

@@ -15,7 +15,8 @@ use Rattle.tcap_dialogues.specs.CutUpdate.{IsPut, ids_at, is_over_at}
 use Rattle.tcap_dialogues.specs.declared.cut.Cut.{Cut}
 use Rattle.tcap_dialogues.specs.declared.known_ids.Ids.{Ids}
 use Rattle.tcap_dialogues.specs.declared.live.Live.{Live}
-use Rattle.tcap_dialogues.proofs.CourseJoins.{IsNew, hit_by, in_hit, joins, number_comes, number_stays, stays, which}
+use Rattle.tcap_dialogues.proofs.CourseJoins.{IsNew, hit_by}
+use Rattle.tcap_dialogues.proofs.Joins.{in_hit, joins, number_comes, number_stays, stays, which}
 use Rattle.tcap_dialogues.proofs.CutIds.{same_id}
 use Rattle.tcap_dialogues.proofs.CutLists.{found, left_in}
 use Rattle.tcap_dialogues.proofs.HeldLists.{AreSame, or_none}
@@ -61,20 +62,20 @@ module _ (live : List Course) (names : Course → ℕ) (earlier : Earlier) (n : 
   new = with_entry earlier n h (hit_by h live)
 
   pub made : IsNew earlier.ids n h live new
-  made = record { numbers_are = refl; ids_are = refl; again_is = refl }
+  made = record { joins = record { numbers_are = refl; ids_are = refl }; again_is = refl }
 
   -- an old dialogue that it does not join
   abbrev pub Old : Course → Type 0
   Old d = Contains live d × (have_one (ids_in h) d.ids ≡ false)
 
   pub old_later : (d : Course) → Old d → Contains (with_one earlier n h live) d
-  old_later d (there, misses) = stays earlier.ids n h live new made d there misses
+  old_later d (there, misses) = stays made.joins d there misses
 
   pub new_later : Contains (with_one earlier n h live) new
-  new_later = joins earlier.ids n h live new made
+  new_later = joins made.joins
 
   pub cases : (d : Course) → Contains (with_one earlier n h live) d → Old d ⊎ (new ≡ d)
-  cases d has = which earlier.ids n h live new made d has
+  cases d has = which made.joins d has
 
   not_here : (d : Course) → Contains live d → has_entry d n ≡ false
   not_here d has = false_from_ne_true _ (λ is. let less = below d n has is in absurd (omega (arith, less)))
@@ -90,22 +91,22 @@ module _ (live : List Course) (names : Course → ℕ) (earlier : Earlier) (n : 
 
     pub name_new : names_then new ≡ k
     unfolding names_then
-    name_new = ap (λ b. cond b k (names new)) (number_comes earlier.ids n h live new made)
+    name_new = ap (λ b. cond b k (names new)) (number_comes made.joins)
 
     module _ (entry : (k ≡ n) ⊎ (list_any (λ d. has_entry d k) (hit_by h live) ≡ true)) where
       new_entry : has_entry new k ≡ true
       new_entry = by entry
         where
           by : (k ≡ n) ⊎ (list_any (λ d. has_entry d k) (hit_by h live) ≡ true) → has_entry new k ≡ true
-          by (inl is) = ap (has_entry new) is ∙ number_comes earlier.ids n h live new made
+          by (inl is) = ap (has_entry new) is ∙ number_comes made.joins
           by (inr is) =
               let (d, has, so) = found (λ x. has_entry x k) (hit_by h live) is in
-              number_stays earlier.ids n h live new made d k (in_hit earlier.ids n h live new made d has) so
+              number_stays made.joins d k (in_hit made.joins d has) so
 
       -- An old dialogue differs from the new one.
       differ : (d : Course) → Old d → d ≡ new → ⊥
       differ d (there, misses) same =
-          true≢false (sym (number_comes earlier.ids n h live new made) ∙ ap (λ x. has_entry x n) (sym same) ∙ not_here d there)
+          true≢false (sym (number_comes made.joins) ∙ ap (λ x. has_entry x n) (sym same) ∙ not_here d there)
 
       module _ (lives : tree.BTreeMap ℕ Live) (overs : tree.BTreeMap ℕ ℕ) (left : List Course)
           (miss : AreSame left (filter (λ d. not (have_one (ids_in h) d.ids)) live)) (are : AreLives left names lives)

@@ -1,5 +1,6 @@
 -- What is known of transaction IDs after a change.
 use Rattle.std.proofs.Common.{◌≡◌, ℕ, Bool, true, false, cond, List, [], ◌∷◌, ◌++◌, Option, Some, None, is_some, bytes_eq, refl, sym, ap, ◌∙◌}
+use Rattle.std.proofs.Math.Bool.{and-or_distrib_left, or-true}
 use Rattle.std.specs.Prelude.{◌&&◌, ◌||◌, nat_lt, not}
 use Rattle.std.specs.BTreeMap as tree
 use Rattle.std.specs.BTreeMap.{BTreeMap, is_at}
@@ -84,22 +85,18 @@ known_done ids key known none is = is ∙ ap (λ o. known_by o (tree.get octets_
 
 -- ---- many changes
 
+either_way : (n : ℕ) (b : Bool) → cond b n n ≡ n
+either_way n true = refl
+either_way n false = refl
+
 -- A second equal change changes nothing.
 last_twice : (first : ℕ) (last : Option ℕ) → last_of first (Some (last_of first last)) ≡ last_of first last
-last_twice first None = either_way (nat_lt first first)
-  where
-    either_way : (b : Bool) → cond b first first ≡ first
-    either_way true = refl
-    either_way false = refl
+last_twice first None = either_way first (nat_lt first first)
 last_twice first (Some last) = by (nat_lt first last) refl
   where
-    either_way : (b : Bool) → cond b first first ≡ first
-    either_way true = refl
-    either_way false = refl
-
     by : (b : Bool) → nat_lt first last ≡ b → cond (nat_lt first (cond b last first)) (cond b last first) first ≡ cond b last first
     by true is = ap (λ c. cond c last first) is
-    by false is = either_way (nat_lt first first)
+    by false is = either_way first (nat_lt first first)
 
 twice : (change : Change) (known : Known) → changed change (changed change known) ≡ changed change known
 twice (changes.Free first early) known =
@@ -147,11 +144,7 @@ change_more end keys key change old now new so_far puts id =
         (list_any-append (is_at (octets_cmp id.octets)) keys (key ∷ [])
         ∙ ap (λ b. list_any (is_at (octets_cmp id.octets)) keys || b)
         (or_none (is_at (octets_cmp id.octets) key) ∙ is_eq-slice_cmp id.octets key))
-        ∙ both (is_side id.end end) (list_any (is_at (octets_cmp id.octets)) keys) (bytes_eq id.octets key)
-      where
-        both : (a b c : Bool) → (a && (b || c)) ≡ ((a && b) || (a && c))
-        both true b c = refl
-        both false b c = refl
+        ∙ and-or_distrib_left (is_side id.end end) (list_any (is_at (octets_cmp id.octets)) keys) (bytes_eq id.octets key)
 
     by : (b : Bool) → (is_side id.end end && bytes_eq id.octets key) ≡ b
         → cond b (changed change (known_at now it)) (known_at now id)
@@ -239,14 +232,10 @@ pub sent_added : (ids : EndIds) (key : List ℕ) (old new : BTreeSet (List ℕ))
 sent_added ids key old new sent adds q =
     adds q ∙ ap (λ b. cond b true (set.contains octets_cmp old q)) (at_octets key q) ∙ by (bytes_eq q key) refl
   where
-    either_true : (b : Bool) → true ≡ (b || true)
-    either_true true = refl
-    either_true false = refl
-
     by : (b : Bool) → bytes_eq q key ≡ b
         → cond b true (set.contains octets_cmp old q) ≡ (set.contains octets_cmp old q || (b && (known_in ids q).sent))
     by true is =
-        either_true (set.contains octets_cmp old q)
+        sym (or-true (set.contains octets_cmp old q))
         ∙ ap (λ b. set.contains octets_cmp old q || b) (sym (ap (λ x. (known_in ids x).sent) ((bytes_eq-Decides q key).0 is) ∙ sent))
     by false is = sym (or_none (set.contains octets_cmp old q))
 

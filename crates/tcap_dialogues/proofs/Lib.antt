@@ -1,5 +1,4 @@
 pub mod Views
-pub mod Actions
 pub mod ThinLaws
 pub mod InsideLaws
 pub mod SendLaws
@@ -11,7 +10,7 @@ pub mod PartLaws
 pub mod StretchLaws
 pub mod CutLists
 pub mod CutIds
-pub mod CutJoins
+pub mod Joins
 pub mod CutLaws
 pub mod CutEnds
 pub mod CourseLists
@@ -29,6 +28,7 @@ pub mod GivenUpLaws
 pub mod GatheredLaws
 pub mod ReleaseLaws
 pub mod JoinedLaws
+pub mod TwoNames
 pub mod EntryLaws
 pub mod JoiningLaws
 pub mod JoiningIds

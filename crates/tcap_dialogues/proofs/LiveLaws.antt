@@ -1,5 +1,6 @@
 -- A live dialogue with one more ID, dialogue or entry.
 use Rattle.std.proofs.Common.{◌≡◌, ℕ, Bool, true, false, cond, List, [], ◌++◌, Option, Some, None, is_none, is_some, bytes_eq, map, refl, sym, ap, ◌∙◌}
+use Rattle.std.proofs.Math.Bool.{or_assoc}
 use Rattle.std.specs.Prelude.{◌&&◌, ◌||◌, ◌==◌, length, nat_lt, not}
 use Rattle.std.specs.BTreeMap.{is_at}
 use Rattle.std.specs.BTreeSet as set
@@ -160,7 +161,7 @@ module _ (number : ℕ) (h : Heading) (own peer : Known) (old noted one new : Li
     ids = λ id.
         second.ids_are id ∙ ap (λ b. b || is_among (peer_ids h) id) (first.ids_are id)
         ∙ ap (λ l. (has_id l.a l.b id || is_among (own_ids h) id) || is_among (peer_ids h) id) sends.rest
-        ∙ grouped (has_id old.a old.b id) (is_among (own_ids h) id) (is_among (peer_ids h) id)
+        ∙ or_assoc (has_id old.a old.b id) (is_among (own_ids h) id) (is_among (peer_ids h) id)
         ∙ ap (λ b. has_id old.a old.b id || b) (sym (list_any-append (is_same id) (own_ids h) (peer_ids h)));
     senders = λ side. ap (λ l. has_sent l side) second.rest ∙ ap (λ l. has_sent l side) first.rest ∙ sends.senders side;
     begun = ap (λ l. l.begun) second.rest ∙ ap (λ l. l.begun) first.rest ∙ begun_is
@@ -178,7 +179,3 @@ module _ (number : ℕ) (h : Heading) (own peer : Known) (old noted one new : Li
       put true false = refl
       put false true = refl
       put false false = refl
-
-      grouped : (a b c : Bool) → ((a || b) || c) ≡ (a || (b || c))
-      grouped true b c = refl
-      grouped false b c = refl

@@ -17,7 +17,8 @@ use Rattle.tcap_model.specs.World.{Item, OnItsWay, Sent}
 use Rattle.tcap_model.specs.Run.{abort_for, may_refuse, provider_abort, reply_to, where_so}
 use Rattle.tcap_model.proofs.RunLaws.{some_is, then_some, where_some}
 use Rattle.tcap_dialogues.specs.Part.{part_of}
-use Rattle.tcap_dialogues.proofs.Views.{Acts, Says, Hears, Refuses, Misses, Drops, Shuts, Told, Marked, Stays, Seen, newest, same_seen}
+use Rattle.tcap_model.proofs.Acts.{Acts, Says, Hears, Refuses, Misses, Drops, Shuts, Told, Marked, Stays, Seen, newest}
+use Rattle.tcap_dialogues.proofs.Views.{same_seen}
 use Rattle.tcap_dialogues.proofs.PartLists.{get_next, kept_more, kept_none, kept_of, part_kept, part_left, part_quiet, place_next, place_of}
 use Rattle.tcap_dialogues.proofs.InsideLaws.{Matches, Thins, inside, named_in, nothing_matches}
 use Rattle.tcap_dialogues.proofs.SendLaws.{Fits, send_thins}

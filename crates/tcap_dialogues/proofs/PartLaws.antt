@@ -1,37 +1,28 @@
 -- A lawful end may have sent its part of each part of a list that shares no ID with the rest.
-use Rattle.std.proofs.Common.{◌≡◌, ℕ, Bool, false, List, [], ◌∷◌, ◌++◌, Some, refl, sym, ap, subst, ◌∙◌, append-nil, append_assoc}
+use Rattle.std.proofs.Common.{◌≡◌, ℕ, Bool, List, [], ◌∷◌, ◌++◌, Some, refl, sym, ap, subst, ◌∙◌, append-nil, append_assoc}
 use Rattle.std.specs.Prelude.{slice_get}
 use Rattle.std.specs.List.{AllByRecursion}
-use Rattle.std.proofs.lemmas.Bool.{or_from, or_parts}
 use Rattle.tcap_msg.specs.declared.message.Message.{Message}
 use Rattle.tcap_record.specs.declared.entry.End.{End as Side}
 use Rattle.tcap_record.specs.declared.entry.End.TheVariants as sides
 use Rattle.tcap_end.specs.Table.{Table}
 use Rattle.tcap_record.specs.Ends.{other}
 use Rattle.tcap_model.specs.World.{Item, OnItsWay, Sent, World, channel_from, empty, end_at}
-use Rattle.tcap_model.specs.Run.{Event, IsLawful, IsLawfulFor, KeepsRules, Runs, after, is_told_by, tells}
+use Rattle.tcap_model.specs.Run.{Event, IsLawful, IsLawfulFor, KeepsRules, Runs, after}
 use Rattle.tcap_model.specs.SinceMark.{WasSent}
 use Rattle.tcap_model.proofs.ChannelLaws.{were_sent}
 use Rattle.tcap_model.proofs.ListLaws.{all_weaker}
 use Rattle.tcap_model.proofs.RunLaws.{grows, runs_keep, sound}
+use Rattle.tcap_model.proofs.UsedLaws.{kept_before}
 use Rattle.tcap_model.proofs.WholeLaws.{lawful_together}
 use Rattle.tcap_dialogues.specs.Part.{IsClosed, part_of}
-use Rattle.tcap_dialogues.proofs.Views.{Leads, Seen, acts_lead, blank, leads_lawful, leads_nowhere, leads_then, seen}
-use Rattle.tcap_dialogues.proofs.Actions.{step_acts}
+use Rattle.tcap_model.proofs.Acts.{Seen, seen, step_acts}
+use Rattle.tcap_dialogues.proofs.Views.{Leads, acts_lead, blank, leads_lawful, leads_nowhere, leads_then}
 use Rattle.tcap_dialogues.proofs.PartLists.{get_on}
 use Rattle.tcap_dialogues.proofs.InsideLaws.{Matches, nothing_matches}
 use Rattle.tcap_dialogues.proofs.SendLaws.{Fits}
 use Rattle.tcap_dialogues.proofs.FitLaws.{all_came, all_fit, in_part}
 use Rattle.tcap_dialogues.proofs.PartActs.{IsListed, part, part_acts}
-
--- An end that keeps the rules kept them before the last step, and in it.
-pub kept_before : (side : Side) (before : List Event) (event : Event) → KeepsRules side (before ++ event ∷ [])
-    → KeepsRules side before × (is_told_by side event ≡ false)
-kept_before side [] event keeps = (refl, (or_parts (is_told_by side event) false keeps).0)
-kept_before side (first ∷ before) event keeps =
-    let both = or_parts (is_told_by side first) (tells side (before ++ event ∷ [])) keeps in
-    let rest = kept_before side before event both.1 in
-    (or_from _ _ both.0 rest.0, rest.1)
 
 -- The view of the empty world is empty.
 pub seen_empty : (side : Side) → seen side empty ≡ blank

@@ -1,5 +1,6 @@
 -- A part of a list of items, and of the messages in transit: numbers, and one more item.
 use Rattle.std.proofs.Common.{arith, ◌≡◌, ℕ, zero, suc, ◌+◌, Bool, true, false, cond, List, [], ◌∷◌, ◌++◌, length, take, Some, refl, ap, ◌∙◌}
+use Rattle.std.proofs.lemmas.Bool.{or_right}
 use Rattle.std.specs.Prelude.{◌&&◌, ◌||◌, slice_get}
 use Rattle.std.proofs.Math.Seq.{take-append_seam}
 use Rattle.tcap_msg.specs.declared.message.Message.{Message}
@@ -152,10 +153,6 @@ carried_in end id keeps n (Sent sender message ∷ items) zero side m is so has 
 carried_in end id keeps n (Sent sender message ∷ items) (suc i) side m is so has =
     let rest = carried_in end id keeps (n + 1) items i side m is (rw (further n i) so) has in
     or_right (keeps n && carries end id sender message) (is_carried end id keeps (n + 1) items) rest
-  where
-    or_right : (a b : Bool) → b ≡ true → (a || b) ≡ true
-    or_right true b is = refl
-    or_right false b is = is
 
 -- a message in the part that has the ID
 pub record Carrier (end : Side) (id : List ℕ) (keeps : ℕ → Bool) (n : ℕ) (items : List Item) : Type 0 where

@@ -1,6 +1,7 @@
 -- Deliveries, provider's replies and hidden steps of an end, without the halves outside a part.
 use Rattle.std.proofs.Common.{◌≡◌, ℕ, ℤ, Bool, true, false, cond, List, Option, Some, None, Result, Ok, is_none, refl, ap, ◌∙◌}
-use Rattle.std.specs.Prelude.{◌&&◌, not, ok_or}
+use Rattle.std.specs.Prelude.{not, ok_or}
+use Rattle.std.proofs.lemmas.Bool.{and_parts}
 use Rattle.tcap_parts.specs.declared.component.Component.{Component}
 use Rattle.tcap_parts.specs.declared.dialogue.Dialogue.{Dialogue}
 use Rattle.tcap_msg.specs.declared.message.Message.{Message}
@@ -24,8 +25,9 @@ use Rattle.tcap_end.proofs.AnsweringLaws.{needs_ok, some_ok, then_ok}
 use Rattle.tcap_end.proofs.ComponentLaws.{Receives, all_receives}
 use Rattle.tcap_end.proofs.FoundLaws.{named_has, own_has}
 use Rattle.tcap_model.specs.Run.{reply_to}
+use Rattle.tcap_model.proofs.SentMoves.{own_is}
 use Rattle.tcap_dialogues.proofs.ThinLaws.{closed_thin}
-use Rattle.tcap_dialogues.proofs.InsideLaws.{Matches, Thins, found_so_on, inside, named_in, named_place, named_same, needs_so, own_is, own_place, own_same, peer_same, thins_none, thins_put}
+use Rattle.tcap_dialogues.proofs.InsideLaws.{Matches, Thins, found_so_on, inside, named_in, named_place, named_same, needs_so, own_place, own_same, peer_same, thins_none, thins_put}
 use Rattle.tcap_dialogues.proofs.SendLaws.{Fits, agrees_as, agrees_of, none_some}
 
 module _ (own peer : List ℕ → Bool) (table : Table) (e : End) (k : Bool) (sound : IsEnd e) (matches : Matches own peer e) where
@@ -170,13 +172,8 @@ module _ (own peer : List ℕ → Bool) (e : End) (sound : IsEnd e) (matches : M
 
 -- ---- quiet marks
 
--- A conjunction is true only if both parts are.
-both_so : (a b : Bool) → (a && b) ≡ true → (a ≡ true) × (b ≡ true)
-both_so true b is = (refl, is)
-both_so false b is = cc
-
 -- If an end is quiet, so is its part.
 pub quiet_thins : (own peer : List ℕ → Bool) (e : End) → quiet e ≡ Ok nothing → quiet (inside own peer e) ≡ Ok nothing
 quiet_thins own peer e is =
-    let all = both_so (all_closed e.begun) (all_closed e.accepted) (needs_ok _ faults.StillOpen _ nothing is).0 in
+    let all = and_parts (all_closed e.begun) (all_closed e.accepted) (needs_ok _ faults.StillOpen _ nothing is).0 in
     rw (closed_thin own e.begun all.0, closed_thin peer e.accepted all.1) refl

@@ -1,5 +1,6 @@
 -- A live dialogue is done: its IDs are freed, and it is handed over.
 use Rattle.std.proofs.Common.{◌≡◌, ◌⊎◌, inl, inr, ℕ, Bool, true, false, cond, List, [], ◌∷◌, ◌++◌, Option, Some, None, refl, sym, ap, subst, ◌∙◌}
+use Rattle.std.proofs.Math.Bool.{or-true, or_assoc}
 use Rattle.std.specs.Prelude.{◌||◌, not, Contains}
 use Rattle.std.specs.List.{flat_map, list_any}
 use Rattle.std.proofs.lemmas.Bool.{false_from_ne_true, or_right, true≢false}
@@ -71,11 +72,7 @@ module _ (s : Courses) (names : Course → ℕ) (sent : IdOf → Bool) (number :
     where
       by : (b : Bool) → is_among (cond b d.used d.ids) id ≡ (is_among d.used id || not b)
       by true = sym (or_none (is_among d.used id))
-      by false = its ∙ sym (or_true (is_among d.used id))
-        where
-          or_true : (b : Bool) → (b || true) ≡ true
-          or_true true = refl
-          or_true false = refl
+      by false = its ∙ sym (or-true (is_among d.used id))
 
   -- what is known of an ID after
   module _ (first : ℕ) (early : Bool) (early_is : (d : Course) → Contains gone d → early ≡ d.early) (old : Known) (id : IdOf)
@@ -118,10 +115,6 @@ module _ (s : Courses) (names : Course → ℕ) (sent : IdOf → Bool) (number :
       begun_so,
     )
 
-    grouped : (a b c : Bool) → ((a || b) || c) ≡ (a || (b || c))
-    grouped true b c = refl
-    grouped false b c = refl
-
     pub known_then : (new : Known) → new ≡ cond (list_any (λ d. is_among d.ids id) gone) (free_since first early old) old → Known_now id new
     known_then new is = subst (Known_now id) (sym is) (by (list_any (λ d. is_among d.ids id) gone) refl)
       where
@@ -129,7 +122,7 @@ module _ (s : Courses) (names : Course → ℕ) (sent : IdOf → Bool) (number :
         by true some = record {
           owned = (other_has_none id some, refl, refl);
           came = sym (then_is (λ d. d.ids) id ∙ or_right _ _ some);
-          firm_is = grouped old.firm old.used (not early) ∙ either _ _ _ _ known.firm_is (sym (firm_some some)) ∙ sym (then_is firm_in id);
+          firm_is = or_assoc old.firm old.used (not early) ∙ either _ _ _ _ known.firm_is (sym (firm_some some)) ∙ sym (then_is firm_in id);
           sent_is = known.sent_is;
         }
         by false none = record {

@@ -21,7 +21,8 @@ use Rattle.tcap_end.specs.ReachableEnd.{IsEnd}
 use Rattle.tcap_end.proofs.AnsweringLaws.{needs_ok, some_ok, then_ok}
 use Rattle.tcap_end.proofs.ComponentLaws.{all_sends}
 use Rattle.tcap_end.proofs.FoundLaws.{own_has, peer_has}
-use Rattle.tcap_dialogues.proofs.InsideLaws.{Agrees, Matches, Thins, found_so_on, inside, needs_so, own_is, own_place, own_same, peer_is, peer_place, peer_same, then_so_on, thins_none, thins_put}
+use Rattle.tcap_model.proofs.SentMoves.{own_is, peer_is}
+use Rattle.tcap_dialogues.proofs.InsideLaws.{Agrees, Matches, Thins, found_so_on, inside, needs_so, own_place, own_same, peer_place, peer_same, then_so_on, thins_none, thins_put}
 
 -- The IDs of a message are all inside, or all outside.
 pub record Fits (of_origin of_destination : List ℕ → Bool) (k : Bool) (m : Message) : Type 0 where

@@ -11,10 +11,10 @@ use Rattle.tcap_record.specs.Ends.{other}
 use Rattle.tcap_model.specs.World.{Item, Sent, World, empty}
 use Rattle.tcap_model.specs.Run.{Adds, Event, IsLawfulFor, KeepsRules, Runs, after}
 use Rattle.tcap_model.proofs.RunLaws.{grows, runs_keep}
-use Rattle.tcap_dialogues.proofs.Views.{Acts, Says, Hears, Refuses, Misses, Drops, Shuts, Told, Marked, Stays, Leads, Seen, acts_lead, blank, leads_lawful, leads_nowhere, leads_then, newest, same_seen, seen}
-use Rattle.tcap_dialogues.proofs.Actions.{step_acts}
+use Rattle.tcap_model.proofs.Acts.{Acts, Says, Hears, Refuses, Misses, Drops, Shuts, Told, Marked, Stays, Seen, newest, seen, step_acts}
+use Rattle.tcap_dialogues.proofs.Views.{Leads, acts_lead, blank, leads_lawful, leads_nowhere, leads_then, same_seen}
 use Rattle.tcap_dialogues.proofs.PartLists.{get_next, kept_more, kept_of}
-use Rattle.tcap_dialogues.proofs.PartLaws.{kept_before}
+use Rattle.tcap_model.proofs.UsedLaws.{kept_before}
 
 -- all pass
 abbrev each : ℕ → Bool

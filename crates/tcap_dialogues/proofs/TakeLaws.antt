@@ -2,7 +2,8 @@
 use Rattle.std.proofs.Common.{◌≡◌, ◌⊎◌, inl, inr, ℕ, ◌+◌, ◌<◌, Bool, true, false, List, [], ◌∷◌, ◌++◌, length, Option, Some, None, refl, sym, ap, subst, ◌∙◌}
 use Rattle.std.specs.Prelude.{◌&&◌, ◌||◌, cond, not, Contains, filter}
 use Rattle.std.specs.List.{flat_map, list_any}
-use Rattle.std.proofs.lemmas.Bool.{cases_Bool, or_left, or_right, true≢false}
+use Rattle.std.proofs.Math.Bool.{and-false, and-true}
+use Rattle.std.proofs.lemmas.Bool.{true≢false}
 use Rattle.std.proofs.lemmas.List.{append-nil, append_assoc}
 use Rattle.std.proofs.lemmas.List.Elements.{Contains-append_cases, Contains-append_left, Contains-append_right}
 use Rattle.std.proofs.lemmas.List.Folds.{list_any-append}
@@ -15,10 +16,11 @@ use Rattle.tcap_dialogues.specs.declared.cut.Cut.{Cut}
 use Rattle.tcap_dialogues.specs.declared.complete_dialogue.Gathered.{Gathered}
 use Rattle.tcap_dialogues.specs.declared.reuse.Reuse.{Reuse}
 use Rattle.tcap_dialogues.proofs.CourseStretch.{apart_so_far, free_is, left_apart, so_far_more, well_so_far}
-use Rattle.tcap_dialogues.proofs.CutLists.{kept_in, left_in}
+use Rattle.tcap_dialogues.proofs.CutLists.{kept_in}
 use Rattle.tcap_dialogues.proofs.GatheredLaws.{more_gathered, same_gathered}
 use Rattle.tcap_dialogues.proofs.HeldLists.{AreSame, any_flat, any_same}
 use Rattle.tcap_dialogues.proofs.LiveLaws.{either}
+use Rattle.tcap_dialogues.proofs.TwoNames.{first, named_ones, other_ones, second}
 
 -- A cut keeps the same dialogues in another order, and by the same IDs.
 pub held_same : (s t : Courses) (names : Course → ℕ) (sent sent_too : IdOf → Bool) (kept : Cut) → AreSame s.done t.done → AreSame s.live t.live
@@ -63,80 +65,27 @@ same_behind {X} before xs ys same = record {
 
 module _ (live : List Course) (names : Course → ℕ) (past given : Option ℕ) (free : Course → Bool)
     (is : (d : Course) → Contains live d → free d ≡ (is_named names past d || is_named names given d)) (apart : AreApart live) where
-  -- the dialogues handed over, first those past and then the one given up; and those left
-  abbrev pub first : List Course
-  first = those names past live
-
-  abbrev pub second : List Course
-  second = those names given (others names past live)
-
-  abbrev pub left : List Course
-  left = others names given (others names past live)
-
-  -- They are those whose IDs are free.
-  pub free_ones : AreSame (first ++ second) (filter free live)
-  free_ones = record {
-    there = λ d has. there d (Contains-append_cases first second d has);
-    back = λ d has. let (listed, so) = kept_in free live d has in back d listed (cases_Bool (is_named names past d)) (sym (is d listed) ∙ so);
-  }
-    where
-      there : (d : Course) → Contains first d ⊎ Contains second d → Contains (filter free live) d
-      there d (inl has) =
-          let (listed, named) = kept_in (is_named names past) live d has in left_in free live d listed (is d listed ∙ or_left _ _ named)
-      there d (inr has) =
-          let (in_others, named) = kept_in (is_named names given) (others names past live) d has in
-          let (listed, not_past) = kept_in (λ e. not (is_named names past e)) live d in_others in
-          left_in free live d listed (is d listed ∙ or_right _ _ named)
-
-      back : (d : Course) → Contains live d → (is_named names past d ≡ true) ⊎ (is_named names past d ≡ false)
-          → (is_named names past d || is_named names given d) ≡ true → Contains (first ++ second) d
-      back d listed (inl so) hit = Contains-append_left first second d (left_in (is_named names past) live d listed so)
-      back d listed (inr so) hit =
-          Contains-append_right first second d
-          (left_in (is_named names given) (others names past live) d
-          (left_in (λ e. not (is_named names past e)) live d listed (ap not so)) (sym (ap (λ b. b || is_named names given d) so) ∙ hit))
-
-  -- The others are left.
-  pub left_ones : AreSame left (filter (λ d. not (free d)) live)
-  left_ones = record {
-    there = λ d has.
-        let (in_others, not_given) = kept_in (λ e. not (is_named names given e)) (others names past live) d has in
-        let (listed, not_past) = kept_in (λ e. not (is_named names past e)) live d in_others in
-        left_in (λ e. not (free e)) live d listed
-        (ap not (is d listed) ∙ neither (is_named names past d) (is_named names given d) not_past not_given);
-    back = λ d has.
-        let (listed, so) = kept_in (λ e. not (free e)) live d has in
-        let missing = sym (ap not (is d listed)) ∙ so in
-        left_in (λ e. not (is_named names given e)) (others names past live) d
-        (left_in (λ e. not (is_named names past e)) live d listed (no_first (is_named names past d) (is_named names given d) missing))
-        (no_second (is_named names past d) (is_named names given d) missing);
-  }
-    where
-      neither : (a b : Bool) → not a ≡ true → not b ≡ true → not (a || b) ≡ true
-      neither true b so too = cc
-      neither false b so too = too
-
-      no_first : (a b : Bool) → not (a || b) ≡ true → not a ≡ true
-      no_first true b so = cc
-      no_first false b so = refl
-
-      no_second : (a b : Bool) → not (a || b) ≡ true → not b ≡ true
-      no_second true b so = cc
-      no_second false b so = so
-
   pub others_of_apart : AreApart (others names past live)
   others_of_apart = left_apart live (others names past live) (λ d has. (kept_in (λ e. not (is_named names past e)) live d has).0) apart
 
+  -- the dialogues handed over: first those past, and then the one given up
+  abbrev past_ones : List Course
+  past_ones = first live names past given free is
+
+  abbrev given_ones : List Course
+  given_ones = second live names past given free is
+
   -- Both are handed over, and share no entry.
-  pub both_hand_over : (before mid after : List Gathered) → HandsOver first before mid → HandsOver second mid after
+  pub both_hand_over : (before mid after : List Gathered) → HandsOver past_ones before mid → HandsOver given_ones mid after
       → HandsOver (filter free live) before after
   both_hand_over before mid after (gs, mid_is, are) (hs, after_is, more) = (
     gs ++ hs,
     after_is ∙ ap (λ xs. xs ++ hs) mid_is ∙ append_assoc before gs hs,
-    same_gathered (first ++ second) (filter free live) (gs ++ hs) free_ones (more_gathered first second gs hs disjoint are more),
+    same_gathered (past_ones ++ given_ones) (filter free live) (gs ++ hs) (named_ones live names past given free is)
+        (more_gathered past_ones given_ones gs hs disjoint are more),
   )
     where
-      disjoint : (d e : Course) (n : ℕ) → Contains first d → Contains second e → has_entry d n ≡ true → has_entry e n ≡ true → ⊥
+      disjoint : (d e : Course) (n : ℕ) → Contains past_ones d → Contains given_ones e → has_entry d n ≡ true → has_entry e n ≡ true → ⊥
       disjoint d e n has hers its too =
           let (listed, named) = kept_in (is_named names past) live d has in
           let (in_others, given_too) = kept_in (is_named names given) (others names past live) e hers in
@@ -145,10 +94,10 @@ module _ (live : List Course) (names : Course → ℕ) (past given : Option ℕ)
           true≢false (sym not_past ∙ ap (λ x. not (is_named names past x)) (sym same) ∙ ap not named)
 
   -- all dialogues that are done after
-  pub done_ones : (done : List Course) → AreSame ((done ++ first) ++ second) (done ++ filter free live)
+  pub done_ones : (done : List Course) → AreSame ((done ++ past_ones) ++ given_ones) (done ++ filter free live)
   done_ones done =
-      subst (λ ds. AreSame ds (done ++ filter free live)) (sym (append_assoc done first second))
-      (same_behind done (first ++ second) (filter free live) free_ones)
+      subst (λ ds. AreSame ds (done ++ filter free live)) (sym (append_assoc done past_ones given_ones))
+      (same_behind done (past_ones ++ given_ones) (filter free live) (named_ones live names past given free is))
 
 -- ---- with the entry
 
@@ -160,16 +109,8 @@ any_left {X} p q (x ∷ xs) = by (q x) ∙ ap (λ b. (p x && not (q x)) || b) (a
   where
     by : (b : Bool) → list_any p (cond (not b) (x ∷ filter (λ y. not (q y)) xs) (filter (λ y. not (q y)) xs))
         ≡ ((p x && not b) || list_any p (filter (λ y. not (q y)) xs))
-    by true = ap (λ b. b || list_any p (filter (λ y. not (q y)) xs)) (sym (none (p x)))
-      where
-        none : (b : Bool) → (b && false) ≡ false
-        none true = refl
-        none false = refl
-    by false = ap (λ b. b || list_any p (filter (λ y. not (q y)) xs)) (sym (all (p x)))
-      where
-        all : (b : Bool) → (b && true) ≡ b
-        all true = refl
-        all false = refl
+    by true = ap (λ b. b || list_any p (filter (λ y. not (q y)) xs)) (sym (and-false (p x)))
+    by false = ap (λ b. b || list_any p (filter (λ y. not (q y)) xs)) (sym (and-true (p x)))
 
 module _ (reuse : Reuse) (headings : List Heading) (h : Heading) where
   abbrev s : Courses
@@ -247,7 +188,7 @@ module _ (reuse : Reuse) (headings : List Heading) (h : Heading) where
   then_held names past given is kept held =
       held_same (freed names given (freed names past s)) freed_now names sent sent kept
       (done_ones s.live names past given (is_free reuse n s h) is (apart_so_far reuse headings) s.done)
-      (left_ones s.live names past given (is_free reuse n s h) is (apart_so_far reuse headings)) (λ id. refl) held
+      (other_ones s.live names past given (is_free reuse n s h) is) (λ id. refl) held
 
   pub later_at : (m : ℕ) → m ≡ n → AreApart (joined_by m h freed_now.done freed_now.live).live
   later_at m same = subst (λ k. AreApart (joined_by k h freed_now.done freed_now.live).live) (sym same) later_apart
