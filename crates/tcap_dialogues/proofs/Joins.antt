@@ -10,7 +10,8 @@ use Rattle.tcap_dialogues.proofs.CutIds.{one_from}
 use Rattle.tcap_dialogues.proofs.CutLists.{alone_is, finds_last, finds_old, found_more, kept_in, left_in}
 
 -- The new dialogue has the numbers and IDs of those that the entry joins, and the number and IDs of the entry.
-pub record IsJoin {X : Type 0} (numbers : X → List ℕ) (ids : X → List IdOf) (n : ℕ) (its : List IdOf) (old : List X) (new : X) : Type 0 where
+pub record IsJoin {X : Type 0} (numbers : X → List ℕ) (ids : X → List IdOf) (n : ℕ) (its : List IdOf) (old : List X)
+    (new : X) : Type 0 where
   pub numbers_are : numbers new ≡ (flat_map numbers (filter (λ d. have_one its (ids d)) old) ++ n ∷ [])
   pub ids_are : ids new ≡ (flat_map ids (filter (λ d. have_one its (ids d)) old) ++ its)
 
@@ -119,8 +120,9 @@ module _ {X : Type 0} {numbers : X → List ℕ} {ids : X → List IdOf} {n : �
       by (inr same) (inr equal) = sym same ∙ equal
 
   -- Two dialogues with one ID are equal.
-  pub one_id_more : ((d e : X) (id : IdOf) → Contains old d → Contains old e → is_among (ids d) id ≡ true → is_among (ids e) id ≡ true → d ≡ e)
-      → (d e : X) (id : IdOf) → Contains with_new d → Contains with_new e → is_among (ids d) id ≡ true → is_among (ids e) id ≡ true → d ≡ e
+  pub one_id_more : ((d e : X) (id : IdOf) → Contains old d → Contains old e → is_among (ids d) id ≡ true
+      → is_among (ids e) id ≡ true → d ≡ e) → (d e : X) (id : IdOf) → Contains with_new d → Contains with_new e
+      → is_among (ids d) id ≡ true → is_among (ids e) id ≡ true → d ≡ e
   one_id_more one d e id has hers is so = one_more (λ x. is_among (ids x) id) (λ x y. one x y id) beside d e has hers is so
     where
       beside : (x : X) → Contains old x → has_its x ≡ false → is_among (ids x) id ≡ true → is_among (ids new) id ≡ true → ⊥

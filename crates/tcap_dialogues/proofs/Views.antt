@@ -1,5 +1,6 @@
 -- The view of one end with nothing else: runs in which only its acts happen.
-use Rattle.std.proofs.Common.{◌≡◌, List, [], ◌∷◌, ◌++◌, length, Some, refl, ◌∙◌}
+use Rattle.std.proofs.Common.{◌≡◌, ℕ, true, List, [], ◌∷◌, ◌++◌, length, Some, refl, ◌∙◌}
+use Rattle.std.specs.Prelude.{◌==◌}
 use Rattle.std.proofs.lemmas.Bool.{eq-eqb}
 use Rattle.tcap_record.specs.declared.entry.End.{End as Side}
 use Rattle.tcap_record.specs.declared.entry.End.TheVariants as sides
@@ -48,30 +49,41 @@ pub leads_lawful : (table : Table) (side : Side) (t : Seen) → Leads table side
 leads_lawful table sides.A t run = (run.events, (alone sides.A t, run.plays, refl), run.keep)
 leads_lawful table sides.B t run = (run.events, (alone sides.B t, run.plays, refl), run.keep)
 
+-- A number equals itself.
+same : (n : ℕ) → (n == n) ≡ true
+same n = eq-eqb n n refl
+
+-- These events lead from one view to the other, if they do so in a run in which the end keeps the rules.
+leads_by : {table : Table} {side : Side} {s t u : Seen} → t ≡ u → (events : List Event)
+    → played table events (alone side s) ≡ Some (alone side u) → KeepsRules side events → Leads table side s t
+leads_by is events plays keep = rw is (record { events = events; plays = plays; keep = keep })
+
 -- Each act is such a run: a message that the end sends is lost.
 pub acts_lead : (table : Table) (side : Side) (s t : Seen) → Acts table side s t → Leads table side s t
 acts_lead table sides.A s t (Says m made step is) =
-    rw is (record { events = Sends sides.A m ∷ Loses sides.A (length s.sent) ∷ []; plays = rw (step, eq-eqb (length s.sent) (length s.sent) refl) refl; keep = refl })
+    leads_by is (Sends sides.A m ∷ Loses sides.A (length s.sent) ∷ []) (rw (step, same (length s.sent)) refl) refl
 acts_lead table sides.B s t (Says m made step is) =
-    rw is (record { events = Sends sides.B m ∷ Loses sides.B (length s.sent) ∷ []; plays = rw (step, eq-eqb (length s.sent) (length s.sent) refl) refl; keep = refl })
+    leads_by is (Sends sides.B m ∷ Loses sides.B (length s.sent) ∷ []) (rw (step, same (length s.sent)) refl) refl
 acts_lead table sides.A s t (Hears head more made was step is) =
-    rw is (record { events = Receives sides.A head.number ∷ []; plays = rw (was, eq-eqb head.number head.number refl, step) refl; keep = refl })
+    leads_by is (Receives sides.A head.number ∷ []) (rw (was, same head.number, step) refl) refl
 acts_lead table sides.B s t (Hears head more made was step is) =
-    rw is (record { events = Receives sides.B head.number ∷ []; plays = rw (was, eq-eqb head.number head.number refl, step) refl; keep = refl })
+    leads_by is (Receives sides.B head.number ∷ []) (rw (was, same head.number, step) refl) refl
 acts_lead table sides.A s t (Refuses head more abort was step is) =
-    rw is (record { events = Replies sides.A head.number ∷ Loses sides.A (length s.sent) ∷ []; plays = rw (was, eq-eqb head.number head.number refl, step, eq-eqb (length s.sent) (length s.sent) refl) refl; keep = refl })
+    leads_by is (Replies sides.A head.number ∷ Loses sides.A (length s.sent) ∷ [])
+    (rw (was, same head.number, step, same (length s.sent)) refl) refl
 acts_lead table sides.B s t (Refuses head more abort was step is) =
-    rw is (record { events = Replies sides.B head.number ∷ Loses sides.B (length s.sent) ∷ []; plays = rw (was, eq-eqb head.number head.number refl, step, eq-eqb (length s.sent) (length s.sent) refl) refl; keep = refl })
+    leads_by is (Replies sides.B head.number ∷ Loses sides.B (length s.sent) ∷ [])
+    (rw (was, same head.number, step, same (length s.sent)) refl) refl
 acts_lead table sides.A s t (Misses head more was is) =
-    rw is (record { events = Loses sides.B head.number ∷ []; plays = rw (was, eq-eqb head.number head.number refl) refl; keep = refl })
+    leads_by is (Loses sides.B head.number ∷ []) (rw (was, same head.number) refl) refl
 acts_lead table sides.B s t (Misses head more was is) =
-    rw is (record { events = Loses sides.A head.number ∷ []; plays = rw (was, eq-eqb head.number head.number refl) refl; keep = refl })
-acts_lead table sides.A s t (Drops name id made step is) = rw is (record { events = Expires sides.A name id ∷ []; plays = rw step refl; keep = refl })
-acts_lead table sides.B s t (Drops name id made step is) = rw is (record { events = Expires sides.B name id ∷ []; plays = rw step refl; keep = refl })
-acts_lead table sides.A s t (Shuts name made step is) = rw is (record { events = Closes sides.A name ∷ []; plays = rw step refl; keep = refl })
-acts_lead table sides.B s t (Shuts name made step is) = rw is (record { events = Closes sides.B name ∷ []; plays = rw step refl; keep = refl })
-acts_lead table sides.A s t (Told m is) = rw is (record { events = Tells sides.B m ∷ []; plays = refl; keep = refl })
-acts_lead table sides.B s t (Told m is) = rw is (record { events = Tells sides.A m ∷ []; plays = refl; keep = refl })
-acts_lead table sides.A s t (Marked none quiet_is is) = rw is (record { events = Quiet ∷ []; plays = rw (none, quiet_is) refl; keep = refl })
-acts_lead table sides.B s t (Marked none quiet_is is) = rw is (record { events = Quiet ∷ []; plays = rw (none, quiet_is) refl; keep = refl })
+    leads_by is (Loses sides.A head.number ∷ []) (rw (was, same head.number) refl) refl
+acts_lead table sides.A s t (Drops name id made step is) = leads_by is (Expires sides.A name id ∷ []) (rw step refl) refl
+acts_lead table sides.B s t (Drops name id made step is) = leads_by is (Expires sides.B name id ∷ []) (rw step refl) refl
+acts_lead table sides.A s t (Shuts name made step is) = leads_by is (Closes sides.A name ∷ []) (rw step refl) refl
+acts_lead table sides.B s t (Shuts name made step is) = leads_by is (Closes sides.B name ∷ []) (rw step refl) refl
+acts_lead table sides.A s t (Told m is) = leads_by is (Tells sides.B m ∷ []) refl refl
+acts_lead table sides.B s t (Told m is) = leads_by is (Tells sides.A m ∷ []) refl refl
+acts_lead table sides.A s t (Marked none quiet_is is) = leads_by is (Quiet ∷ []) (rw (none, quiet_is) refl) refl
+acts_lead table sides.B s t (Marked none quiet_is is) = leads_by is (Quiet ∷ []) (rw (none, quiet_is) refl) refl
 acts_lead table side s t (Stays is) = rw is leads_nowhere
