@@ -10,7 +10,10 @@ use Rattle.tcap_end.specs.Component.{is_code}
 
 -- Codes that compare as equal are equal.
 pub code_same : (a b : Code) → is_code a b ≡ true → a ≡ b
-code_same a b is = grind (arith, is)
+code_same (Local m) (Local n) is = ap Local (tells_apart exact_signed m n is)
+code_same (Local m) (Global octets) is = cc
+code_same (Global octets) (Local n) is = cc
+code_same (Global a) (Global b) is = ap Global (tells_apart exact_bytes a b is)
 
 absorbed : (a b : Bool) → (b ≡ true → a ≡ true) → a ≡ (a || b)
 absorbed true b then_so = refl

@@ -118,7 +118,11 @@ from_part p [] = omega arith
 from_part p (x ∷ xs) = grind (arith, from_part p xs, weight_more x xs)
 
 heard_part : (begin : Option Message) (xs : List Message) → weight (heard_of begin xs) ≤ weight xs
-heard_part begin xs = grind arith
+heard_part begin xs = by (is_request_of begin)
+  where
+    by : (b : Bool) → weight (cond b (from_first responds xs) xs) ≤ weight xs
+    by true = from_part responds xs
+    by false = omega arith
 
 begun_heard : (side : Side) (id : List ℕ) (items : List Item) (own : List ℕ)
     → weight (heard_of (begin_from side own items) (continued_to side items id (Some own))) ≤ components_in_all items

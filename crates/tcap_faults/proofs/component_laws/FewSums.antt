@@ -44,7 +44,13 @@ any_same p q xs same = ap (λ t. list_any t xs) (fun_ext same)
 
 -- A test finds an element exactly if its count is not 0.
 pub any_counted : {A : Type 0} (p : A → Bool) (xs : List A) → nat_lt 0 (count p xs) ≡ list_any p xs
-any_counted p xs = grind (arith, nat_tests)
+any_counted p xs = by (list_any p xs) (nat_lt 0 (count p xs)) refl refl
+  where
+    by : (found counted : Bool) → list_any p xs ≡ found → nat_lt 0 (count p xs) ≡ counted → counted ≡ found
+    by true true is one = refl
+    by true false is none = absurd (omega (arith, any_counts p xs is, ltb-false 0 (count p xs) none))
+    by false true is one = absurd (both_ways _ is (counts_any p xs (ltb-true 0 (count p xs) one)))
+    by false false is none = refl
 
 -- ---- Invokes
 

@@ -42,7 +42,8 @@ none_so (Some n) None = refl
 none_so (Some n) (Some others) = never others.value.codes.items
 
 by_some : (b : Bool) (kept : CodeCounts) → (codes_any (λ code. true) kept && b) ≡ codes_any (λ code. b) kept
-by_some b kept = grind arith
+by_some true kept = and_true (codes_any (λ code. true) kept)
+by_some false kept = and_false (codes_any (λ code. true) kept) ∙ sym (none_so kept.first kept.others)
 
 -- If a code was counted, the test finds one exactly if it holds.
 pub where_some : (b : Bool) (kept : CodeCounts) → codes_any (λ code. true) kept ≡ true → b ≡ codes_any (λ code. b) kept

@@ -46,12 +46,48 @@ swapped a b x y rest not_both = grind (arith, not_both)
 pub is_set : (octets : List ℕ) (n : ℕ) (es : List (Vec ℕ × ℕ)) → is_some (lookup (at octets) es) ≡ true
     → IsPut octets n es (set_value (at octets) es n)
 is_set octets n [] there q = cc
-is_set octets n (e ∷ es) there q = grind (arith, is_set octets n es)
+is_set octets n (e ∷ es) there q = by (at octets e.0) refl (λ left. is_set octets n es left q)
+  where
+    by : (b : Bool) → at octets e.0 ≡ b
+        → (is_some (lookup (at octets) es) ≡ true
+        → lookup (at q) (set_value (at octets) es n) ≡ cond (same q octets) (Some n) (lookup (at q) es))
+        → lookup (at q) (cond b ((e.0, n) ∷ es) (e ∷ set_value (at octets) es n))
+        ≡ cond (same q octets) (Some n) (lookup (at q) (e ∷ es))
+    by true is rest = rw (← one octets e.0.items is) (within (same q octets))
+      where
+        within : (b : Bool) → cond b (Some n) (lookup (at q) es)
+            ≡ cond b (Some n) (cond b (Some e.1) (lookup (at q) es))
+        within true = refl
+        within false = refl
+    by false is rest =
+        let left : is_some (lookup (at octets) es) ≡ true = rw is at there in
+        ap (λ o. cond (at q e.0) (Some e.1) o) (rest left)
+        ∙ swapped (at q e.0) (same q octets) e.1 n (lookup (at q) es)
+        (λ here same. let f : q ≡ octets = one q octets same in let g : at octets e.0 ≡ true = rw (← f) here in cc)
 
 pub is_inserted : (key : Vec ℕ) (n : ℕ) (es : List (Vec ℕ × ℕ)) → None ≡ lookup (at key.items) es
     → IsPut key.items n es (insert_entry (λ a b. slice_cmp nat_cmp a.items b.items) es key n)
 is_inserted key n [] none q = refl
-is_inserted key n (e ∷ es) none q = grind (arith, is_inserted key n es)
+is_inserted key n (e ∷ es) none q =
+    by (slice_cmp nat_cmp key.items e.0.items) refl (λ left. is_inserted key n es left q)
+  where
+    by : (r : Ordering) → slice_cmp nat_cmp key.items e.0.items ≡ r
+        → (None ≡ lookup (at key.items) es
+        → lookup (at q) (insert_entry (λ a b. slice_cmp nat_cmp a.items b.items) es key n)
+        ≡ cond (same q key.items) (Some n) (lookup (at q) es))
+        → lookup (at q) (match_ordering r ((key, n) ∷ e ∷ es) ((e.0, n) ∷ es)
+        (e ∷ insert_entry (λ a b. slice_cmp nat_cmp a.items b.items) es key n))
+        ≡ cond (same q key.items) (Some n) (lookup (at q) (e ∷ es))
+    by Less is rest = refl
+    by Equal is rest = let here : None ≡ Some e.1 = rw is at none in cc
+    by Greater is rest =
+        let left : None ≡ lookup (at key.items) es = rw is at none in
+        ap (λ o. cond (at q e.0) (Some e.1) o) (rest left)
+        ∙ swapped (at q e.0) (same q key.items) e.1 n (lookup (at q) es)
+        (λ here same.
+        let f : q ≡ key.items = one q key.items same in
+        let g : at key.items e.0 ≡ true = rw (← f) here in
+        let h : is_eq (slice_cmp nat_cmp key.items e.0.items) ≡ false = rw is refl in cc)
 
 -- ---- counts and lists
 
@@ -73,7 +109,12 @@ module _ (octets : List ℕ) (locals : List (ℤ × ℕ)) (old new : List (Vec �
       → list_any (is_code code) codes ≡ true) → list_any (is_code (Global octets)) codes ≡ true
       → AreListed locals new codes
   lists_one_more codes listed here (Local m) there = listed (Local m) there
-  lists_one_more codes listed here (Global q) there = grind arith
+  lists_one_more codes listed here (Global q) there = by (same q octets) refl
+    where
+      by : (b : Bool) → same q octets ≡ b → list_any (is_code (Global q)) codes ≡ true
+      by true is = let e : q ≡ octets = one q octets is in rw e here
+      by false is =
+          listed (Global q) (sym (ap is_some (put q ∙ ap (λ b. cond b (Some n) (lookup (at q) old)) is)) ∙ there)
 
 -- With one more listed code, all counted codes are still listed.
 pub listed_before : (locals : List (ℤ × ℕ)) (globals : List (Vec ℕ × ℕ)) (codes : List Code) (code : Code)

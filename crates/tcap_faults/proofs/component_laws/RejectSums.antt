@@ -128,7 +128,8 @@ module _ (table : Table) (h : HalfOf) (all before own : List Component) (few_hea
 
   unknown_same : (c : Component)
       → results_so id (λ code. count (invokes_so id (is_code code)) h.invoked == 0) c ≡ is_of_no_operation h id c
-  unknown_same c = grind (arith, nat_tests)
+  unknown_same (ReturnResult last other (Some body)) = ap (λ b. is_invoke_id id other && b) (none_same body.code)
+  unknown_same c = refl
 
   -- Whether no answer can be unexpected.
   expected_same : (of_result : Bool)

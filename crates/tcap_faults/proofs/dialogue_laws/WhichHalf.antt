@@ -73,7 +73,12 @@ module _ (side : Side) (items : List Item) (id : List ℕ) where
 
   -- If there is no such own ID, there is no begun half.
   begun_nowhere : ((own : List ℕ) → begun_from side items id ≡ Some own → GoesTo own → ⊥) → begun_from side items id ≡ None
-  begun_nowhere none = grind arith
+  begun_nowhere none = by (find (goes_to_begun side items) (asked side id items)) refl
+    where
+      by : (o : Option Message) → find (goes_to_begun side items) (asked side id items) ≡ o
+          → begun_from side items id ≡ None
+      by None nothing = ap (λ (o : Option Message). then_so o dtid_in) nothing
+      by (Some n) found = let (own, is, goes) = goes_there n found in absurd (none own is goes)
 
   -- If there is a begun half, such a Continue went to its own ID.
   goes_it : (own : List ℕ) → begun_from side items id ≡ Some own → GoesTo own

@@ -48,7 +48,11 @@ module _ (table : Table) (s : HalfOf) (past : List Happening) (g : Half)
       counts = invoked_along table id own g h was ∙ rw free refl
 
       none : list_any (invokes id) own ≡ false
-      none = grind (arith, counts)
+      none = by (list_any (invokes id) own) refl
+        where
+          by : (b : Bool) → list_any (invokes id) own ≡ b → b ≡ false
+          by true is = absurd (omega (arith, counts, any_counts (invokes id) own is))
+          by false is = refl
 
       unseen : (o : Option OwnInvocation) → own_invocation g id ≡ o → own_invocation g id ≡ None
       unseen None is = is

@@ -167,7 +167,18 @@ module _ {table : Table} {side : Side} {e : End} {coming : List Message} {items 
 
   -- A message over a half in Received is a first answer.
   answers_first : f.half.phase ≡ phases.Received → first ≡ true
-  answers_first received = grind (arith, either_slot f.slot)
+  answers_first received = by (either_slot f.slot)
+    where
+      by : (f.slot ≡ slots.Begun) ⊎ (f.slot ≡ slots.Accepted) → first ≡ true
+      by (inl slot) =
+          let bad = sym (waits_so e f is_end half.had received) ∙ kept_own e f is_end half.had slot in cc
+      by (inr slot) =
+          and_from (is_accepted h.how) _ (ap is_accepted (how_accepted view m id half plain slot))
+          (none (has_a forms.Continue (told side id items)) refl)
+        where
+          none : (b : Bool) → has_a forms.Continue (told side id items) ≡ b → not b ≡ true
+          none true gone = absurd (not_gone_on received gone)
+          none false never = refl
 
   -- If a message is a first answer, its half is in Received.
   waits_first : first ≡ true → f.half.phase ≡ phases.Received

@@ -92,7 +92,13 @@ module _ {table : Table} {side : Side} {e : End} {coming : List Message} {items 
   begun_speaks : (otid : List ℕ) → began side otid items ≡ true
       → ((f.half.phase ≡ phases.Active) × (f.half.own ≡ Some otid))
       ⊎ ((f.half.phase ≡ phases.Received) × (with_own e otid ≡ None)) → f.slot ≡ slots.Begun
-  begun_speaks otid begun speaks = grind (arith, begun)
+  begun_speaks otid begun speaks = by (begin_from side otid items) refl begun
+    where
+      by : (o : Option Message) → begin_from side otid items ≡ o → is_some o ≡ true → f.slot ≡ slots.Begun
+      by None none is = cc
+      by (Some b) found is =
+          let (has, begins) = find_has (begins_from otid) (sent_by side items) b found in
+          begun_is otid b begins (all_use view b has) speaks
 
   -- A Continue over an accepted half comes from no ID that the end began.
   accepted_other : f.slot ≡ slots.Accepted → (n : Message) → n ≡ m
@@ -116,7 +122,15 @@ module _ {table : Table} {side : Side} {e : End} {coming : List Message} {items 
   begun_other m is so = cc
 
   not_other : goes_from_other side items h.how h.own m ≡ true → ⊥
-  not_other so = grind (arith, either_slot f.slot)
+  not_other so = by (either_slot f.slot)
+    where
+      by : (f.slot ≡ slots.Begun) ⊎ (f.slot ≡ slots.Accepted) → ⊥
+      by (inl slot) =
+          begun_other m refl
+          (subst (λ (x : How). goes_from_other side items x h.own m ≡ true) (how_begun_half view m id half plain slot) so)
+      by (inr slot) =
+          accepted_other slot m refl
+          (subst (λ (x : How). goes_from_other side items x h.own m ≡ true) (how_accepted view m id half plain slot) so)
 
   -- The half was not answered as closed.
   none_closed : (o : Option (List ℕ)) → h.own ≡ o → was_closed side items o ≡ true → ⊥

@@ -67,7 +67,8 @@ only_first p [] few = refl
 only_first p (x ∷ xs) few = by (p x) (count_more p x xs) (only_first p xs)
   where
     none_left : (ys : List Message) → length ys < 1 → ys ≡ []
-    none_left ys none = grind (arith, none)
+    none_left [] none = refl
+    none_left (y ∷ ys) none = absurd (omega arith)
 
     by : (b : Bool) → count p (x ∷ xs) ≡ one b + count p xs
         → (count p xs < 2 → filter p xs ≡ option_to_list (find p xs))
@@ -167,11 +168,30 @@ module _ {table : Table} {side : Side} {e : End} {coming : List Message} {items 
 
     -- The peer did not begin that ID.
     none_began : has_a forms.Begin (asked side id items) ≡ false
-    none_began = grind arith
+    none_began = by (has_a forms.Begin (asked side id items)) refl
+      where
+        by : (b : Bool) → has_a forms.Begin (asked side id items) ≡ b → b ≡ false
+        by true begun =
+            absurd (plain.none_begun begun answer answered.0
+            (to_begun side items answer f.key answer_to answer_on begun_it))
+        by false none = refl
 
     -- The peer's first Continue from the ID to a begun ID went to this half.
     first_to : begun_from side items id ≡ Some f.key
-    first_to = grind arith
+    first_to = by (find (goes_to_begun side items) (asked side id items)) refl
+      where
+        by : (o : Option Message) → find (goes_to_begun side items) (asked side id items) ≡ o
+            → then_so o dtid_in ≡ Some f.key
+        by None none =
+            find_none (goes_to_begun side items) (asked side id items) answer none answered.0
+            (to_begun side items answer f.key answer_to answer_on begun_it)
+        by (Some n) found =
+            let (has, goes) = find_has (goes_to_begun side items) (asked side id items) n found in
+            let (own, to, goes_on, begun) = begun_there side items n goes in
+            let here = joins side items id own n has goes_on to (began_used side items own begun) in
+            let there = joins side items id f.key answer answered.0 answer_on answer_to
+            (began_used side items f.key begun_it) in
+            to ∙ ap Some (plain.one_own own f.key here there)
 
     pub is_begun_half : h ≡ begun_half side items id f.key
     is_begun_half = rw (none_began, first_to) refl
@@ -188,7 +208,11 @@ module _ {table : Table} {side : Side} {e : End} {coming : List Message} {items 
 
   -- Its own ID is that of the list.
   pub own_is : h.own ≡ f.half.own
-  own_is = grind (arith, either_slot f.slot)
+  own_is = by (either_slot f.slot)
+    where
+      by : (f.slot ≡ slots.Begun) ⊎ (f.slot ≡ slots.Accepted) → h.own ≡ f.half.own
+      by (inl slot) = own_begun slot
+      by (inr slot) = own_accepted slot
 
   -- ---- what was sent and received over the half
 

@@ -16,7 +16,8 @@ use Rattle.tcap_faults.proofs.component_laws.SumLaws.{count_one_more}
 
 module _ {A : Type 0} where
   pub something : (xs : List A) (x : A) → is_nothing (xs ++ x ∷ []) ≡ false
-  something xs x = grind arith
+  something [] x = refl
+  something (y ∷ xs) x = refl
 
   module _ (p : A → Bool) where
     pub filter_more : (xs : List A) (x : A) → filter p (xs ++ x ∷ []) ≡ filter p xs ++ cond (p x) (x ∷ []) []

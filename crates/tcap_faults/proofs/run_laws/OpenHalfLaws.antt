@@ -42,10 +42,22 @@ pub record HasLives (table : Table) (side : Side) (e : End) (coming : List Messa
 module _ {table : Table} {side : Side} {e : End} {coming : List Message} {items : List Item}
     (view : View table side e coming items) where
   began_none : BeganNone side items e
-  began_none id none = grind arith
+  began_none id none = by (begin_from side id items) refl
+    where
+      by : (o : Option Message) → begin_from side id items ≡ o → begin_from side id items ≡ None
+      by None is = is
+      by (Some b) is =
+          let (has, begins) = find_has (begins_from id) (sent_by side items) b is in
+          begin_used e id b (view_sound view) none begins (all_use view b has)
 
   told_none : ToldNone side items e
-  told_none id none = grind arith
+  told_none id none = by (told side id items) refl
+    where
+      by : (ms : List Message) → told side id items ≡ ms → told side id items ≡ []
+      by [] is = is
+      by (m ∷ ms) is =
+          let has : Contains (told side id items) m = rw is (has_first m ms) in
+          let (f, had, peer) = told_half view m id has in none_peer e id f none had peer
 
 -- ---- each step
 

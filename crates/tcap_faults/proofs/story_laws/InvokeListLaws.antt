@@ -128,8 +128,15 @@ fewer {A} fits passes (x ∷ xs) =
 one_fewer : {A : Type 0} (fits passes : A → Bool) (xs : List A) → ((a : A) → fits a ≡ true → passes a ≡ true)
     → list_any fits xs ≡ true → 1 + count passes (without_oldest fits xs) ≤ count passes xs
 one_fewer fits passes [] shows found = cc
-one_fewer {A} fits passes (x ∷ xs) shows found =
-    grind (arith, found, one_fewer fits passes xs shows, count_more passes x xs, ap one passes_it, count_more passes x (without_oldest fits xs))
+one_fewer {A} fits passes (x ∷ xs) shows found = by (fits x) refl found (one_fewer fits passes xs shows)
+  where
+    by : (b : Bool) → fits x ≡ b → (b || list_any fits xs) ≡ true
+        → (list_any fits xs ≡ true → 1 + count passes (without_oldest fits xs) ≤ count passes xs)
+        → 1 + count passes (cond b xs (x ∷ without_oldest fits xs)) ≤ count passes (x ∷ xs)
+    by true fits_it is rest =
+        let passes_it = shows x fits_it in omega (arith, count_more passes x xs, ap one passes_it)
+    by false other is rest =
+        omega (arith, rest is, count_more passes x xs, count_more passes x (without_oldest fits xs))
 
 -- If an element that passes is taken whenever `b` holds, it and those that are left are at most those before.
 pub count_taken : {A : Type 0} (o : Option (A → Bool)) (passes : A → Bool) (b : Bool) (xs ys : List A) → Took o xs ys

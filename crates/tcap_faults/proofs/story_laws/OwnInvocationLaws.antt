@@ -66,7 +66,12 @@ stays_ended : (passes ends : Code → Bool) (shown : Bool) (o : Option Code)
     → ((code : Code) → ends code ≡ true → o ≡ Some code → passes code ≡ true → shown ≡ true)
     → one (sent_so passes o) ≤ one shown + one (sent_so passes (stays ends o))
 stays_ended passes ends shown None shows = omega arith
-stays_ended passes ends shown (Some code) shows = grind (arith, less)
+stays_ended passes ends shown (Some code) shows = by (ends code) refl
+  where
+    by : (b : Bool) → ends code ≡ b
+        → one (passes code) ≤ one shown + one (sent_so passes (cond b None (Some code)))
+    by true is = let less = one_weaker (passes code) shown (shows code is refl) in omega (arith, less)
+    by false is = omega arith
 
 -- ---- an invocation in Operation Sent was sent
 

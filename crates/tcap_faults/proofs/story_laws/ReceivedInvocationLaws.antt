@@ -150,7 +150,11 @@ module _ {A : Type 0} (table : Table) (kept : IsLedger table A) (spends : Compon
 
     shown_gets : (past : List Happening) (g : Half) (c : Component) → IsLed table past g → IsRisen g → AreShown past g
         → AreShown (Gets c ∷ past) (receive_component table g c)
-    shown_gets past g c led risen was some = grind (arith, shown_got past c)
+    shown_gets past g c led risen was some = by (gain passes (kept.gains g c)) refl
+      where
+        by : (b : Bool) → gain passes (kept.gains g c) ≡ b → 1 ≤ shown (Gets c ∷ past)
+        by true is = adds past g c led is
+        by false is = omega (arith, was (omega (arith, some, got_gains g c risen, ap one is)), shown_got past c)
 
     are_shown : IsKept table AreShown
     are_shown = record {

@@ -172,7 +172,11 @@ id_told side items own id =
 -- There is a first tangled ID of a message exactly if it goes over tangled IDs.
 pub tangled_told : (side : Side) (items : List Item) (m : Message)
     → is_some (tangled_in side items m) ≡ goes_over_tangled side items m
-tangled_told side items m = grind arith
+tangled_told side items m = by (dtid_in m) refl
+  where
+    by : (o : Option (List ℕ)) → dtid_in m ≡ o → is_some (tangled_in side items m) ≡ goes_over_tangled side items m
+    by None none = rw none refl
+    by (Some id) to = rw to (id_told side items (own_of_continue m) id)
 
 -- The message goes over the first tangled ID.
 pub tangled_over : (side : Side) (items : List Item) (m : Message) (t : TangledId) → tangled_in side items m ≡ Some t

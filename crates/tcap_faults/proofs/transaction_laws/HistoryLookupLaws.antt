@@ -73,7 +73,8 @@ module _ (table : Table) (side : Side) (items : List Item) (id : List ℕ) where
 -- Something is kept exactly if something was sent.
 kept_where : (table : Table) (p : Message → Bool) (ms : List Message) (o : Option SentFrom)
     → IsFromAt table (filter p ms) o → is_some o ≡ list_any p ms
-kept_where table p ms o is = grind (arith, is)
+kept_where table p ms None is = sym (any_kept p ms ∙ ap (λ kept. not (is_nothing kept)) is)
+kept_where table p ms (Some kept) is = sym (any_kept p ms ∙ ap not is.0)
 
 pub used_at : (table : Table) (side : Side) (items : List Item) (id : List ℕ) (o : Option SentFrom)
     → IsFromAt table (sent_from side items id) o → is_some o ≡ has_used side items id
@@ -111,7 +112,8 @@ module _ (table : Table) (side : Side) (items : List Item) (id : List ℕ) where
 -- A Continue to an ID is kept exactly if one was sent.
 came_where : (table : Table) (p : Message → Bool) (ms : List Message) (o : Option Came)
     → IsCameAt table (filter p ms) o → is_some o ≡ list_any p ms
-came_where table p ms o is = grind (arith, is)
+came_where table p ms None is = sym (any_kept p ms ∙ ap (λ kept. not (is_nothing kept)) is)
+came_where table p ms (Some kept) is = sym (any_kept p ms ∙ ap not is.0)
 
 pub goes_there : (table : Table) (ms : List Message) (kept : SentFrom) → IsFrom table ms kept → (id : List ℕ)
     → is_some (lookup (is_at (octets_cmp id)) kept.came.entries) ≡ list_any (goes_on_to id) ms

@@ -49,7 +49,11 @@ found_again p ids id has = find-append p ids (id ∷ []) ∙ by (find p ids) (p 
     by None false is passes = refl
 
 same_octets : (a b : List ℕ) → not (bytes_eq a b) ≡ false → a ≡ b
-same_octets a b is = grind (arith, is)
+same_octets a b is = by (bytes_eq a b) refl is
+  where
+    by : (c : Bool) → bytes_eq a b ≡ c → not c ≡ false → a ≡ b
+    by true same _ = (bytes_eq-Decides a b).0 same
+    by false apart bad = cc
 
 module _ (id : List ℕ) (ids : List (List ℕ)) (old : Ids) (was : AreIds ids old) (first last : List ℕ)
     (is : old.first ≡ Some first) (at_last : IsLast first old.more.items last) where

@@ -113,7 +113,8 @@ pub is_it : (id : List ℕ) → bytes_eq id id ≡ true
 is_it id = (bytes_eq-Decides id id).1 refl
 
 pub it_is : (id : List ℕ) (o : Option (List ℕ)) → is_id id o ≡ true → o ≡ Some id
-it_is id o is = grind (arith, is)
+it_is id None is = cc
+it_is id (Some x) is = ap (λ x. Some x) (sym ((bytes_eq-Decides id x).0 is))
 
 -- These messages have a Continue from one ID to the other.
 pub record Goes (ms : List Message) (from to : List ℕ) : Type 0 where
@@ -180,7 +181,8 @@ module _ (side : Side) (items : List Item) where
       ∙ any_agree _ _ (dtids_of ms) (λ own. so own (began side own items) refl) ∙ of ms
     where
       so : (own : List ℕ) (b : Bool) → began side own items ≡ b → (has_used side items own && b) ≡ b
-      so own b not_begun = grind (arith, not_begun)
+      so own true begun = and_from _ true (began_used side items own begun) refl
+      so own false not_begun = and_false (has_used side items own)
 
       of : (ns : List Message) → list_any (λ own. began side own items) (dtids_of ns) ≡ list_any (goes_to_begun side items) ns
       of [] = refl

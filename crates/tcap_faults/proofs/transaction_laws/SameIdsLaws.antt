@@ -39,12 +39,22 @@ differ_so xs ys there none =
     none_differ xs (λ x y has_x has_y. all_same ys x y none (there x has_x) (there y has_y))
 
 pub differ_same : (xs ys : List (List ℕ)) → AreSame xs ys → two_differ xs ≡ two_differ ys
-differ_same xs ys same = grind arith
+differ_same xs ys same = by (two_differ xs) refl (two_differ ys) refl
+  where
+    by : (a : Bool) → two_differ xs ≡ a → (b : Bool) → two_differ ys ≡ b → a ≡ b
+    by true is_x true is_y = refl
+    by false is_x false is_y = refl
+    by true is_x false is_y = sym is_x ∙ differ_so xs ys same.there is_y
+    by false is_x true is_y = sym (differ_so ys xs same.back is_x) ∙ is_y
 
 -- If all IDs are equal, what holds for one holds for all.
 pub any_one : (p : List ℕ → Bool) (ids : List (List ℕ)) (x : List ℕ) → Contains ids x → two_differ ids ≡ false
     → list_any p ids ≡ p x
-any_one p ids x has none = grind arith
+any_one p ids x has none = by (p x) refl
+  where
+    by : (b : Bool) → p x ≡ b → list_any p ids ≡ b
+    by true so = any_has p ids x has so
+    by false so = none_passes p ids (λ y has_y. ap p (all_same ids y x none has_y has) ∙ so)
 
 -- ---- what is kept of a list
 
@@ -97,7 +107,11 @@ module _ (xs ys : List (List ℕ)) where
   both_differ none_x none_y x y has_x has_y = by (bytes_eq x y) refl
     where
       is_x : x ≡ y → (z : List ℕ) → Contains (xs ++ ys) z → z ≡ x
-      is_x same z has = grind (arith, Contains-append_cases xs ys z has)
+      is_x same z has = of (Contains-append_cases xs ys z has)
+        where
+          of : Contains xs z ⊎ Contains ys z → z ≡ x
+          of (inl in_x) = all_same xs z x none_x in_x has_x
+          of (inr in_y) = all_same ys z y none_y in_y has_y ∙ sym same
 
       by : (b : Bool) → bytes_eq x y ≡ b → not b ≡ two_differ (xs ++ ys)
       by true equal =

@@ -58,7 +58,11 @@ all_none own ids none = grind (arith, none)
 
 all_differ : (own : List ℕ) (ids : List (List ℕ)) → true ≡ two_differ ids → all_to own ids ≡ false
 all_differ own [] differ = cc
-all_differ own (x ∷ more) differ = grind arith
+all_differ own (x ∷ more) differ = by (bytes_eq own x) refl
+  where
+    by : (b : Bool) → bytes_eq own x ≡ b → not (not b || list_any (λ y. not (bytes_eq own y)) more) ≡ false
+    by false apart = refl
+    by true same = let one : own ≡ x = (bytes_eq-Decides own x).0 same in rw (one, ← differ) refl
 
 all_one : (own x : List ℕ) (ids : List (List ℕ)) → false ≡ two_differ ids → Some x ≡ ids_first ids
     → all_to own ids ≡ bytes_eq own x
@@ -96,10 +100,23 @@ module _ (own : List ℕ) (ms : List Message) (used : List ℕ → Bool) where
       goes = kept_go (bytes_eq own x) (λ ids is. all_one own x ids (differ ids is) (first ids is))
 
       pub closed_used : true ≡ used x → bytes_eq own x ≡ (all_go_on_to own ms && used own)
-      closed_used is = grind arith
+      closed_used is = by (bytes_eq own x) refl
+        where
+          by : (b : Bool) → bytes_eq own x ≡ b → b ≡ (all_go_on_to own ms && used own)
+          by false apart = sym (and_left _ _ (goes ∙ apart))
+          by true same =
+              let one : own ≡ x = (bytes_eq-Decides own x).0 same in
+              sym (and_from _ _ (goes ∙ same) (rw one (sym is)))
 
       pub closed_unused : false ≡ used x → false ≡ (all_go_on_to own ms && used own)
-      closed_unused is = grind arith
+      closed_unused is = by (bytes_eq own x) refl
+        where
+          by : (b : Bool) → bytes_eq own x ≡ b → false ≡ (all_go_on_to own ms && used own)
+          by false apart = sym (and_left _ _ (goes ∙ apart))
+          by true same =
+              let one : own ≡ x = (bytes_eq-Decides own x).0 same in
+              let unused : used own ≡ false = rw one (sym is) in
+              sym (and_right _ _ unused)
 
 -- ---- what a message guesses
 

@@ -29,7 +29,12 @@ all_same (first ∷ more) x y same has_x has_y =
   where
     first_is : (z : List ℕ) → (first ≡ z) ⊎ Contains more z → z ≡ first
     first_is z (inl here) = sym here
-    first_is z (inr there) = grind arith
+    first_is z (inr there) = of (bytes_eq first z) refl
+      where
+        of : (b : Bool) → bytes_eq first z ≡ b → z ≡ first
+        of true equal = sym ((bytes_eq-Decides first z).0 equal)
+        of false apart =
+            absurd (both_ways _ same (any_has (λ other. not (bytes_eq first other)) more z there (rw apart refl)))
 
 -- A plain ID of the peer: what holds if it is not tangled.
 pub record IsPlain (side : Side) (items : List Item) (id : List ℕ) : Type 0 where
@@ -72,7 +77,14 @@ plain_to side items m id to over =
 -- The end used each ID that it began.
 pub began_used : (side : Side) (items : List Item) (own : List ℕ) → began side own items ≡ true
     → has_used side items own ≡ true
-began_used side items own begun = grind (arith, begun)
+began_used side items own begun = by (begin_from side own items) refl begun
+  where
+    by : (o : Option Message) → begin_from side own items ≡ o → is_some o ≡ true → has_used side items own ≡ true
+    by None none is = cc
+    by (Some b) found is =
+        let (has, passes) = find_has (begins_from own) (sent_by side items) b found in
+        any_has (λ m. is_id own (otid_in m)) (sent_by side items) b has
+        (and_parts (is_a forms.Begin b) (is_id own (otid_in b)) passes).1
 
 -- A Continue of the peer to an ID that the end used joins both IDs.
 pub joins : (side : Side) (items : List Item) (id own : List ℕ) (m : Message) → Contains (asked side id items) m
