@@ -15,33 +15,22 @@ use Rattle.tcap_end.specs.Halves.{name_in, other_slot}
 use Rattle.tcap_end.specs.ComponentSteps.{components_by, way_of}
 use Rattle.tcap_end.proofs.WayLaws.{receives_in, sends_out}
 
-module _ (slot : Slot) (table : Table) (e : End) (otid : List ℕ) (dialogue : Option Dialogue) (components : List Component) where
+module _ (table : Table) (e : End) (otid : List ℕ) (dialogue : Option Dialogue) (components : List Component) where
   -- A half has the Begin's ID.
-  pub is_used : is_none (named e (name_in slot otid)) ≡ false → begin slot table e otid dialogue components ≡ Err faults.IdUsed
-  is_used used = by slot used
-    where
-      by : (slot : Slot) → is_none (named e (name_in slot otid)) ≡ false → begin slot table e otid dialogue components ≡ Err faults.IdUsed
-      by Begun used = rw used refl
-      by Accepted used = rw used refl
+  pub is_used : (slot : Slot) → is_none (named e (name_in slot otid)) ≡ false
+      → begin slot table e otid dialogue components ≡ Err faults.IdUsed
+  is_used Begun used = rw used refl
+  is_used Accepted used = rw used refl
 
   -- No half has it, and the Begin may not carry the dialogue portion.
-  pub carries_wrong : named e (name_in slot otid) ≡ None → may_begin_in slot dialogue ≡ false
+  pub carries_wrong : (slot : Slot) → named e (name_in slot otid) ≡ None → may_begin_in slot dialogue ≡ false
       → begin slot table e otid dialogue components ≡ Err faults.WrongDialogue
-  carries_wrong none wrong = by slot none wrong
-    where
-      by : (slot : Slot) → named e (name_in slot otid) ≡ None → may_begin_in slot dialogue ≡ false
-          → begin slot table e otid dialogue components ≡ Err faults.WrongDialogue
-      by Begun none wrong = rw (none, wrong) refl
-      by Accepted none wrong = cc
+  carries_wrong Begun none wrong = rw (none, wrong) refl
+  carries_wrong Accepted none wrong = cc
 
   -- No half has it, and the Begin may carry the portion.
-  pub begins : {half : Half} → named e (name_in slot otid) ≡ None → may_begin_in slot dialogue ≡ true
+  pub begins : {half : Half} (slot : Slot) → named e (name_in slot otid) ≡ None → may_begin_in slot dialogue ≡ true
       → half ≡ fresh_in slot otid (first_standing dialogue) → begin slot table e otid dialogue components
       ≡ (components_by (way_of (other_slot slot)) table half components >>= λ g. Ok (put e slot otid g))
-  begins {half} none may same = by slot none may same
-    where
-      by : (slot : Slot) → named e (name_in slot otid) ≡ None → may_begin_in slot dialogue ≡ true
-          → half ≡ fresh_in slot otid (first_standing dialogue) → begin slot table e otid dialogue components
-          ≡ (components_by (way_of (other_slot slot)) table half components >>= λ g. Ok (put e slot otid g))
-      by Begun none may same = rw (sends_out table half components, same, none, may) refl
-      by Accepted none may same = rw (receives_in table half components, same, none) refl
+  begins {half} Begun none may same = rw (sends_out table half components, same, none, may) refl
+  begins {half} Accepted none may same = rw (receives_in table half components, same, none) refl

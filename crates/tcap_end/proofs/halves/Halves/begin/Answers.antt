@@ -19,13 +19,13 @@ use Rattle.tcap_end.proofs.halves.Halves.begin.Goals as goal
 pub returns-then-is_some-clause-step : goal.returns-then-is_some-clause-step
 returns-then-is_some-clause-step c _ =
     let e = end_of c.args.self.now in let slot = c.args.slot in let id = c.args.otid.octets.now in
-    is_used slot c.args.table.now e id (option_map dialogue_of c.args.dialogue) (components_left c.args.components)
+    is_used c.args.table.now e id (option_map dialogue_of c.args.dialogue) (components_left c.args.components) slot
     (told_some (named e (name_in slot id)) c.with_id.result (sym c.is_some.ensures ∙ c.if-is_some.true) c.with_id.ensures.half)
 
 pub returns-then-not-may_begin_in-clause-step : goal.returns-then-not-may_begin_in-clause-step
 returns-then-not-may_begin_in-clause-step c _ =
     let e = end_of c.args.self.now in let slot = c.args.slot in let id = c.args.otid.octets.now in
-    carries_wrong slot c.args.table.now e id (option_map dialogue_of c.args.dialogue) (components_left c.args.components)
+    carries_wrong c.args.table.now e id (option_map dialogue_of c.args.dialogue) (components_left c.args.components) slot
     (told_none (named e (name_in slot id)) c.with_id.result (sym c.is_some.ensures ∙ c.if-is_some.false) c.with_id.ensures.half)
     (sym c.may_begin_in.ensures ∙ c.if-not-may_begin_in.true)
 
@@ -51,7 +51,7 @@ returns-in_err-step_components-clause-step c =
     let half = rw (c.to_transaction_id.ensures, c.first_standing-standing.ensures) at c.new-half.ensures.half in
     let p = err_from_is_err_and c.from_residual.result c.from_residual.ensures.1 in
     rw (p.1, p.2) (λ apart.
-    begins slot c.args.table.now e id (option_map dialogue_of c.args.dialogue) (components_left c.args.components) none
+    begins c.args.table.now e id (option_map dialogue_of c.args.dialogue) (components_left c.args.components) slot none
     (sym c.may_begin_in.ensures ∙ c.if-not-may_begin_in.false) half
     ∙ ap (λ (r : Result Half EndFault). r >>= λ g. Ok (put e slot id g))
     (rw (c.way.ensures, c.other.ensures) at (c.in_err-step_components.ensures.step apart)))
@@ -64,7 +64,7 @@ returns-clause-step c =
     let half = rw (c.to_transaction_id.ensures, c.first_standing-standing.ensures) at c.new-half.ensures.half in
     let its = c.in_ok-step_components.ensures.slot ∙ c.new-half.ensures.slot in
     let added = rw (its, c.to_transaction_id-2.ensures) at c.in_ok-add.ensures.added in
-    begins slot c.args.table.now e id (option_map dialogue_of c.args.dialogue) (components_left c.args.components) none
+    begins c.args.table.now e id (option_map dialogue_of c.args.dialogue) (components_left c.args.components) slot none
     (sym c.may_begin_in.ensures ∙ c.if-not-may_begin_in.false) half
     ∙ (ap (λ (r : Result Half EndFault). r >>= λ g. Ok (put e slot id g))
     (rw (c.way.ensures, c.other.ensures) at c.in_ok-step_components.ensures.step)
