@@ -11,7 +11,7 @@ use Rattle.tcap_end.specs.declared.half_components.Way.TheVariants.{In}
 use Rattle.tcap_end.specs.Step.{◌>>=◌}
 use Rattle.tcap_end.specs.Dialogue.{answers_request}
 use Rattle.tcap_end.specs.End.{End, KeptHalf, is_id, put, with_own, with_peer}
-use Rattle.tcap_end.specs.Half.{Half, closed_half, is_closed}
+use Rattle.tcap_end.specs.Half.{closed_half, is_closed}
 use Rattle.tcap_end.specs.Message.{active_half, receive_continue, receive_end, receive_over}
 use Rattle.tcap_end.specs.ReachableEnd.{FitsPhase, Has, IsEnd, IsKept}
 use Rattle.tcap_end.specs.Table.{Table}

@@ -17,6 +17,7 @@ pub mod OwnInvocations
 pub mod RejectProblems
 pub mod OldestPlace
 pub mod KindTest
+pub mod RowJoin
 pub mod HalfState
 pub mod Halves
 pub mod Begins

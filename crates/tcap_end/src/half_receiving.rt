@@ -15,16 +15,18 @@ ghost use Rattle.tcap_end.specs.Component.{
   with_grant,
 };
 ghost use Rattle.tcap_end.specs.HalfState.{StillUndoes, half_of};
-ghost use Rattle.tcap_end.specs.RejectProblems.{link_numbers, target_of, target_problems};
+ghost use Rattle.tcap_end.specs.RejectProblems.{invoke_problems, link_numbers, target_of, target_problems};
+ghost use Rattle.tcap_end.specs.RowJoin.{IsJoined};
 
 use crate::changes::Changes;
 use crate::class::reports;
 use crate::half::InvocationState;
 use crate::half_state::{Change, HalfState};
-use crate::places::{keep_answer, keep_invocation};
-use crate::received::{Link, Target};
+use crate::places::{join_answer, join_invocation, keep};
+use crate::received::{Answer, Invocation, Link, Target};
 use crate::table::Table;
 use std::alloc::{AllocError, Global};
+use tcap_lists::Row;
 use tcap_parts::{CodeView, ComponentView, ProblemView};
 
 impl HalfState {
@@ -89,7 +91,11 @@ impl HalfState {
     {
         let duplicate = self.has_invocation(id);
         let link = self.link(table, linked, code);
-        keep_invocation(&mut self.inn, alloc, id, code, duplicate, link)?;
+        let join = move |row: &mut Row<Invocation>|
+            ensures { IsJoined (record { code = code_of code.entry; problems = invoke_problems duplicate link })
+                row.old result row.new }
+        { join_invocation(row, alloc, code, duplicate, link) };
+        keep(&mut self.inn, id, join)?;
         self.note(changes, Change::InnJoined(id))
     }
 
@@ -106,7 +112,9 @@ impl HalfState {
         ensures undoes { StillUndoes changes.old self.old changes.new self.new }
         ensures slot { self.new.slot ≡ self.old.slot }
     {
-        keep_answer(&mut self.grants, id, is_result, target)?;
+        keep(&mut self.grants, id, |row: &mut Row<Answer>| {
+            join_answer(row, is_result, target)
+        })?;
         self.note(changes, Change::GrantJoined(id))
     }
 

@@ -1,14 +1,15 @@
 //! The oldest item of a row that a component can answer, reject or link to, and items that are added to rows.
 
-ghost use Rattle.std.specs.Prelude.{◌≡◌, ◌<◌, ◌++◌, ◌∷◌, [], Bool, Some, None, OnErr, OnOk, is_some, option_map, slice_index_or, true, ℕ};
+ghost use Rattle.std.specs.Prelude.{◌≡◌, ◌<◌, Bool, Some, None, OnErr, OnOk, is_some, option_map, slice_index_or, true, ℕ};
 ghost use Rattle.std.specs.List.{slice_get};
 ghost use Rattle.std.specs.Mem.{FitsInMemory};
 ghost use Rattle.tcap_parts.specs.Meaning.{code_of};
 ghost use Rattle.tcap_end.specs.Half.{with_newest};
 ghost use Rattle.tcap_end.specs.Component.{allows, allows_for, class_reports, is_code, links, may_answer};
-ghost use Rattle.tcap_lists.specs.Lists.{HasRow, KeepsKinds, KeepsRows, row_kinds, row_of, rows_of};
+ghost use Rattle.tcap_lists.specs.Lists.{HasRow, KeepsRows, row_kinds, row_of, rows_of};
 ghost use Rattle.tcap_end.specs.OldestPlace.{place_of};
 ghost use Rattle.tcap_end.specs.KindTest.{IsTest};
+ghost use Rattle.tcap_end.specs.RowJoin.{IsJoined, Joins};
 ghost use Rattle.tcap_end.specs.RejectProblems.{invoke_problems, target_problems};
 ghost use Rattle.tcap_lists.specs.Row.{earlier, fits_in};
 
@@ -263,17 +264,15 @@ fn invocations(row: &Row<Invocation>, code: CodeView, duplicate: bool, link: Lin
 }
 
 /// Adds an invocation to a row.
-fn join_invocation(
+pub(crate) fn join_invocation(
     row: &mut Row<Invocation>,
     alloc: Global,
     code: CodeView,
     duplicate: bool,
     link: Link,
 ) -> Result<(), AllocError>
-    ensures joined { OnOk result (row_of row.new
-        ≡ row_of row.old ++ Some (record { code = code_of code.entry; problems = invoke_problems duplicate link }) ∷ []) }
-    ensures kept { OnErr result (row_of row.new ≡ row_of row.old) }
-    ensures kinds { KeepsKinds row.old row.new }
+    ensures { IsJoined (record { code = code_of code.entry; problems = invoke_problems duplicate link })
+        row.old result row.new }
 {
     match invocations(row, code, duplicate, link) {
         Some(kind) => row.join(kind),
@@ -304,11 +303,13 @@ fn answers(kinds: &[Answer], is_result: bool, target: Target) -> Option<usize>
 }
 
 /// Adds an answer to a row.
-fn join_answer(row: &mut Row<Answer>, is_result: bool, target: Target) -> Result<(), AllocError>
-    ensures joined { OnOk result (row_of row.new
-        ≡ row_of row.old ++ Some (record { is_result = is_result; problems = target_problems is_result target }) ∷ []) }
-    ensures kept { OnErr result (row_of row.new ≡ row_of row.old) }
-    ensures kinds { KeepsKinds row.old row.new }
+pub(crate) fn join_answer(
+    row: &mut Row<Answer>,
+    is_result: bool,
+    target: Target,
+) -> Result<(), AllocError>
+    ensures { IsJoined (record { is_result = is_result; problems = target_problems is_result target })
+        row.old result row.new }
 {
     match answers(row.kinds(), is_result, target) {
         Some(kind) => row.join(kind),
@@ -316,44 +317,22 @@ fn join_answer(row: &mut Row<Answer>, is_result: bool, target: Target) -> Result
     }
 }
 
-/// Adds a received invocation to the row of its ID.
-pub(crate) fn keep_invocation(
-    lists: &mut Lists<Invocation>,
-    alloc: Global,
+/// Adds an item to the row of its ID, with a closure that adds it to the row.
+pub(crate) fn keep<K: Drop, F: FnOnce(&mut Row<K>) -> Result<(), AllocError> + Drop>(
+    lists: &mut Lists<K>,
     id: i8,
-    code: CodeView,
-    duplicate: bool,
-    link: Link,
+    join: F,
 ) -> Result<(), AllocError>
-    ensures added { OnOk result (rows_of lists.new ≡ with_newest id
-        (Some (record { code = code_of code.entry; problems = invoke_problems duplicate link })) (rows_of lists.old)) }
+    requires callable { F.IsAlwaysCallable join }
+    ensures added { (item : K) → Joins F.FnOnce join item
+        → OnOk result (rows_of lists.new ≡ with_newest id (Some item) (rows_of lists.old)) }
     ensures made { OnOk result (HasRow id lists.new) }
-    ensures kept { OnErr result (rows_of lists.new ≡ rows_of lists.old) }
-    ensures keeps { KeepsRows lists.old lists.new }
+    ensures kept { (item : K) → Joins F.FnOnce join item → OnErr result (rows_of lists.new ≡ rows_of lists.old) }
+    ensures keeps { (item : K) → Joins F.FnOnce join item → KeepsRows lists.old lists.new }
 {
     lists.make(id)?;
     match lists.rows.get_mut(&id) {
-        Some(row) => join_invocation(row, alloc, code, duplicate, link),
-        None => unreachable!(),
-    }
-}
-
-/// Adds a received answer to the row of its ID.
-pub(crate) fn keep_answer(
-    lists: &mut Lists<Answer>,
-    id: i8,
-    is_result: bool,
-    target: Target,
-) -> Result<(), AllocError>
-    ensures added { OnOk result (rows_of lists.new ≡ with_newest id
-        (Some (record { is_result = is_result; problems = target_problems is_result target })) (rows_of lists.old)) }
-    ensures made { OnOk result (HasRow id lists.new) }
-    ensures kept { OnErr result (rows_of lists.new ≡ rows_of lists.old) }
-    ensures keeps { KeepsRows lists.old lists.new }
-{
-    lists.make(id)?;
-    match lists.rows.get_mut(&id) {
-        Some(row) => join_answer(row, is_result, target),
+        Some(row) => join(row),
         None => unreachable!(),
     }
 }
