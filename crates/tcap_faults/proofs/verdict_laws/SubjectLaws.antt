@@ -35,7 +35,7 @@ pub either : {A : Type 0} (a b : Option A) → option_or a b ≡ or_else a b
 either a b = grind arith
 
 module _ (of_one : Bool) (table : Table) (side : Side) (items : List Item) (kind : Kind) where
-  alone_is : (m : Message) → None ≡ dtid_in m
+  pub alone_is : (m : Message) → None ≡ dtid_in m
       → record {
         how = Nowhere;
         own = None;
@@ -43,7 +43,7 @@ module _ (of_one : Bool) (table : Table) (side : Side) (items : List Item) (kind
       } ≡ subject of_one table side items m kind
   alone_is m none = grind (arith, none)
 
-  half_is : (m : Message) (id : List ℕ) → Some id ≡ dtid_in m
+  pub half_is : (m : Message) (id : List ℕ) → Some id ≡ dtid_in m
       → record {
         how = (half_of side items id).how;
         own = (half_of side items id).own;
