@@ -106,7 +106,7 @@ module _ {X : Type 0} {numbers : X → List ℕ} {ids : X → List IdOf} {n : �
   apart : (d e : X) → has_its d ≡ false → Hit e → d ≡ e → ⊥
   apart d e misses is same = true≢false (sym is.hit ∙ sym (ap has_its same) ∙ misses)
 
-  -- If no two old dialogues pass a test, and the new one does not pass it beside one that stays, no two pass it after
+  -- If no two old dialogues pass a test, and the new one does not pass it together with one that stays, no two pass it after
   -- the entry.
   one_more : (test : X → Bool) → ((d e : X) → Contains old d → Contains old e → test d ≡ true → test e ≡ true → d ≡ e)
       → ((d : X) → Contains old d → has_its d ≡ false → test d ≡ true → test new ≡ true → ⊥) → (d e : X) → Contains with_new d

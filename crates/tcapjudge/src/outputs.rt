@@ -128,7 +128,7 @@ fn begun(
 }
 
 impl Outputs {
-    /// Opens the output files and empties all that could be opened, if each is a file of its own. That of JUnit XML then
+    /// Opens the output files and empties all that could be opened, if each is a separate file. That of JUnit XML then
     /// says that the run did not end. Two paths of one missing file look different, so this is checked again when all files
     /// exist. If this fails, standard error says why.
     pub(crate) fn open(rt: &HostRuntime, test: &Test) -> Result<Outputs, Stop> {

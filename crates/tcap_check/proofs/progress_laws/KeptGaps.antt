@@ -104,7 +104,7 @@ there_before items i = by (slice_get items i) refl
     by None e = where_none (nat_lt i (length items))
     by (Some item) e = rw (lt-ltb i (length items) (slice_get_within items i item e)) refl
 
--- The outline of an entry that is named in the gap after the last entry.
+-- The outline of an entry that an event in the gap after the last entry names.
 named_is : (c : Certificate) (items : List Item) (gap entry : ℕ) → gap ≡ length items → is_named c entry ≡ true
     → outline_named (outlines_from c 0 items) (since_from 0 0 items) entry
     ≡ option_map (outline_of true) (named_entry items gap entry)
@@ -156,7 +156,7 @@ all_made : {A B : Type 0} (P : B → Type 0) (f : A → B) (xs : List A) → All
 all_made P f [] all = tt
 all_made P f (x ∷ xs) all = (all.0, all_made P f xs all.1)
 
--- The listed event is in this gap, and its entry is named.
+-- The listed event is in this gap, and the certificate names its entry.
 abbrev pub IsNamed : Certificate → ℕ → Listed → Type 0
 IsNamed c count x = (gap_of x ≡ count) × (is_named c (entry_of x) ≡ true)
 
