@@ -84,6 +84,7 @@ def main(names):
             passed.append(copy.step("the library for C", [sys.executable, "dev/clib.py"]))
         else:
             print("the library for C was not built: it needs cc and ar", flush=True)
+        passed += [copy.step(what, [sys.executable, f"tests/{name}.py"]) for name, what in gate.PACKED.items()]
     else:
         passed.append(False)
         print("the program was not run", flush=True)

@@ -1,10 +1,11 @@
 """The gate, which `make test` runs. It runs `rt ci`, with as many tasks at once as RT_JOBS says or as this machine has
 room for. Then it runs the tests of TESTS on the program that `rt ci` built; tests/borrows.py; dev/clib.py over the
-libraries that `rt ci` built; tests/titan.py over the library that this made; and bench/memory.py, which lets each
-allocation of a run of the program fail in turn. Meanwhile it tries wrong bodies (dev/edits.py), as soon as their
-crates are proved. It passes on what all these print. Then it prints the seconds and the processor time of the proof of
-each crate and of its tests, and ends with the line `N passed, M failed`, which counts everything. The exit status is 0
-if none failed. It keeps that line in out/gate-result with git's hash of the tree, for the manifest of a package (dev/dist.py).
+libraries that `rt ci` built; tests/titan.py over the library that this made; the tests of PACKED on packages of that
+program and library; and bench/memory.py, which lets each allocation of a run of the program fail in turn. Meanwhile it
+tries wrong bodies (dev/edits.py), as soon as their crates are proved. It passes on what all these print. Then it prints
+the seconds and the processor time of the proof of each crate and of its tests, and ends with the line `N passed, M
+failed`, which counts everything. The exit status is 0 if none failed. It keeps that line in out/gate-result with git's
+hash of the tree, for the manifest of a package (dev/dist.py).
 
 `rt ci` does not report when a part begins and ends. So twice a second the gate looks in /proc for the runs of `rattle`
 that `rt ci` started, which a word in their environment marks. A part lasts from the first to the last time that it is
@@ -53,6 +54,8 @@ TESTS = {
     "books": "tables, pages and the book that agree",
     "page": "looks at pages of reports",
 }
+# Those that pack the program, and the library for C if it was built.
+PACKED = {"dist": "looks at packages"}
 # The memory that the largest check takes, in GB.
 LARGEST = 5
 MARK = "GATE_RUN"
@@ -153,6 +156,13 @@ def started(*words):
 def counts_of_script(path, *words):
     """Runs a program in Python. Returns its counts, as `counts_of` does."""
     return counts_of(started(sys.executable, path, *words))
+
+
+def run_test(name, what):
+    """Runs one of the tests in tests/, and prints how many of what it counts are wrong. Returns its counts."""
+    counts = counts_of_script(f"tests/{name}.py")
+    print(f"{counts.all()} {what}, {counts.failed} wrong")
+    return counts
 
 
 def used_by_ended():
@@ -265,20 +275,19 @@ def run_all():
     atexit.register(wrong.end)
     ci, parts, seconds, used = watched(["rt", "ci"], wrong.look)
     # That run prints little, so it never waits for a reader.
-    tried, others = wrong.begun(), []
-    for name, what in TESTS.items():
-        others.append(counts_of_script(f"tests/{name}.py"))
-        print(f"{others[-1].all()} {what}, {others[-1].failed} wrong")
+    tried = wrong.begun()
+    others = [run_test(name, what) for name, what in TESTS.items()]
     lent = counts_of_script("tests/borrows.py")
     print(f"feeding while an entry is lent: {'refused' if lent.passed else 'NOT refused'}")
     clib = counts_of_script("dev/clib.py", "--over-ci")
     print(f"{clib.all()} comparisons of the library for C with the program, {clib.failed} that differ")
     titan = counts_of_script("tests/titan.py") if clib.all() else Counts()
     print(f"{titan.all()} verdicts of a test case in TTCN-3, {titan.failed} wrong")
-    others += [lent, clib, titan, refused_memory(), counts_of(tried)]
+    packed = [run_test(name, what) for name, what in PACKED.items()]
+    others += [lent, clib, titan, *packed, refused_memory(), counts_of(tried)]
     print(f"{others[-1].all()} wrong bodies, {others[-1].failed} not refused")
     show_parts(parts, seconds, used)
-    names = ["rt ci", *TESTS, "borrows", "the library for C", "TTCN-3", "allocations that fail", "wrong bodies"]
+    names = ["rt ci", *TESTS, "borrows", "the library for C", "TTCN-3", *PACKED, "allocations that fail", "wrong bodies"]
     show_failures(zip(names, [ci, *others]))
     return [sum(getattr(it, what) for it in [ci, *others]) for what in ("passed", "failed")]
 

@@ -47,7 +47,7 @@ def run_all(env):
     """Runs the tests, and prints the counts of each. Returns how many passed and failed."""
     start, both = time.monotonic(), [0, 0]
     with contextlib.ExitStack() as stack:
-        running = {what: begin(stack, f"tests/{name}.py", [], env) for name, what in gate.TESTS.items()}
+        running = {what: begin(stack, f"tests/{name}.py", [], env) for name, what in (gate.TESTS | gate.PACKED).items()}
         running["random cases"] = begin(stack, "tests/fuzz.py", FUZZ, env)
         if gate.has_compiler():
             running["runs with allocations that fail in turn"] = begin(stack, "bench/memory.py", ["program"], env)
