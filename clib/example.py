@@ -2,7 +2,7 @@
 alone. It prints what `tcapjudge judge` prints, and ends as it does.
 
 example.py --test TRACE [BOOK]: judges each dialogue of the trace of a file, by the book of a file or by the one that the library
-carries. It prints the lines that `tcapjudge test` writes as JSON, and ends as it does.
+carries. It prints the lines that `tcapjudge test` writes as JSON, without that of the run, and ends as it does.
 
 Where a file can't be read it says so on standard error, judges nothing and ends with the status 3; 4 where the words are wrong.
 The library is that which `make clib` built beside this file."""
