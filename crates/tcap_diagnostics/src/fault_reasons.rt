@@ -2,18 +2,16 @@
 
 ghost use Rattle.std.specs.Prelude.{◌≡◌, ◌≢◌, Err, OnOk, OnErr};
 ghost use Rattle.tcap_ber.specs.Device.{one_more};
-ghost use Rattle.tcap_diagnostics.specs.declared.stop.Stop.{Stop};
+ghost use Rattle.tcap_lines.specs.declared.stop.Stop.{Stop};
 
-use crate::digits::push_hex;
 use crate::names::{feed_name_of, name_of};
 use crate::octets_around::push_around;
 use crate::path::path_to;
 use crate::showing::Showing;
-use crate::stop::Stop;
 use std::alloc::{AllocError, Global};
 use tcap_ber::{Failed, Fault, Read, Reason, Window, Write, next_tlv};
-use tcap_lines::{Status, WriteFailed};
-use tcap_record::{FeedFault, FeedReason, PIECE_LEN};
+use tcap_lines::{Status, Stop, WriteFailed};
+use tcap_record::{FeedFault, FeedReason, PIECE_LEN, push_hex};
 
 /// The tag of an originating transaction ID (Q.773 4.2.1).
 const ORIGINATING: u8 = 0x48;

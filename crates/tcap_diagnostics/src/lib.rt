@@ -3,7 +3,6 @@
 #![tactic(auto)]
 
 mod code_hints;
-mod digits;
 mod fault_reasons;
 mod fault_writer;
 mod first_octets;
@@ -17,7 +16,6 @@ mod parts;
 mod path;
 mod rules;
 mod showing;
-mod stop;
 mod table_faults;
 mod table_rows;
 mod tables;

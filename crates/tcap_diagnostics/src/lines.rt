@@ -2,14 +2,13 @@
 
 ghost use Rattle.std.specs.Prelude.{◌≡◌, ◌≢◌, Err, IsErr, OnOk, OnErr};
 ghost use Rattle.tcap_ber.specs.Device.{one_more};
-ghost use Rattle.tcap_diagnostics.specs.declared.stop.Stop.{Stop};
+ghost use Rattle.tcap_lines.specs.declared.stop.Stop.{Stop};
 
 use crate::rules::{Broken, Rule, broken_by, push_broken};
 use crate::showing::Showing;
-use crate::stop::Stop;
 use std::alloc::{AllocError, Global};
 use tcap_ber::{Counted, Failed, Read, Write};
-use tcap_lines::{Status, WriteFailed};
+use tcap_lines::{Status, Stop, WriteFailed};
 use tcap_record::{FeedFault, FeedReason, LINE_LIMIT, LINES_LIMIT, PIECE_LEN, PackFault, pack};
 
 /// The most octets of a line, with its end.

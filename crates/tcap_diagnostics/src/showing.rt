@@ -2,14 +2,13 @@
 
 ghost use Rattle.std.specs.Prelude.{◌≡◌, ◌≢◌, ◌≤◌, length, Err, IfOk, IsErr, OnOk, OnErr};
 ghost use Rattle.tcap_ber.specs.Device.{one_more};
-ghost use Rattle.tcap_diagnostics.specs.declared.stop.Stop.{Stop};
+ghost use Rattle.tcap_lines.specs.declared.stop.Stop.{Stop};
 
 use crate::fault_reasons::{push_entry_why, push_record_why};
 use crate::octets_around::SIDE;
-use crate::stop::Stop;
 use std::alloc::{AllocError, Global};
 use tcap_ber::Write;
-use tcap_lines::{MEMORY_LINE, Status, WriteFailed};
+use tcap_lines::{MEMORY_LINE, Status, Stop, WriteFailed};
 use tcap_record::{BodyView, FeedFault, FeedReason, Frames, push_fault, push_view};
 
 /// The state of showing a record.

@@ -2,7 +2,6 @@
 //!
 //! Each function returns `AllocError` if memory runs out.
 
-use crate::digits::push_hex;
 use serde_json::Value;
 use std::alloc::{AllocError, Global};
 use std::collections::BTreeMap;
@@ -10,6 +9,7 @@ use tcap_ber::ObjectIdView;
 use tcap_books::{Book, NamedTable};
 use tcap_end::Table;
 use tcap_parts::CodeView;
+use tcap_record::push_hex;
 
 /// The numbers of a table's rows, ordered by code: first local codes by number, then global codes by octets.
 #[derive(Drop)]

@@ -15,8 +15,8 @@ use Rattle.tcap_record.specs.FeederResult.{FailsFrom, FinishesAs}
 use Rattle.tcap_record.specs.PartialRecord.{Held, Fed, IsHeld, IsHeldWith, IsPart, IsWhole, nothing_held}
 use Rattle.tcap_record.proofs.FedLaws.{fed_grown}
 use Rattle.tcap_record.proofs.FeederLaws.{taken_on}
-use Rattle.tcap_lines.specs.declared.showing.Stop.{Stop}
-use Rattle.tcap_lines.specs.declared.showing.Stop.TheVariants as stops
+use Rattle.tcap_lines.specs.declared.stop.Stop.{Stop}
+use Rattle.tcap_lines.specs.declared.stop.Stop.TheVariants as stops
 use Rattle.tcap_record.specs.Lines.{lines_of, entry_lines}
 use Rattle.tcap_record.specs.Reading.{IsReadAs, FailsOnlyByReader}
 use Rattle.tcap_record.proofs.ReadingLaws.{read_to_memory, read_to_fault}

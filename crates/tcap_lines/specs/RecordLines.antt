@@ -8,8 +8,8 @@ use Rattle.tcap_record.specs.PartialRecord.{Held, Fed}
 use Rattle.tcap_record.specs.Lines.{lines_of}
 use Rattle.tcap_record.specs.Reading.{IsReadAs, EndsOnlyAtEnd, FailsOnlyByReader}
 use Rattle.tcap_lines.specs.ShowRun.{is_bad}
-use Rattle.tcap_lines.specs.declared.showing.Stop.{Stop}
-use Rattle.tcap_lines.specs.declared.showing.Stop.TheVariants as stops
+use Rattle.tcap_lines.specs.declared.stop.Stop.{Stop}
+use Rattle.tcap_lines.specs.declared.stop.Stop.TheVariants as stops
 
 -- The octets taken are these entries and the octets held. The lines of the entries were written, and `bad` says whether
 -- one of them is not a message.

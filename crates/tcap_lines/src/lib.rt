@@ -6,8 +6,10 @@ mod fault_lines;
 mod packing;
 mod showing;
 mod status;
+mod stop;
 
 pub use fault_lines::{MEMORY_LINE, write_fault, write_line};
 pub use packing::run_pack;
 pub use showing::run_show;
 pub use status::{Status, WriteFailed};
+pub use stop::Stop;

@@ -10,48 +10,16 @@ ghost use Rattle.tcap_record.specs.FramingResult.{feed_fault};
 ghost use Rattle.tcap_record.specs.PartialRecord.{IsFront, IsHeld, IsPart, IsWhole, nothing_held};
 ghost use Rattle.tcap_record.specs.Lines.{entry_lines};
 ghost use Rattle.tcap_record.specs.EntryView.{entry_read};
-ghost use Rattle.tcap_lines.specs.declared.showing.Stop.{Stop};
+ghost use Rattle.tcap_lines.specs.declared.stop.Stop.{Stop};
 ghost use Rattle.tcap_lines.specs.ShowRun.{Shows, is_bad};
 ghost use Rattle.tcap_lines.specs.RecordLines.{Leads, ShowsAll, UnlessWrite};
 
 use crate::fault_lines::write_fault;
 use crate::status::{Status, WriteFailed};
-use std::alloc::{AllocError, Global};
+use crate::stop::Stop;
+use std::alloc::Global;
 use tcap_ber::{Failed, Read, Write};
 use tcap_record::{BodyView, EntryView, FeedFault, FeedReason, Frames, PIECE_LEN, push_view};
-
-/// Why printing a record stops.
-#[derive(Clone, Copy, PartialEq, Eq)]
-enum Stop {
-    /// The record has a fault, or memory ran out.
-    Fault(FeedFault),
-    /// The writer failed.
-    Write,
-}
-
-impl From<FeedFault> for Stop {
-    ghost from_gives = { λ fault stop. stop ≡ Stop.Fault fault };
-
-    fn from(fault: FeedFault) -> Stop {
-        Stop::Fault(fault)
-    }
-}
-
-impl From<AllocError> for Stop {
-    ghost from_gives = { λ _ stop. stop ≡ Stop.Fault (feed_fault FeedReason.Memory 0) };
-
-    fn from(error: AllocError) -> Stop {
-        Stop::Fault(FeedFault::from(error))
-    }
-}
-
-impl From<Failed> for Stop {
-    ghost from_gives = { λ _ stop. stop ≡ Stop.Write };
-
-    fn from(_: Failed) -> Stop {
-        Stop::Write
-    }
-}
 
 /// The state of printing a record in pieces.
 #[derive(Drop)]

@@ -1,5 +1,5 @@
 use Rattle.std.proofs.Common.{Err, subst}
-use Rattle.tcap_lines.specs.declared.showing.Stop.{Stop}
+use Rattle.tcap_lines.specs.declared.stop.Stop.{Stop}
 use Rattle.tcap_lines.specs.RecordLines.{ShowsAll, UnlessWrite}
 use Rattle.tcap_lines.proofs.PrintLaws.{faulted}
 use Rattle.tcap_lines.proofs.showing.run_show.Goals as goal

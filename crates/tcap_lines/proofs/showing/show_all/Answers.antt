@@ -6,8 +6,8 @@ use Rattle.std.specs.Io.KnownBytes.{Consumes}
 use Rattle.tcap_record.specs.PartialRecord.{Held, IsPart}
 use Rattle.tcap_record.specs.FeederResult.{FinishesAs}
 use Rattle.tcap_record.proofs.ReadingLaws.{read_finished}
-use Rattle.tcap_lines.specs.declared.showing.Stop.{Stop}
-use Rattle.tcap_lines.specs.declared.showing.Stop.TheVariants as stops
+use Rattle.tcap_lines.specs.declared.stop.Stop.{Stop}
+use Rattle.tcap_lines.specs.declared.stop.Stop.TheVariants as stops
 use Rattle.tcap_lines.specs.RecordLines.{ShowsAll}
 use Rattle.tcap_lines.proofs.ShowLaws.{stopped_read, not_cut, nothing_shown, nothing_is_held, ended_counts, stopped_counts, unless_write, err_is}
 use Rattle.tcap_lines.proofs.showing.show_all.Goals as goal

@@ -4,7 +4,7 @@ use Rattle.std.proofs.lemmas.Result.{err_from_is_err_and}
 use Rattle.std.proofs.lemmas.List.{length-drop}
 use Rattle.tcap_record.specs.PartialRecord.{IsHeld, dropped}
 use Rattle.tcap_record.proofs.FeederLaws.{rest_on, held_dropped, no_less}
-use Rattle.tcap_lines.specs.declared.showing.Stop.{Stop}
+use Rattle.tcap_lines.specs.declared.stop.Stop.{Stop}
 use Rattle.tcap_lines.specs.ShowRun.{is_bad}
 use Rattle.tcap_lines.specs.RecordLines.{Leads}
 use Rattle.tcap_lines.proofs.ShowLaws.{leads_shown, leads_then, is_fault, part_there}

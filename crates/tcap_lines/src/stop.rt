@@ -1,17 +1,17 @@
-//! The reasons why a run ends early.
+//! The reasons why printing stops before the end.
 
 ghost use Rattle.std.specs.Prelude.{◌≡◌};
 ghost use Rattle.tcap_record.specs.declared.fault.FeedReason.{FeedReason};
 ghost use Rattle.tcap_record.specs.FramingResult.{feed_fault};
-ghost use Rattle.tcap_diagnostics.specs.declared.stop.Stop.{Stop};
+ghost use Rattle.tcap_lines.specs.declared.stop.Stop.{Stop};
 
 use std::alloc::AllocError;
 use tcap_ber::Failed;
 use tcap_record::FeedFault;
 
 /// The reason why no more lines of a record are written.
-#[derive(Clone, Copy, PartialEq, Eq)]
-pub(crate) enum Stop {
+#[derive(Clone, Copy, Debug, PartialEq, Eq)]
+pub enum Stop {
     /// The input has a fault, the reader failed, or memory ran out.
     Fault(FeedFault),
     /// The writer failed.
