@@ -1,8 +1,6 @@
 //! Reads a certificate from a JSON text (RFC 8259), and writes one.
 
-ghost use Rattle.std.specs.Prelude.{◌≡◌, ◌≢◌, ◌&&◌, codes, Option, Some, None, Ok, Err, IfOk, map, option_map, string_bytes};
-ghost use Rattle.std.specs.List.{list_any};
-ghost use Rattle.std.specs.Str.{bytes_eq};
+ghost use Rattle.std.specs.Prelude.{◌≡◌, ◌≢◌, ◌&&◌, codes, Option, Some, None, Ok, Err, IfOk, option_map, string_bytes};
 ghost use Rattle.serde_json.specs.Data.{Data, object};
 ghost use Rattle.serde_json.specs.Find.{get_member};
 ghost use Rattle.serde_json.specs.Written.{compact_text};
@@ -24,6 +22,7 @@ use std::alloc::{AllocError, Global};
 use tcap_certificate::{
     Certificate, CheckFault, Closing, Expiry, FATES_LIMIT, Fate, NUMBER_LIMIT, Reason,
 };
+use tcap_end::has_only;
 use tcap_record::End;
 
 /// An item of a list of a certificate.
@@ -39,25 +38,6 @@ trait Part: Sized + Drop {
     /// Returns the value written for this item. Fails if memory runs out.
     fn to_value(&self, alloc: Global) -> Result<Value, AllocError>
         ensures { IfOk result (λ v. view v ≡ part_data self.now) };
-}
-
-/// Returns whether a key is one of these.
-fn is_one_of(keys: &[&str], key: &str) -> bool
-    ensures { result ≡ list_any (bytes_eq key.now) (map (λ k. k.now) keys.now) }
-{
-    keys.contains(&key)
-}
-
-/// Returns whether an object has no keys but these.
-fn has_only(keys: &[&str], members: &Map<String, Value>) -> bool
-    ensures { result ≡ has_only (map (λ k. k.now) keys.now) (members_view members.now.entries) }
-{
-    for key in members.keys() {
-        if !is_one_of(keys, key) {
-            return false;
-        }
-    }
-    true
 }
 
 /// Returns the number that a value represents, or `None` unless it is a whole number from 0 to `NUMBER_LIMIT`.

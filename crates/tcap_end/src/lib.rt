@@ -33,3 +33,4 @@ pub use fault::EndFault;
 pub use half::{HalfName, InvocationState, Phase, Slot, Standing};
 pub use half_view::OpenHalf;
 pub use table::{Table, TableFault, TableReason};
+pub use table_text::has_only;

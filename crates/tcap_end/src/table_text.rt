@@ -42,8 +42,8 @@ fn is_one_of(keys: &[&str], key: &str) -> bool
     keys.contains(&key)
 }
 
-/// Returns whether each key of an object is in a list.
-fn has_only(keys: &[&str], members: &Map<String, Value>) -> bool
+/// Returns whether each key of a JSON object is in a list.
+pub fn has_only(keys: &[&str], members: &Map<String, Value>) -> bool
     ensures { result ≡ has_only (map (λ k. k.now) keys.now) (members_view members.now.entries) }
 {
     for key in members.keys() {
