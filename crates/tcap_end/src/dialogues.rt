@@ -21,22 +21,22 @@ ghost use Rattle.tcap_end.specs.Dialogue.{
 use crate::half::{Phase, Standing};
 use tcap_parts::{DialogueView, SourceView};
 
-/// Returns whether the portion is a dialogue request.
-fn is_request(dialogue: Option<DialogueView>) -> bool
+/// Returns whether the portion is a dialogue request, AARQ.
+pub fn is_request(dialogue: Option<DialogueView>) -> bool
     ensures { result ≡ is_request (option_map dialogue_of dialogue.entry) }
 {
     matches!(dialogue, Some(DialogueView::Request { .. }))
 }
 
-/// Returns whether the portion is a dialogue response.
-fn is_response(dialogue: Option<DialogueView>) -> bool
+/// Returns whether the portion is a dialogue response, AARE.
+pub fn is_response(dialogue: Option<DialogueView>) -> bool
     ensures { result ≡ is_response (option_map dialogue_of dialogue.entry) }
 {
     matches!(dialogue, Some(DialogueView::Response { .. }))
 }
 
-/// Returns whether the portion is a response that accepts the dialogue.
-fn accepts_dialogue(dialogue: Option<DialogueView>) -> bool
+/// Returns whether the portion is a response, AARE, that accepts the dialogue.
+pub fn accepts_dialogue(dialogue: Option<DialogueView>) -> bool
     ensures { result ≡ accepts_dialogue (option_map dialogue_of dialogue.entry) }
 {
     match dialogue {
@@ -53,8 +53,8 @@ fn accepts_dialogue(dialogue: Option<DialogueView>) -> bool
     }
 }
 
-/// Returns whether the portion is a response by which the user refuses the dialogue.
-fn refuses_dialogue(dialogue: Option<DialogueView>) -> bool
+/// Returns whether the portion is a response, AARE, by which the user refuses the dialogue.
+pub fn refuses_dialogue(dialogue: Option<DialogueView>) -> bool
     ensures { result ≡ refuses_dialogue (option_map dialogue_of dialogue.entry) }
 {
     match dialogue {
@@ -69,8 +69,8 @@ fn refuses_dialogue(dialogue: Option<DialogueView>) -> bool
     }
 }
 
-/// Returns whether the portion is a dialogue abort by the user.
-fn is_user_abort(dialogue: Option<DialogueView>) -> bool
+/// Returns whether the portion is a dialogue abort, ABRT, by the user.
+pub fn is_user_abort(dialogue: Option<DialogueView>) -> bool
     ensures { result ≡ is_user_abort (option_map dialogue_of dialogue.entry) }
 {
     match dialogue {

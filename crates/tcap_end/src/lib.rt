@@ -28,6 +28,7 @@ mod table_text;
 mod unidirectional;
 
 pub use class::{reports, reports_neither};
+pub use dialogues::{accepts_dialogue, is_request, is_response, is_user_abort, refuses_dialogue};
 pub use end_state::EndState;
 pub use fault::EndFault;
 pub use half::{HalfName, InvocationState, Phase, Slot, Standing};

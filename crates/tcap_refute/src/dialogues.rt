@@ -2,57 +2,17 @@
 
 ghost use Rattle.std.specs.Prelude.{◌≡◌, option_map};
 ghost use Rattle.tcap_parts.specs.DialogueMeaning.{dialogue_of};
-ghost use Rattle.tcap_end.specs.Dialogue.{accepts_dialogue, is_request, is_uni, refuses_dialogue};
+ghost use Rattle.tcap_end.specs.Dialogue.{is_uni};
 ghost use Rattle.tcap_refute.specs.Kind.{is_misplaced_aborting, is_misplaced_going_on};
 
-use tcap_parts::{DialogueView, SourceView};
-
-/// Returns whether this is an AARQ.
-pub(crate) fn is_request(dialogue: Option<DialogueView>) -> bool
-    ensures { result ≡ is_request (option_map dialogue_of dialogue.entry) }
-{
-    matches!(dialogue, Some(DialogueView::Request { .. }))
-}
+use tcap_end::{accepts_dialogue, refuses_dialogue};
+use tcap_parts::DialogueView;
 
 /// Returns whether this is an AUDT.
 pub(crate) fn is_uni(dialogue: Option<DialogueView>) -> bool
     ensures { result ≡ is_uni (option_map dialogue_of dialogue.entry) }
 {
     matches!(dialogue, Some(DialogueView::Uni { .. }))
-}
-
-/// Returns whether this is an AARE that accepts the dialogue.
-fn accepts_dialogue(dialogue: Option<DialogueView>) -> bool
-    ensures { result ≡ accepts_dialogue (option_map dialogue_of dialogue.entry) }
-{
-    match dialogue {
-        Some(
-            DialogueView::Response {
-                result,
-                diagnostic,
-                ..
-            },
-        ) => match diagnostic {
-            SourceView::User(n) | SourceView::Provider(n) => result.number == 0 && n.number == 0,
-        },
-        _ => false,
-    }
-}
-
-/// Returns whether this is an AARE by which a user refuses the dialogue.
-fn refuses_dialogue(dialogue: Option<DialogueView>) -> bool
-    ensures { result ≡ refuses_dialogue (option_map dialogue_of dialogue.entry) }
-{
-    match dialogue {
-        Some(
-            DialogueView::Response {
-                result,
-                diagnostic: SourceView::User(n),
-                ..
-            },
-        ) => result.number == 1 && n.number < 3,
-        _ => false,
-    }
 }
 
 /// Returns whether a Continue or an End may not carry this. `is_asked` is whether the peer sent an AARQ.

@@ -8,11 +8,11 @@ ghost use Rattle.tcap_refute.specs.KeptFacts.{told_by_from};
 ghost use Rattle.tcap_refute.specs.KindsByFacts.{cause_is_unfounded, comes_after_end, dialogue_is_misplaced, id_is_reused, kind_by, kind_of_ids, kind_of_parts, transaction_is_unknown, was_not_asked};
 
 use crate::components::component_of;
-use crate::dialogues::{is_misplaced_aborting, is_misplaced_going_on, is_request, is_uni};
+use crate::dialogues::{is_misplaced_aborting, is_misplaced_going_on, is_uni};
 use crate::kind::Kind;
 use crate::sent_from_id::FromId;
 use tcap_ber::SmallView;
-use tcap_end::Table;
+use tcap_end::{Table, is_request};
 use tcap_msg::{Kind as Form, MessageParts, TransactionIdView};
 
 /// Returns whether a Begin was sent from the ID.

@@ -10,11 +10,10 @@ ghost use Rattle.tcap_refute.specs.Facts.{FromFact, IdFact, noted_id, shows, sho
 ghost use Rattle.tcap_refute.specs.KeptFacts.{holds, is_elsewhere, tells, tells_from};
 ghost use Rattle.tcap_refute.specs.NotesUpdate.{IsHeaded, IsSameHead, toward_with};
 
-use crate::dialogues::is_request;
 use crate::sent_with_invoke_id::ById;
 use std::alloc::{AllocError, Global};
 use std::collections::BTreeMap;
-use tcap_end::Table;
+use tcap_end::{Table, is_request};
 use tcap_msg::{Kind as Form, MessageParts, TransactionId, TransactionIdView};
 use tcap_parts::{ComponentView, Components};
 

@@ -3,7 +3,6 @@
 ghost use Rattle.std.specs.Prelude.{◌≡◌, ℕ, Bool, List, option_map};
 ghost use Rattle.tcap_parts.specs.DialogueMeaning.{dialogue_of};
 ghost use Rattle.tcap_record.specs.declared.entry.End.{End as Side};
-ghost use Rattle.tcap_end.specs.Dialogue.{is_user_abort};
 ghost use Rattle.tcap_end.specs.Table.{Table};
 ghost use Rattle.tcap_model.specs.World.{Item};
 ghost use Rattle.tcap_faults.specs.KeptForMessage.{IsThere};
@@ -14,16 +13,9 @@ ghost use Rattle.tcap_faults.specs.HalfByPeerId.{HalfOf};
 use crate::dialogue::half::Half;
 use crate::dialogue::half_origin::How;
 use crate::transaction::lookup::There;
-use crate::transaction::sent_from_id::is_response;
+use tcap_end::{is_response, is_user_abort};
 use tcap_msg::{Kind as Form, MessageParts};
 use tcap_parts::DialogueView;
-
-/// Returns whether this is an ABRT of the user.
-fn is_user_abort(dialogue: Option<DialogueView>) -> bool
-    ensures { result ≡ is_user_abort (option_map dialogue_of dialogue.entry) }
-{
-    matches!(dialogue, Some(DialogueView::Abort { source, .. }) if source.number == 0)
-}
 
 /// Returns whether a dialogue portion does not fit in a Continue or an End.
 fn is_wrong_going_on(is_first: bool, has_request: bool, dialogue: Option<DialogueView>) -> bool

@@ -1,12 +1,10 @@
 //! What an end sent from one transaction ID since the last quiet mark.
 
-ghost use Rattle.std.specs.Prelude.{◌≡◌, [], ◌∷◌, ◌++◌, ℕ, true, false, List, Some, IfOk, OnOk, nat_le, option_copied, option_map};
+ghost use Rattle.std.specs.Prelude.{◌≡◌, [], ◌∷◌, ◌++◌, ℕ, true, false, List, Some, IfOk, OnOk, nat_le, option_copied};
 ghost use Rattle.std.specs.List.{list_any};
-ghost use Rattle.tcap_parts.specs.DialogueMeaning.{dialogue_of};
 ghost use Rattle.tcap_msg.specs.declared.kind.Kind.TheVariants as forms;
 ghost use Rattle.tcap_msg.specs.declared.message.Message.{Message};
 ghost use Rattle.tcap_record.specs.declared.entry.End.{End as Side};
-ghost use Rattle.tcap_end.specs.Dialogue.{is_request, is_response};
 ghost use Rattle.tcap_end.specs.Table.{Table};
 ghost use Rattle.tcap_model.specs.World.{Item};
 ghost use Rattle.tcap_refute.specs.EarlierMessages.{is_a};
@@ -22,9 +20,8 @@ use crate::transaction::id_list::Ids;
 use crate::transaction::messages_at_id::{OfMessages, note_at};
 use std::alloc::{AllocError, Global};
 use std::collections::BTreeMap;
-use tcap_end::Table;
+use tcap_end::{Table, is_request, is_response};
 use tcap_msg::{Kind as Form, MessageParts, TransactionId};
-use tcap_parts::DialogueView;
 use tcap_refute::FromId;
 
 /// The Continues from one ID to another.
@@ -60,20 +57,6 @@ pub(crate) struct SentFrom {
     pub(crate) to: Ids,
     /// The Continues, by their destination IDs.
     pub(crate) came: BTreeMap<TransactionId, Came>,
-}
-
-/// Returns whether this is an AARQ.
-pub(crate) fn is_request(dialogue: Option<DialogueView>) -> bool
-    ensures { result ≡ is_request (option_map dialogue_of dialogue.entry) }
-{
-    matches!(dialogue, Some(DialogueView::Request { .. }))
-}
-
-/// Returns whether this is an AARE.
-pub(crate) fn is_response(dialogue: Option<DialogueView>) -> bool
-    ensures { result ≡ is_response (option_map dialogue_of dialogue.entry) }
-{
-    matches!(dialogue, Some(DialogueView::Response { .. }))
 }
 
 impl OfMessages for Came {
