@@ -9,7 +9,7 @@ ghost use Rattle.tcap_record.specs.Ends.{letter};
 ghost use Rattle.tcap_record.specs.Lines.{head_text, line_end};
 ghost use Rattle.tcap_evidence.specs.EvidenceWords.{component_shown, component_words, doubt_lines, entries_words, entry_line, evidence_text, fault_text, ground_line, half_line, how_words, id_words, is_for, lacks, mark_line, message_text, more_words, number_behind, open_words, own_words, sentence_words, sorted, sorted_in, told_text, what_words};
 
-use crate::finding::{Evidence, Ground, component_at, entry_at, find_evidence};
+use crate::finding::{Evidence, Ground, component_at, find_evidence};
 use crate::operation_lines::push_invocations;
 use crate::shown_things::What;
 use crate::words::{
@@ -349,7 +349,7 @@ pub fn push_fault(
         ++ fault_text table.now end (slice_get «record».now.entries.items at.entry) at found.now.about found.now.id
         (map (λ g. (g.what, g.entries.items)) found.now.grounds.items)) }
 {
-    match entry_at(record, at.entry) {
+    match record.entry_at(at.entry) {
         Some(
             Entry {
                 side: Some(_),

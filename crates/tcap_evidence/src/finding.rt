@@ -1,6 +1,6 @@
 //! Finds the evidence for a fault of an end (Q.771, Q.773, Q.774).
 
-ghost use Rattle.std.specs.Prelude.{◌≡◌, ℕ, [], ◌∷◌, List, IfOk, false, map, option_map, slice_get};
+ghost use Rattle.std.specs.Prelude.{◌≡◌, ℕ, [], ◌∷◌, List, IfOk, false, map, option_map};
 ghost use Rattle.std.specs.List.{list_any};
 ghost use Rattle.tcap_parts.specs.Meaning.{component_of};
 ghost use Rattle.tcap_msg.specs.Parts.{components_in, dtid_in};
@@ -53,15 +53,8 @@ pub struct Evidence {
     pub invocations: Vec<Invocation>,
 }
 
-/// Returns the entry with this number.
-pub(crate) fn entry_at(record: &Record, number: u64) -> Option<&Entry>
-    ensures { option_map (λ e. e.now) result ≡ slice_get «record».now.entries.items number }
-{
-    record.entries.get(number as usize)
-}
-
-/// Returns the component with this number.
-pub(crate) fn component_at(message: &Message, number: Option<u64>) -> Option<ComponentView<'_>>
+/// Returns the component with this number, if there is one.
+pub fn component_at(message: &Message, number: Option<u64>) -> Option<ComponentView<'_>>
     ensures { option_map component_of result ≡ component_at number (components_in message.now) }
 {
     message.components().nth(number? as usize)
@@ -204,7 +197,7 @@ pub(crate) fn grounds_for(
         entry: number,
         kind: Kind::BadMessage,
     };
-    match entry_at(record, number) {
+    match record.entry_at(number) {
         Some(
             Entry {
                 side: Some(_),
@@ -277,7 +270,7 @@ pub fn find_evidence(
 {
     let about = subject_of(alloc, record, table, end, at, of_one)?;
     let stretch = stretch_before(alloc, record, end, at.entry)?;
-    match entry_at(record, at.entry) {
+    match record.entry_at(at.entry) {
         Some(entry) => match (entry.side, &entry.body) {
             (Some(_), Body::Good(message)) => {
                 Ok(of_message(alloc, stretch, table, message, at, about)?)

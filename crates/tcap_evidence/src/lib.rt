@@ -17,7 +17,7 @@ mod unblamed;
 mod words;
 
 pub use evidence_lines::{push_evidence, push_fault, push_sentence, push_what, push_why};
-pub use finding::{Evidence, Ground, find_evidence};
+pub use finding::{Evidence, Ground, component_at, find_evidence};
 pub use operations::Invocation;
 pub use shown_things::What;
 pub use unblamed::push_unblamed;

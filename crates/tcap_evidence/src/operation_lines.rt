@@ -3,28 +3,13 @@
 ghost use Rattle.std.specs.Prelude.{◌≡◌, ◌++◌, OnOk, Some};
 ghost use Rattle.std.specs.List.{flat_map};
 ghost use Rattle.std.specs.String.{string_bytes};
-ghost use Rattle.tcap_record.specs.Lines.{code_text};
 ghost use Rattle.tcap_evidence.specs.EvidenceWords.{class_text, invocation_line, invocation_lines, link_text, more_invocations};
 
 use crate::evidence_lines::{MOST, push_more};
 use crate::operations::Invocation;
 use std::alloc::AllocError;
 use tcap_end::Table;
-use tcap_parts::Code;
-use tcap_record::push_hex;
-
-/// Appends an operation code; a global one follows `g:`.
-fn push_code(text: &mut String, code: &Code) -> Result<(), AllocError>
-    ensures { OnOk result (string_bytes text.new ≡ string_bytes text.old ++ code_text code.now) }
-{
-    match code {
-        Code::Local(number) => write!(text, "{number}"),
-        Code::Global(id) => {
-            text.push_str("g:")?;
-            push_hex(text, id.octets())
-        }
-    }
-}
+use tcap_record::push_code;
 
 /// Appends the class of an operation.
 fn push_class(text: &mut String, class: Option<u8>) -> Result<(), AllocError>
@@ -68,8 +53,9 @@ fn push_invocation(
     write!(text, "  invocation {id}")?;
     write!(text, " in entry {number}")?;
     text.push_str(" is of ")?;
-    push_code(text, &invocation.code)?;
-    push_class(text, table.class_of(invocation.code.view()))?;
+    let code = invocation.code.view();
+    push_code(text, code)?;
+    push_class(text, table.class_of(code))?;
     push_linked(text, invocation.linked)?;
     text.push_str("\n")
 }

@@ -28,8 +28,8 @@ fn push_parameter(text: &mut String, parameter: Option<RawView>) -> Result<(), A
     }
 }
 
-/// Appends an operation code or an error code.
-fn push_code(text: &mut String, code: CodeView) -> Result<(), AllocError>
+/// Appends an operation code or an error code; a global one follows `g:`.
+pub fn push_code(text: &mut String, code: CodeView) -> Result<(), AllocError>
     ensures { OnOk result (string_bytes text.new ≡ string_bytes text.old ++ code_text (code_of code.entry)) }
 {
     match code {

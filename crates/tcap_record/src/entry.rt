@@ -1,6 +1,6 @@
 //! The entries of a record.
 
-ghost use Rattle.std.specs.Prelude.{◌≡◌, IfOk};
+ghost use Rattle.std.specs.Prelude.{◌≡◌, ◌<◌, ◌^◌, IfOk, IsSome, option_copied, slice_get};
 ghost use Rattle.tcap_record.specs.EntryView.{body_read, entry_read};
 
 use std::alloc::{AllocError, Global};
@@ -152,4 +152,14 @@ impl EntryView<'_> {
 pub struct Record {
     /// The entries, numbered from 0.
     pub entries: Vec<Entry>,
+}
+
+impl Record {
+    /// Returns the entry with this number, if there is one.
+    pub fn entry_at(&self, number: u64) -> Option<&Entry>
+        ensures entry { option_copied result ≡ slice_get self.now.entries.items number }
+        ensures small { IsSome result → number < 2 ^ 63 }
+    {
+        self.entries.get(number as usize)
+    }
 }

@@ -17,7 +17,7 @@ mod packing;
 mod printing;
 mod reading;
 
-pub use component_lines::push_component;
+pub use component_lines::{push_code, push_component};
 pub use digits::push_hex;
 pub use entry::{Body, BodyView, End, Entry, EntryView, Record};
 pub use entry_lines::{push_fault, push_view};

@@ -1,6 +1,6 @@
 //! What is kept of the entries before one entry of a record.
 
-ghost use Rattle.std.specs.Prelude.{◌≡◌, ◌+◌, ◌<◌, ◌^◌, List, [], ◌∷◌, ◌++◌, slice_get, Some, IsSome, option_copied, IfOk, OnOk};
+ghost use Rattle.std.specs.Prelude.{◌≡◌, ◌+◌, List, [], ◌∷◌, ◌++◌, slice_get, Some, IfOk, OnOk};
 ghost use Rattle.tcap_record.specs.declared.entry.Entry.{Entry};
 ghost use Rattle.tcap_model.specs.Entries.{item_of};
 ghost use Rattle.tcap_model.specs.World.{Item};
@@ -23,14 +23,6 @@ pub(crate) struct Replay {
     pub(crate) kept: Facts,
     /// The number of the first entry since the last quiet mark in which the end used an own ID again.
     pub(crate) again: Option<u64>,
-}
-
-/// Returns the entry with this number, if there is one.
-pub(crate) fn entry_at(record: &Record, number: u64) -> Option<&Entry>
-    ensures entry { option_copied result ≡ slice_get «record».now.entries.items number }
-    ensures small { IsSome result → number < 2 ^ 63 }
-{
-    record.entries.get(number as usize)
 }
 
 impl Facts {

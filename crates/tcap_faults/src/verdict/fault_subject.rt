@@ -10,7 +10,6 @@ ghost use Rattle.tcap_faults.specs.FaultSubject.{no_subject, subject, subject_by
 use crate::component::component_faults::{faults_of, first_faults};
 use crate::dialogue::half_origin::How;
 use crate::transaction::history::Facts;
-use crate::verdict::earlier_entries::entry_at;
 use crate::verdict::first_fault::entry_count;
 use std::alloc::{AllocError, Global};
 use tcap_end::Table;
@@ -122,7 +121,7 @@ pub fn subject_of(
 ) -> Result<Subject, SearchFault>
     ensures { IfOk result (λ s. s ≡ subject_of of_one table.now end «record».now.entries.items at) }
 {
-    let Some(entry) = entry_at(record, at.entry) else {
+    let Some(entry) = record.entry_at(at.entry) else {
         return Ok(no_subject());
     };
     let kept = Facts::for_entry(alloc, record, table, end, at.entry, entry)?;

@@ -9,7 +9,7 @@ ghost use Rattle.tcap_faults.specs.SearchState.{IsKept};
 ghost use Rattle.tcap_faults.specs.Unblamed.{is_mark, tangled_at, unblamed_at, unblamed_by};
 
 use crate::transaction::history::Facts;
-use crate::verdict::earlier_entries::{Replay, entry_at};
+use crate::verdict::earlier_entries::Replay;
 use crate::verdict::unblamed_reason::{TangledId, Unblamed};
 use std::alloc::Global;
 use tcap_end::Table;
@@ -76,7 +76,7 @@ pub fn unblamed(
     ensures { IfOk result (λ u. u ≡ unblamed_at table.now end «record».now.entries.items number) }
 {
     let mut replay = Replay::before(alloc, record, table, end, number)?;
-    let Some(entry) = entry_at(record, number) else {
+    let Some(entry) = record.entry_at(number) else {
         return Ok(unblamed_by(replay.again, None));
     };
     if is_mark(entry) {

@@ -10,7 +10,7 @@ returns-in_ok-of_message-in-Some-Good c =
     let found = c.in_ok-of_message-in-Some-Good.ensures in
     let evidence =
     good c.args.of_one c.args.table.now c.args.end entries c.args.at c.in-Some.entry.now c.in-Some-Good.field-0-0
-    c.in-Some-Good.message c.in_ok-about.about c.in_ok-about.ensures (sym c.in-Some.ensures) c.in-Some-Good.is-0 c.in-Some-Good.is-1 in
+    c.in-Some-Good.message c.in_ok-about.about c.in_ok-about.ensures (sym c.in-Some.ensures.entry) c.in-Some-Good.is-0 c.in-Some-Good.is-1 in
     record {
       grounds = found.grounds c.args.end entries c.in_ok-stretch.ensures.0 c.in_ok-stretch.ensures.1 ∙ evidence.0;
       about = found.about ∙ c.in_ok-about.ensures;
@@ -23,7 +23,7 @@ returns-in_ok-of_mark-in-None-Quiet c =
     let entries = c.args.record.now.entries.items in
     let found = c.in_ok-of_mark-in-None-Quiet.ensures in
     let evidence =
-    mark c.args.of_one c.args.table.now c.args.end entries c.args.at c.in-Some.entry.now (sym c.in-Some.ensures)
+    mark c.args.of_one c.args.table.now c.args.end entries c.args.at c.in-Some.entry.now (sym c.in-Some.ensures.entry)
     c.in-None-Quiet.is-0 c.in-None-Quiet.is-1 in
     record {
       grounds = found.grounds c.args.end entries c.args.at.entry c.in_ok-stretch.ensures.0 c.in_ok-stretch.ensures.1 ∙ evidence.0;
@@ -39,10 +39,10 @@ returns-in_default c =
     elim c.in_default.branch [
       | in_default-via-in-Some+in_default w ↦
           not_good c.args.of_one c.args.table.now c.args.end c.args.record.now.entries.items c.args.at c.in-Some.entry.now
-          w.in_default.field-0-0 (sym c.in-Some.ensures) w.in_default.is-0 w.in_default.not-Good-1
+          w.in_default.field-0-0 (sym c.in-Some.ensures.entry) w.in_default.is-0 w.in_default.not-Good-1
       | in_default-via-in-None+in_default w ↦
           not_quiet c.args.of_one c.args.table.now c.args.end c.args.record.now.entries.items c.args.at c.in-Some.entry.now
-          (sym c.in-Some.ensures) w.in_default.is-0 w.in_default.not-Quiet-1
+          (sym c.in-Some.ensures.entry) w.in_default.is-0 w.in_default.not-Quiet-1
     ] in
     record {
       grounds = ap (map (λ g. (g.what, g.entries.items))) found.grounds ∙ none.0;
@@ -55,7 +55,7 @@ pub returns-in-None : goal.returns-in-None
 returns-in-None c =
     let found = c.none_of-in-None.ensures in
     let none =
-    not_there c.args.of_one c.args.table.now c.args.end c.args.record.now.entries.items c.args.at (sym c.in-None.ensures) in
+    not_there c.args.of_one c.args.table.now c.args.end c.args.record.now.entries.items c.args.at (sym c.in-None.ensures.entry) in
     record {
       grounds = ap (map (λ g. (g.what, g.entries.items))) found.grounds ∙ none.0;
       about = found.about ∙ c.in_ok-about.ensures;

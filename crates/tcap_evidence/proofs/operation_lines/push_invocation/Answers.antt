@@ -28,8 +28,9 @@ returns c =
     let e2 = also t t1 t2 a1 entry_words e1 c.in_ok-write-2.ensures.bytes
     ∙ ap (λ x. t ++ x) (sym (append_assoc a1 (codes " in entry ") (decimal i.entry))) in
     let e3 = also t t2 t3 a2 (codes " is of ") e2 c.in_ok-push_str.ensures.bytes in
-    let e4 = also t t3 t4 a3 (code_text i.code) e3 c.in_ok-push_code.ensures in
-    let known = c.class_of.ensures.exact ∙ ap (class_of c.args.table.now) c.view.ensures in
+    let e4 = also t t3 t4 a3 (code_text i.code) e3
+    (c.in_ok-push_code.ensures ∙ ap (λ x. t3 ++ code_text x) c.view-code.ensures) in
+    let known = c.class_of.ensures.exact ∙ ap (class_of c.args.table.now) c.view-code.ensures in
     let e5 = also t t4 t5 a4 (class_text class) e4 (c.in_ok-push_class.ensures ∙ ap (λ x. t4 ++ class_text x) known) in
     let e6 = also t t5 t6 a5 (link_text i.linked) e5 c.in_ok-push_linked.ensures in
     at_last c.push_str-2.result t t6 (string_bytes c.push_str-2.new.self) a6 line_end t6 e6 c.push_str-2.ensures.bytes
