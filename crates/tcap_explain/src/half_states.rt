@@ -6,7 +6,7 @@ use std::alloc::{AllocError, Global};
 use tcap_end::{EndState, HalfName, InvocationState, OpenHalf, Phase, Standing};
 use tcap_msg::TransactionId;
 use tcap_parts::{CodeView, ComponentView};
-use tcap_record::{End, push_component, push_hex};
+use tcap_record::{End, push_code, push_component, push_hex};
 
 /// The most operations of one invoke ID that are listed.
 const MOST: usize = 8;
@@ -27,17 +27,6 @@ fn standing_words(standing: Standing) -> &'static str {
         Standing::Without => "no dialogue",
         Standing::Asked => "a dialogue is asked for",
         Standing::Confirmed => "a dialogue is confirmed",
-    }
-}
-
-/// Appends an operation code.
-fn push_code(text: &mut String, code: CodeView) -> Result<(), AllocError> {
-    match code {
-        CodeView::Local(number) => write!(text, "{number}"),
-        CodeView::Global(id) => {
-            text.push_str("g:")?;
-            push_hex(text, id.octets)
-        }
     }
 }
 

@@ -71,19 +71,13 @@ fn push_refusal(text: &mut String, fault: CheckFault) -> Option<()> {
 
 /// Appends an end, a word and the number of an entry.
 fn push_about(text: &mut String, end: End, word: &str, number: u64) -> Option<()> {
-    let letter = match end {
-        End::A => "A",
-        End::B => "B",
-    };
+    let letter = end.letter();
     write!(text, "{letter} {word} {number}").ok()
 }
 
 /// Appends an end, a word and a half.
 fn push_of_half(text: &mut String, end: End, word: &str, name: &HalfName) -> Option<()> {
-    let letter = match end {
-        End::A => "A",
-        End::B => "B",
-    };
+    let letter = end.letter();
     write!(text, "{letter} {word}").ok()?;
     push_name(text, name)
 }

@@ -1,6 +1,6 @@
 //! Finds what a blame depends on besides the end that is blamed.
 
-ghost use Rattle.std.specs.Prelude.{◌≡◌, IfOk, false, is_none, map, option_map, slice_get, take};
+ghost use Rattle.std.specs.Prelude.{◌≡◌, IfOk, false, is_none, map, option_map, take};
 ghost use Rattle.std.specs.List.{list_any};
 ghost use Rattle.tcap_parts.specs.Meaning.{code_of, component_of};
 ghost use Rattle.tcap_msg.specs.declared.kind.Kind.TheVariants as forms;
@@ -11,30 +11,23 @@ ghost use Rattle.tcap_end.specs.Table.{operation_of};
 ghost use Rattle.tcap_model.specs.Entries.{item_of};
 ghost use Rattle.tcap_refute.specs.EarlierMessages.{is_a};
 ghost use Rattle.tcap_refute.specs.Kind.{is_unknown_operation};
-ghost use Rattle.tcap_evidence.specs.Evidence.{component_at};
 ghost use Rattle.tcap_traces.specs.Verdict.{doubt_of, faulty_component, heard_id, invokes_lacking, is_begun_by_peer, is_from, is_heard, is_heard_with, is_silent, lacks_heard, may_be_over, message_at, rests_on_lack, rests_on_table, sends_lacking};
 
 use crate::end_result::{Circumstances, Doubt};
 use std::alloc::{AllocError, Global};
 use tcap_end::Table;
+use tcap_evidence::component_at;
 use tcap_faults::subject_of;
 use tcap_msg::{Message, MessageParts, TransactionIdView};
 use tcap_parts::{CodeView, ComponentView, ProblemView};
 use tcap_record::{Body, End, Entry, Record};
 use tcap_refute::{Kind, Refutation};
 
-/// Returns the entry with this number.
-fn entry_at(read: &Record, number: u64) -> Option<&Entry>
-    ensures { option_map (λ e. e.now) result ≡ slice_get read.now.entries.items number }
-{
-    read.entries.get(number as usize)
-}
-
 /// Returns the message of this entry, if it is one.
 fn message_at(read: &Record, number: u64) -> Option<&Message>
     ensures { option_map (λ m. m.now) result ≡ message_at read.now.entries.items number }
 {
-    let entry = entry_at(read, number)?;
+    let entry = read.entry_at(number)?;
     match (entry.side, &entry.body) {
         (Some(_), Body::Good(message)) => Some(message),
         _ => None,
@@ -47,13 +40,6 @@ fn entries_before(read: &Record, number: u64) -> &[Entry]
 {
     let entries = read.entries.as_slice();
     &entries[..entries.len().min(number as usize)]
-}
-
-/// Returns the component with this number.
-fn component_at(message: &Message, number: Option<u64>) -> Option<ComponentView<'_>>
-    ensures { option_map component_of result ≡ component_at number (components_in message.now) }
-{
-    message.components().nth(number? as usize)
 }
 
 /// Returns the component at fault, if there is one. Fails if memory runs out.
