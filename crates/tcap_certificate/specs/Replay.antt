@@ -5,6 +5,7 @@
 -- anything (`Tells`), if the fates keep its messages in order. A message that the judged end cannot receive is lost.
 -- All that the judged end sends is lost at once, since it does not matter what the peer receives.
 use Rattle.std.specs.Prelude.{ℕ, ℤ, ◌+◌, ◌*◌, Bool, true, false, List, [], ◌∷◌, ◌++◌, map, length, drop, filter, filter_map, slice_get, Option, Some, None, Result, Ok, Err, ok_or, ◌==◌, ◌&&◌, ◌||◌, not, nat_lt, nat_le, cond, option_map}
+use Rattle.std.specs.Option.{option_or}
 use Rattle.tcap_msg.specs.declared.message.AbortReason.TheVariants.{Cause}
 use Rattle.tcap_msg.specs.declared.message.Message.{Message}
 use Rattle.tcap_msg.specs.declared.message.Message.TheVariants.{Abort}
@@ -172,11 +173,6 @@ expiries_replayed table c (x ∷ more) r = do
   next ← happens table c event (HiddenRefused faults.CannotExpire) x.entry r
   expiries_replayed table c more next
 
--- the first value, or the second if there is no first
-abbrev pub or_else : {A : Type 0} → Option A → Option A → Option A
-or_else None other = other
-or_else (Some a) other = Some a
-
 -- the reason why an end cannot receive a message, if it cannot
 abbrev pub why_not : Result End EndFault → List EndFault
 why_not (Ok e) = []
@@ -203,7 +199,7 @@ heard table c side number r = by (lost_from_front c (other side) r)
   where
     by : Replay → Result Replay CheckFault
     by before = ok_or
-        (or_else (stepped table (Receives side number) before) (discarded table side number before))
+        (option_or (stepped table (Receives side number) before) (discarded table side number before))
         (fault_at BadReply number)
 
 -- whether the fate g of a message is this gap, and the message comes to a judged end

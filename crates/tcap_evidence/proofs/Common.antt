@@ -1,5 +1,6 @@
 -- The names that most proofs of this crate cite, passed on from one place. Declares nothing.
 pub use Rattle.std.proofs.Common.{◌≡◌, ◌<◌, length, get_or, ℕ, Bool, true, false, cond, List, [], ◌∷◌, Option, Some, None, refl, map, take, Ok, Err, sym, ap, ◌∙◌, ◌+◌, ◌≤◌, ◌++◌, append_assoc, drop, filter, flat_map, not, ◌&&◌, ◌||◌, ap₂, Result, ◌⊎◌, arith, to_z-of_z}
+pub use Rattle.std.specs.Option.{option_or}
 pub use Rattle.std.proofs.lemmas.Iterator.Consumers.{YieldsList-from_first}
 pub use Rattle.std.proofs.lemmas.List.{append-nil}
 pub use Rattle.std.proofs.lemmas.Result.{on_ok_weaker, IfOk-weaker}
@@ -27,7 +28,6 @@ pub use Rattle.tcap_model.specs.Entries.{item_by, item_of}
 pub use Rattle.tcap_model.specs.World.{Item, Sent}
 pub use Rattle.tcap_model.specs.declared.reason.Reason.{Reason}
 pub use Rattle.tcap_refute.specs.EarlierMessages.{since_quiet, is_a, sent_by}
-pub use Rattle.tcap_refute.specs.Kind.{or_else}
 pub use Rattle.tcap_refute.specs.declared.kind.Kind.{Kind}
 pub use Rattle.tcap_refute.specs.declared.kind.Refutation.{Refutation}
 pub use Rattle.tcap_faults.specs.FaultSubject.{items_among}

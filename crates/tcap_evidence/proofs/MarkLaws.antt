@@ -1,5 +1,5 @@
 -- The halves that are open at a quiet mark, from the stored facts on both ends.
-use Rattle.tcap_evidence.proofs.Common.{◌≡◌, ℕ, ◌+◌, ◌<◌, Bool, true, false, cond, not, ◌&&◌, ◌||◌, List, [], ◌∷◌, Option, Some, None, drop, get_or, length, map, refl, sym, ap, ap₂, ◌∙◌, is_at, find, list_any, lookup, Message, dtid_in, otid_in, other, is_id, octets_cmp, is_a, sent_by, or_else, SentEntry, ended_to, first_to, messages_of, Numbered, entries_where, numbered_of, Scene, is_open_continue}
+use Rattle.tcap_evidence.proofs.Common.{◌≡◌, ℕ, ◌+◌, ◌<◌, Bool, true, false, cond, not, ◌&&◌, ◌||◌, List, [], ◌∷◌, Option, Some, None, drop, get_or, length, map, refl, sym, ap, ap₂, ◌∙◌, is_at, find, list_any, lookup, Message, dtid_in, otid_in, other, is_id, octets_cmp, is_a, sent_by, option_or, SentEntry, ended_to, first_to, messages_of, Numbered, entries_where, numbered_of, Scene, is_open_continue}
 use Rattle.std.proofs.Common.{bytes_eq, is_some}
 use Rattle.std.specs.BTreeSet as set
 use Rattle.std.proofs.lemmas.Map.Lookups.{exact_bytes}
@@ -38,22 +38,22 @@ first_goes id (Continue otid dtid dialogue components ∷ ms) = by (bytes_eq id 
   where
     by : (b : Bool)
         → first_to id ms ≡ then_so (find (λ m. is_a forms.Continue m && is_id id (otid_in m)) ms) dtid_in
-        → or_else (where_so b (Some dtid)) (first_to id ms)
+        → option_or (where_so b (Some dtid)) (first_to id ms)
         ≡ then_so (cond b (Some (Continue otid dtid dialogue components)) (find (λ m. is_a forms.Continue m && is_id id (otid_in m)) ms)) dtid_in
     by true rest = refl
     by false rest = rest
 first_goes id (m ∷ ms) = first_goes id ms
 
-or_else_none : {A : Type 0} (o : Option A) → o ≡ or_else o None
-or_else_none None = refl
-or_else_none (Some a) = refl
+option_or_none : {A : Type 0} (o : Option A) → o ≡ option_or o None
+option_or_none None = refl
+option_or_none (Some a) = refl
 
 module _ (old : List (List ℕ × List ℕ)) (otid dtid : List ℕ) where
   -- The destination of a Continue is noted if none went from the same ID before.
   pub first_noted : (new : List (List ℕ × List ℕ)) → is_some (lookup (is_at (octets_cmp otid)) old) ≡ false
       → Puts old new otid dtid
       → (id : List ℕ) → lookup (is_at (octets_cmp id)) new
-      ≡ or_else (lookup (is_at (octets_cmp id)) old) (where_so (bytes_eq id otid) (Some dtid))
+      ≡ option_or (lookup (is_at (octets_cmp id)) old) (where_so (bytes_eq id otid) (Some dtid))
   first_noted new none puts id = puts id ∙ by (is_at (octets_cmp otid) id) refl
     where
       nothing : (o : Option (List ℕ)) → is_some o ≡ false → o ≡ None
@@ -62,13 +62,13 @@ module _ (old : List (List ℕ × List ℕ)) (otid dtid : List ℕ) where
 
       by : (b : Bool) → is_at (octets_cmp otid) id ≡ b
           → cond b (Some dtid) (lookup (is_at (octets_cmp id)) old)
-          ≡ or_else (lookup (is_at (octets_cmp id)) old) (where_so (bytes_eq id otid) (Some dtid))
+          ≡ option_or (lookup (is_at (octets_cmp id)) old) (where_so (bytes_eq id otid) (Some dtid))
       by true same =
           let one : otid ≡ id = tells_apart exact_bytes otid id same in
           let gone : lookup (is_at (octets_cmp id)) old ≡ None =
           ap (λ key. lookup (is_at (octets_cmp key)) old) (sym one) ∙ nothing _ none in
           rw (gone, ← at_other otid id, same) refl
-      by false apart = rw (← at_other otid id, apart) (or_else_none _)
+      by false apart = rw (← at_other otid id, apart) (option_or_none _)
 
 -- ---- ended IDs
 

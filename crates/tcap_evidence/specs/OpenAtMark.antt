@@ -1,5 +1,6 @@
 -- Which halves of an end are open at a quiet mark, from the messages of both ends before it (Q.774 3.3).
 use Rattle.std.specs.Prelude.{◌≡◌, ℕ, Bool, true, false, List, [], ◌∷◌, map, Option, None, ◌&&◌, ◌||◌}
+use Rattle.std.specs.Option.{option_or}
 use Rattle.std.specs.BTreeMap.{is_at}
 use Rattle.std.specs.BTreeSet as set
 use Rattle.std.specs.List.{list_any}
@@ -13,7 +14,6 @@ use Rattle.tcap_end.specs.Table.{octets_cmp}
 use Rattle.tcap_model.specs.SinceMark.{ended_by}
 use Rattle.tcap_model.specs.Run.{where_so}
 use Rattle.tcap_refute.specs.EarlierMessages.{is_a, sent_by}
-use Rattle.tcap_refute.specs.Kind.{or_else}
 use Rattle.tcap_evidence.specs.declared.mark.Halves.{Halves}
 use Rattle.tcap_evidence.specs.declared.sent.Sent.{Sent as SentEntry}
 use Rattle.tcap_evidence.specs.declared.shown_things.What.{What}
@@ -36,7 +36,7 @@ goes_first id m = where_so (is_a forms.Continue m && is_id id (otid_in m)) (dtid
 -- the ID to which the first Continue from this ID goes
 abbrev pub first_to : List ℕ → List Message → Option (List ℕ)
 first_to id [] = None
-first_to id (m ∷ more) = or_else (goes_first id m) (first_to id more)
+first_to id (m ∷ more) = option_or (goes_first id m) (first_to id more)
 
 -- whether this thing is shown for a quiet mark only
 abbrev pub is_of_mark : What → Bool

@@ -1,6 +1,7 @@
 -- What is known of a message at fault, and which entries show its fault. Known are the messages of each end since the
 -- last quiet mark, the half over which the message would go, and the component at fault (Q.774 3.2, 3.3).
 use Rattle.std.specs.Prelude.{◌≡◌, ℕ, ℤ, Bool, true, false, List, [], ◌∷◌, ◌++◌, filter, map, option_to_list, take, slice_get, length, Option, Some, None, is_none, ◌&&◌, ◌||◌, cond}
+use Rattle.std.specs.Option.{option_or}
 use Rattle.std.specs.List.{find}
 use Rattle.tcap_parts.specs.declared.component.Component.{Component}
 use Rattle.tcap_parts.specs.declared.component.Component.TheVariants.{Invoke, ReturnResult, ReturnError, Reject}
@@ -19,7 +20,7 @@ use Rattle.tcap_model.specs.SinceMark.{ended_by}
 use Rattle.tcap_refute.specs.declared.kind.Kind.{Kind}
 use Rattle.tcap_refute.specs.declared.kind.Kind.TheVariants as kinds
 use Rattle.tcap_refute.specs.EarlierMessages.{is_a}
-use Rattle.tcap_refute.specs.Kind.{goes_elsewhere, is_begin_with_request, or_else}
+use Rattle.tcap_refute.specs.Kind.{goes_elsewhere, is_begin_with_request}
 use Rattle.tcap_faults.specs.SentToId.{goes_on_to, is_cause}
 use Rattle.tcap_faults.specs.ClosedHalves.{is_surely_open}
 use Rattle.tcap_faults.specs.declared.dialogue.half_origin.How.{How}
@@ -67,7 +68,7 @@ told_there s = filter (λ n. is_that s.to (dtid_in n.1) && is_none (cause_in n.1
 
 -- the own ID in question: that of the half or, if it is unknown, the message's originating ID
 abbrev pub own_id : Scene → Option (List ℕ)
-own_id s = or_else s.half s.from
+own_id s = option_or s.half s.from
 
 -- the items from the first one on that passes a test
 abbrev pub since_first : {A : Type 0} → (A → Bool) → List A → List A

@@ -1,13 +1,13 @@
 //! The halves of an end that are open at a quiet mark.
 
 ghost use Rattle.std.specs.Prelude.{◌≡◌, ℕ, List, IfOk, OnOk, false};
+ghost use Rattle.std.specs.Option.{option_or};
 ghost use Rattle.std.specs.BTreeMap.{is_at};
 ghost use Rattle.std.specs.BTreeSet as set;
 ghost use Rattle.std.specs.List.{list_any};
 ghost use Rattle.std.specs.Map.{lookup};
 ghost use Rattle.tcap_end.specs.End.{is_id};
 ghost use Rattle.tcap_end.specs.Table.{octets_cmp};
-ghost use Rattle.tcap_refute.specs.Kind.{or_else};
 ghost use Rattle.tcap_evidence.specs.StoredScene.{IsStretch};
 ghost use Rattle.tcap_evidence.specs.OpenAtMark.{AreHalves, ended_to, first_to, goes_first, messages_of};
 ghost use Rattle.tcap_evidence.specs.Scene.{Scene, is_open_continue, shown};
@@ -55,7 +55,7 @@ fn note_first(
     message: &Message,
 ) -> Result<(), AllocError>
     ensures { OnOk result ((id : List ℕ) → lookup (is_at (octets_cmp id)) first.new.entries
-        ≡ or_else (lookup (is_at (octets_cmp id)) first.old.entries) (goes_first id message.now)) }
+        ≡ option_or (lookup (is_at (octets_cmp id)) first.old.entries) (goes_first id message.now)) }
 {
     if let Message::Continue { otid, dtid, .. } = message {
         if !first.contains_key(otid) {

@@ -1,6 +1,7 @@
 -- What did an end do wrong, no matter what its peer did (Q.771, Q.773, Q.774)? A message has its kinds by the items
 -- before it since the last quiet mark, and the first entry with a kind is blamed on its end.
 use Rattle.std.specs.Prelude.{ℕ, ◌+◌, Bool, false, List, [], ◌∷◌, ◌++◌, map, Option, Some, None, Result, Ok, Err, ◌==◌, ◌&&◌, ◌||◌, not, nat_lt, cond}
+use Rattle.std.specs.Option.{option_or}
 use Rattle.std.specs.List.{find, list_any}
 use Rattle.tcap_msg.specs.declared.kind.Kind.TheVariants as forms
 use Rattle.tcap_msg.specs.declared.message.Message.{Message}
@@ -16,7 +17,7 @@ use Rattle.tcap_refute.specs.declared.kind.Kind.TheVariants as kinds
 use Rattle.tcap_refute.specs.declared.kind.Refutation.{Refutation}
 use Rattle.tcap_refute.specs.EarlierMessages.{asked, is_a, sent_by, since_quiet}
 use Rattle.tcap_refute.specs.FirstKinds.{first_kinds, is_of_first_kind}
-use Rattle.tcap_refute.specs.Kind.{kind_of_reason, or_else, refutation_at}
+use Rattle.tcap_refute.specs.Kind.{kind_of_reason, refutation_at}
 use Rattle.tcap_faults.specs.ClosedHalves.{all_go_to_open, is_surely_open}
 use Rattle.tcap_faults.specs.Components.{has_component, invokes_again, is_linked}
 use Rattle.tcap_faults.specs.SentToId.{is_abort_with, told}
@@ -140,7 +141,7 @@ blamed_behind table side items number [] = None
 blamed_behind table side items number ((sender, Err reason) ∷ more) =
     refutation_at number (bad_entry_of side sender reason)
 blamed_behind table side items number ((sender, Ok item) ∷ more) =
-    or_else (refutation_at number (fault_since table side (since_quiet items) item))
+    option_or (refutation_at number (fault_since table side (since_quiet items) item))
     (blamed_behind table side (items ++ item ∷ []) (number + 1) more)
 
 -- The first entry of this end, or quiet mark, that has a kind for it, with its lowest kind.

@@ -1,6 +1,7 @@
 -- What is a fault of an end about: over which half does the message go, and which component has the kind (Q.774 3.2,
 -- 3.3)?
 use Rattle.std.specs.Prelude.{ℕ, ◌+◌, Bool, List, [], ◌∷◌, ◌++◌, map, slice_get, take, Option, Some, None, Result, Ok, Err, cond}
+use Rattle.std.specs.Option.{option_or}
 use Rattle.tcap_parts.specs.declared.component.Component.{Component}
 use Rattle.tcap_msg.specs.declared.message.Message.{Message}
 use Rattle.tcap_msg.specs.Parts.{components_in, dtid_in}
@@ -16,7 +17,6 @@ use Rattle.tcap_refute.specs.declared.kind.Refutation.{Refutation}
 use Rattle.tcap_refute.specs.EarlierMessages.{since_quiet}
 use Rattle.tcap_faults.specs.Components.{invokes_again, is_linked}
 use Rattle.tcap_refute.specs.FirstComponent.{first_component, first_so}
-use Rattle.tcap_refute.specs.Kind.{or_else}
 use Rattle.tcap_faults.specs.declared.dialogue.half_origin.How.TheVariants.{Nowhere}
 use Rattle.tcap_faults.specs.declared.verdict.fault_subject.Subject.{Subject}
 use Rattle.tcap_faults.specs.ComponentKinds.{answers_again, invokes_busy, links_badly, rejects_wrongly}
@@ -50,7 +50,7 @@ alone_component cs kind = None
 -- end alone.
 abbrev pub component_of : Bool → Table → Side → List Item → Message → Kind → Option ℕ
 component_of of_one table side items m kind =
-    or_else (first_component of_one table side items m kind) (by (dtid_in m))
+    option_or (first_component of_one table side items m kind) (by (dtid_in m))
   where
     by : Option (List ℕ) → Option ℕ
     by None = alone_component (components_in m) kind

@@ -3,6 +3,7 @@
 -- active transaction, and has no rule for a peer that does any of this. So nothing that an end does over such IDs is
 -- a fault.
 use Rattle.std.specs.Prelude.{◌≡◌, ◌⊎◌, ℕ, Bool, false, List, [], ◌∷◌, ◌++◌, Contains, filter, filter_map, flat_map, Option, Some, None, ◌&&◌, ◌||◌, not, nat_le, cond}
+use Rattle.std.specs.Option.{option_or}
 use Rattle.std.specs.List.{list_any}
 use Rattle.std.specs.Str.{bytes_eq}
 use Rattle.tcap_msg.specs.declared.kind.Kind.TheVariants as forms
@@ -13,7 +14,6 @@ use Rattle.tcap_record.specs.declared.entry.End.{End as Side}
 use Rattle.tcap_record.specs.Ends.{other}
 use Rattle.tcap_model.specs.World.{Item, Sent, is_side}
 use Rattle.tcap_refute.specs.EarlierMessages.{asked, has_a, is_a, sent_by}
-use Rattle.tcap_refute.specs.Kind.{or_else}
 use Rattle.tcap_faults.specs.declared.verdict.unblamed_reason.Tangle.{Tangle}
 use Rattle.tcap_faults.specs.declared.verdict.unblamed_reason.Tangle.TheVariants.{TwoIds, BegunTwice, BothBegan, Guessed}
 use Rattle.tcap_faults.specs.declared.verdict.unblamed_reason.TangledId.{TangledId}
@@ -128,14 +128,14 @@ tangled_for of id (Some why) = Some (record { side = of; id = id; why = why })
 -- The first of these IDs of this end that is tangled.
 abbrev pub first_tangled : Side → (List ℕ → Option Tangle) → List (List ℕ) → Option TangledId
 first_tangled of why [] = None
-first_tangled of why (id ∷ more) = or_else (tangled_for of id (why id)) (first_tangled of why more)
+first_tangled of why (id ∷ more) = option_or (tangled_for of id (why id)) (first_tangled of why more)
 
 -- The first tangled ID: the peer's ID `id`; else the first own ID near it; else the first ID of the peer that is
 -- joined with one of these.
 abbrev pub tangled_id : Side → List Item → List (List ℕ) → List ℕ → Option TangledId
 tangled_id side items own id =
-    or_else (tangled_for (other side) id (tangle_of_peer side items id))
-    (or_else (first_tangled side (tangle_of_own side items) (near side items own id))
+    option_or (tangled_for (other side) id (tangle_of_peer side items id))
+    (option_or (first_tangled side (tangle_of_own side items) (near side items own id))
     (first_tangled (other side) (tangle_of_peer side items) (flat_map (peers_of side items) (near side items own id))))
 
 -- The first tangled ID that a message goes over.

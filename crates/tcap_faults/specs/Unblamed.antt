@@ -1,6 +1,7 @@
 -- Why is nothing blamed on an end at an entry? Either the end used an own ID again, so that it is unclear which
 -- transaction is meant. Or the end's message goes over tangled IDs, and the first of them is reported.
 use Rattle.std.specs.Prelude.{ℕ, ◌+◌, Bool, true, false, List, [], ◌∷◌, ◌++◌, map, slice_get, take, Option, Some, None, Result, Ok, Err, cond}
+use Rattle.std.specs.Option.{option_or}
 use Rattle.tcap_record.specs.declared.entry.End.{End as Side}
 use Rattle.tcap_record.specs.declared.entry.Entry.{Entry}
 use Rattle.tcap_end.specs.Table.{Table}
@@ -8,7 +9,6 @@ use Rattle.tcap_model.specs.declared.reason.Reason.{Reason}
 use Rattle.tcap_model.specs.World.{Item, Sent, is_side}
 use Rattle.tcap_model.specs.Entries.{item_of}
 use Rattle.tcap_refute.specs.EarlierMessages.{since_quiet}
-use Rattle.tcap_refute.specs.Kind.{or_else}
 use Rattle.tcap_faults.specs.declared.verdict.unblamed_reason.TangledId.{TangledId}
 use Rattle.tcap_faults.specs.declared.verdict.unblamed_reason.Unblamed.{Unblamed}
 use Rattle.tcap_faults.specs.declared.verdict.unblamed_reason.Unblamed.TheVariants.{UsedAgain, Tangled}
@@ -24,7 +24,7 @@ again_behind table side number (Err reason ∷ more) seen first = again_behind t
 again_behind table side number (Ok Item.Quiet ∷ more) seen first = again_behind table side (number + 1) more [] None
 again_behind table side number (Ok (Sent sender m) ∷ more) seen first =
     again_behind table side (number + 1) more (seen ++ Sent sender m ∷ [])
-    (or_else first (cond (is_used_again table side seen (Sent sender m)) (Some number) None))
+    (option_or first (cond (is_used_again table side seen (Sent sender m)) (Some number) None))
 
 -- The number of the first such entry among the first `count` entries.
 abbrev pub again_among : Table → Side → List Entry → ℕ → Option ℕ

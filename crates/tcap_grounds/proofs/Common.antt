@@ -1,5 +1,6 @@
 -- The names that most proofs of this crate cite, passed on from one place. Declares nothing.
 pub use Rattle.std.proofs.Common.{◌≡◌, ◌⊎◌, inl, inr, ℕ, ℤ, ◌+◌, ◌≤◌, ◌<◌, arith, Bool, true, false, not, ◌||◌, List, [], ◌∷◌, ◌++◌, length, take, Option, Some, None, refl, sym, ap, subst, ◌∙◌, ltb-true, cond, ◌&&◌, map, Result, Ok, Err, is_none, ◌≢◌, ◌==◌, append_assoc, append-nil, length-append, is_some, zero, suc, option_to_list, option_map}
+pub use Rattle.std.specs.Option.{option_or}
 pub use Rattle.std.proofs.lemmas.Bool.{and_from, and_parts, leb-true, or_cases, not-true, or_left, eq-eqb, or_right, or_parts, eqb-true, false_from_ne_true}
 pub use Rattle.std.proofs.lemmas.List.{length-map, map-append, take-map}
 pub use Rattle.std.proofs.lemmas.List.Elements.{Contains-append_right, Contains-append_left, filter_map-append, Contains-append_cases, Contains-push_cases, Contains-push}
@@ -33,7 +34,7 @@ pub use Rattle.tcap_model.specs.declared.reason.Reason.{Reason}
 pub use Rattle.tcap_refute.proofs.BeforeLaws.{is_that_id}
 pub use Rattle.tcap_refute.proofs.Members.{has_not, any_has, filter_has, filter_map_has, has_first, has_later}
 pub use Rattle.tcap_refute.specs.EarlierMessages.{invokes, is_invoke_id, is_a, asked, components_of, has_a, message_of, sent_by}
-pub use Rattle.tcap_refute.specs.Kind.{is_begin_with_request, or_else, goes_elsewhere}
+pub use Rattle.tcap_refute.specs.Kind.{is_begin_with_request, goes_elsewhere}
 pub use Rattle.tcap_refute.specs.declared.kind.Kind.{Kind}
 pub use Rattle.tcap_refute.specs.declared.kind.Refutation.{Refutation}
 pub use Rattle.tcap_faults.proofs.component_laws.FewSums.{count_invokes, any_same}

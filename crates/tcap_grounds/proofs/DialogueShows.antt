@@ -1,5 +1,5 @@
 -- The lists show F9: a dialogue portion that does not fit the dialogue.
-use Rattle.tcap_grounds.proofs.Common.{◌≡◌, ◌⊎◌, inl, inr, ℕ, ◌<◌, arith, Bool, true, false, cond, not, ◌&&◌, ◌||◌, List, [], ◌∷◌, Option, Some, None, is_some, refl, sym, ap, subst, ◌∙◌, ◌==◌, find, and_from, and_parts, not-true, or_cases, or_parts, eqb-true, Dialogue, Message, Begin, Continue, Abort, dialogue_in, otid_in, Side, Entry, is_response, Table, Item, asked, has_a, is_a, sent_by, is_begin_with_request, or_else, How, Accepted, Refused, Begun, Unanswered, count, is_nothing, goes_from_other, is_wrong_half, may_not_speak, HalfOf, begun_from, continued_to, half_by, half_of, heard_of, began, begin_from, is_request_of, told, was_refused, count_more, one, Scene, is_that, own_id, HasKind, ListsNone, ListsOne, items_before, many, scene_at, subject}
+use Rattle.tcap_grounds.proofs.Common.{◌≡◌, ◌⊎◌, inl, inr, ℕ, ◌<◌, arith, Bool, true, false, cond, not, ◌&&◌, ◌||◌, List, [], ◌∷◌, Option, Some, None, is_some, refl, sym, ap, subst, ◌∙◌, ◌==◌, find, and_from, and_parts, not-true, or_cases, or_parts, eqb-true, Dialogue, Message, Begin, Continue, Abort, dialogue_in, otid_in, Side, Entry, is_response, Table, Item, asked, has_a, is_a, sent_by, is_begin_with_request, option_or, How, Accepted, Refused, Begun, Unanswered, count, is_nothing, goes_from_other, is_wrong_half, may_not_speak, HalfOf, begun_from, continued_to, half_by, half_of, heard_of, began, begin_from, is_request_of, told, was_refused, count_more, one, Scene, is_that, own_id, HasKind, ListsNone, ListsOne, items_before, many, scene_at, subject}
 use Rattle.std.proofs.lemmas.Bool.{not-false}
 use Rattle.tcap_end.specs.Dialogue.{is_user_abort}
 use Rattle.tcap_faults.specs.HalfKinds.{is_provider_abort, is_wrong_aborting, is_wrong_dialogue, is_wrong_going_on}
@@ -187,7 +187,7 @@ module _ (side : Side) (items : List Item) (s : Scene) (id : List ℕ) (of : IsT
       let bad : true ≡ false = sym is ∙ unanswered_fits side items id m h how so in cc
   begun_misfits own from half false h how begin speaks is =
       let (x, has, on, goes, begun) = goes_on side items s id of own from in
-      let own_is : own_id s ≡ Some own = ap (λ (o : Option (List ℕ)). or_else o s.from) half in
+      let own_is : own_id s ≡ Some own = ap (λ (o : Option (List ℕ)). option_or o s.from) half in
       (begun_one side items s id of own own_is begun, begun_shows side items s id of few own own_is begun h how begin m is)
 
   wrong_dialogue : may_not_speak (half_of side items id).how m ≡ false

@@ -1,5 +1,5 @@
 -- The lists of a half: its Begin, the Continues to it and from it, and whether it was closed.
-use Rattle.tcap_grounds.proofs.Common.{false_from_ne_true, ◌≡◌, ◌⊎◌, inl, inr, ℕ, ◌<◌, Bool, true, false, cond, ◌&&◌, ◌||◌, List, [], ◌∷◌, Option, Some, None, is_some, option_to_list, refl, sym, ap, subst, ◌∙◌, is_none, Contains, filter, find, list_any, and_from, and_parts, Contains-append_left, Contains-append_right, Message, Begin, Continue, cause_in, dtid_in, otid_in, Side, is_id, Item, id_is, asked, has_a, is_a, sent_by, is_begin_with_request, or_else, any_has, filter_has, filter_map_has, has_not, Begun, was_closed, count, is_nothing, answered_from, begun_from, continued_to, from_first, heard_of, responds, goes_to_begun, is_own_tangled, owns_of, peers_of, began, begin_from, begins_from, goes_on_from, goes_on_to, is_request_of, told, filter_is, find_has, none_passes, entries_where, Scene, is_that, own_id, to_half, ListsOne, contains_first, is_that_id, other}
+use Rattle.tcap_grounds.proofs.Common.{false_from_ne_true, ◌≡◌, ◌⊎◌, inl, inr, ℕ, ◌<◌, Bool, true, false, cond, ◌&&◌, ◌||◌, List, [], ◌∷◌, Option, Some, None, is_some, option_to_list, refl, sym, ap, subst, ◌∙◌, is_none, Contains, filter, find, list_any, and_from, and_parts, Contains-append_left, Contains-append_right, Message, Begin, Continue, cause_in, dtid_in, otid_in, Side, is_id, Item, id_is, asked, has_a, is_a, sent_by, is_begin_with_request, option_or, any_has, filter_has, filter_map_has, has_not, Begun, was_closed, count, is_nothing, answered_from, begun_from, continued_to, from_first, heard_of, responds, goes_to_begun, is_own_tangled, owns_of, peers_of, began, begin_from, begins_from, goes_on_from, goes_on_to, is_request_of, told, filter_is, find_has, none_passes, entries_where, Scene, is_that, own_id, to_half, ListsOne, contains_first, is_that_id, other}
 use Rattle.tcap_model.specs.Run.{then_so}
 use Rattle.tcap_faults.proofs.kind_laws.HalfFacts.{not_nothing}
 use Rattle.tcap_faults.proofs.list_laws.FindLaws.{find_none}
@@ -130,7 +130,7 @@ module _ (side : Side) (items : List Item) (s : Scene) (id : List ℕ) (of : IsT
   module _ (own : List ℕ) (begins_none : has_a forms.Begin (asked side id items) ≡ false)
       (from : begun_from side items id ≡ Some own) (half : s.half ≡ Some own) where
     own_is : own_id s ≡ Some own
-    own_is = ap (λ (o : Option (List ℕ)). or_else o s.from) half
+    own_is = ap (λ (o : Option (List ℕ)). option_or o s.from) half
 
     pub starts : Begins s
     starts =

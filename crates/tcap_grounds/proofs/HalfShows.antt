@@ -1,5 +1,5 @@
 -- The lists show F8: a message that no half may send.
-use Rattle.tcap_grounds.proofs.Common.{◌≡◌, ◌≢◌, ◌⊎◌, inl, inr, ℕ, Bool, true, false, cond, ◌||◌, List, [], Option, Some, None, refl, sym, ap, subst, ◌∙◌, Contains, list_any, not-true, or_cases, or_parts, Contains-append_left, Message, Begin, Continue, dtid_in, otid_in, Side, Entry, is_id, Table, Item, id_is, asked, has_a, is_a, or_else, How, Accepted, Refused, Begun, Unanswered, was_closed, is_nothing, goes_from_other, is_wrong_half, may_not_speak, answered_from, begun_from, continued_to, half_by, half_of, heard_of, goes_over_tangled, goes_to_begun, is_own_tangled, owns_of, began, begin_from, was_refused, one, passes_not, entries_where, Scene, there, AreDifferent, HasKind, ListsOne, items_before, scene_at, is_that_id, other, subject}
+use Rattle.tcap_grounds.proofs.Common.{◌≡◌, ◌≢◌, ◌⊎◌, inl, inr, ℕ, Bool, true, false, cond, ◌||◌, List, [], Option, Some, None, refl, sym, ap, subst, ◌∙◌, Contains, list_any, not-true, or_cases, or_parts, Contains-append_left, Message, Begin, Continue, dtid_in, otid_in, Side, Entry, is_id, Table, Item, id_is, asked, has_a, is_a, option_or, How, Accepted, Refused, Begun, Unanswered, was_closed, is_nothing, goes_from_other, is_wrong_half, may_not_speak, answered_from, begun_from, continued_to, half_by, half_of, heard_of, goes_over_tangled, goes_to_begun, is_own_tangled, owns_of, began, begin_from, was_refused, one, passes_not, entries_where, Scene, there, AreDifferent, HasKind, ListsOne, items_before, scene_at, is_that_id, other, subject}
 use Rattle.tcap_faults.specs.HalfKinds.{is_another}
 use Rattle.tcap_faults.specs.TangledIds.{are_tangled, near, own_of_continue}
 use Rattle.tcap_grounds.specs.HalfEvidence.{ShowsWrongHalf}
@@ -34,7 +34,7 @@ module _ (side : Side) (items : List Item) (s : Scene) (id : List ℕ) (of : IsT
           → (began side otid items ≡ true) ⊎ (is_another otid p ≡ true)
           → ListsOne s whats.Begun ⊎ (ListsOne s whats.ContinuesTold × AreDifferent s.half s.from)
       by None answered half (inl begun) =
-          inl (begun_one side items s id of otid (ap (λ (q : Option (List ℕ)). or_else q s.from) half ∙ from) begun)
+          inl (begun_one side items s id of otid (ap (λ (q : Option (List ℕ)). option_or q s.from) half ∙ from) begun)
       by None answered half (inr another) = cc
       by (Some own) answered half (inr another) =
           inr (told_one side items s id of own answered, (own, otid, half, from, differ otid own (not-true (is_id otid (Some own)) another)))
@@ -43,7 +43,7 @@ module _ (side : Side) (items : List Item) (s : Scene) (id : List ℕ) (of : IsT
           same : (b : Bool) → is_id otid (Some own) ≡ b
               → ListsOne s whats.Begun ⊎ (ListsOne s whats.ContinuesTold × AreDifferent s.half s.from)
           same true one =
-              inl (begun_one side items s id of otid (ap (λ (q : Option (List ℕ)). or_else q s.from) half ∙ id_is otid (Some own) one) begun)
+              inl (begun_one side items s id of otid (ap (λ (q : Option (List ℕ)). option_or q s.from) half ∙ id_is otid (Some own) one) begun)
           same false two = inr (told_one side items s id of own answered, (own, otid, half, from, differ otid own two))
   other_accepted o answered half x from is = cc
 

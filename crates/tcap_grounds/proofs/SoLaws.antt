@@ -1,5 +1,5 @@
 -- The component of a message that has a kind: its number, and its scene.
-use Rattle.tcap_grounds.proofs.Common.{◌≡◌, ◌≢◌, ℕ, ℤ, zero, suc, ◌+◌, ◌≤◌, arith, Bool, true, false, cond, not, ◌||◌, List, [], ◌∷◌, ◌++◌, length, take, Option, Some, None, append_assoc, append-nil, refl, sym, ap, subst, ◌∙◌, ◌&&◌, Contains, filter, slice_get, list_any, and_parts, not-true, length-append, length-map, Component, Message, components_in, dtid_in, Side, Entry, Table, Item, Kind, components_of, or_else, any_has, has_first, has_later, AreCounted, component_with, items_before, many, scene_at, has_component, count, subject, is_wrong_half, HalfOf, half_of, is_sort, Nowhere, Sort, count_both, count_more, one, before_so, entries_so, heard_so, invoked_components, component_at, invoke_id_of, Numbered, Scene, heard_by, told_there}
+use Rattle.tcap_grounds.proofs.Common.{◌≡◌, ◌≢◌, ℕ, ℤ, zero, suc, ◌+◌, ◌≤◌, arith, Bool, true, false, cond, not, ◌||◌, List, [], ◌∷◌, ◌++◌, length, take, Option, Some, None, append_assoc, append-nil, refl, sym, ap, subst, ◌∙◌, ◌&&◌, Contains, filter, slice_get, list_any, and_parts, not-true, length-append, length-map, Component, Message, components_in, dtid_in, Side, Entry, Table, Item, Kind, components_of, option_or, any_has, has_first, has_later, AreCounted, component_with, items_before, many, scene_at, has_component, count, subject, is_wrong_half, HalfOf, half_of, is_sort, Nowhere, Sort, count_both, count_more, one, before_so, entries_so, heard_so, invoked_components, component_at, invoke_id_of, Numbered, Scene, heard_by, told_there}
 use Rattle.tcap_refute.specs.FirstComponent.{first_so}
 use Rattle.tcap_grounds.proofs.SceneLists.{IsOver, IsTo, heard_are, invoked_are, told_are, told_of}
 use Rattle.tcap_faults.specs.FaultSubject.{component_of, component_so}
@@ -90,8 +90,8 @@ pub zero_more : {o : Option ℕ} {k : ℕ} → o ≡ Some (0 + k) → o ≡ Some
 zero_more is = is ∙ ap (λ (n : ℕ). Some n) (omega arith)
 
 -- If the first search finds a component, the result is that one.
-pub first_wins : (a b : Option ℕ) (k : ℕ) → a ≡ Some (0 + k) → or_else a b ≡ Some k
-first_wins a b k is = ap (λ (o : Option ℕ). or_else o b) is ∙ ap (λ (n : ℕ). Some n) (omega arith)
+pub first_wins : (a b : Option ℕ) (k : ℕ) → a ≡ Some (0 + k) → option_or a b ≡ Some k
+first_wins a b k is = ap (λ (o : Option ℕ). option_or o b) is ∙ ap (λ (n : ℕ). Some n) (omega arith)
 
 pub scene_of_it : (of_one : Bool) (table : Table) (side : Side) (entries : List Entry) (number : ℕ) (m : Message)
     (kind : Kind) (k : ℕ) (c : Component)

@@ -1,5 +1,6 @@
 -- The kinds that the notes give are the kinds that the list gives.
 use Rattle.std.proofs.Common.{◌≡◌, ℕ, Bool, true, false, cond, ◌&&◌, ◌||◌, List, [], ◌∷◌, Option, Some, None, refl, sym, ap, ◌∙◌, arith}
+use Rattle.std.specs.Option.{option_or}
 use Rattle.std.proofs.Math.Path.{fun_ext}
 use Rattle.std.specs.List.{find, list_any}
 use Rattle.tcap_msg.specs.declared.kind.Kind.TheVariants as forms
@@ -17,7 +18,7 @@ use Rattle.tcap_refute.specs.declared.kind.Kind.TheVariants as kinds
 use Rattle.tcap_refute.specs.declared.sent_from_id.FromId.{FromId}
 use Rattle.tcap_refute.specs.declared.notes.Notes.{Notes}
 use Rattle.tcap_refute.specs.EarlierMessages.{asked, sent_by, since_quiet}
-use Rattle.tcap_refute.specs.Kind.{goes_elsewhere, is_after_end, is_begin_with_request, is_misplaced_dialogue, is_reused, is_unasked, is_unknown_transaction, is_wrong_operation, lowest_kind, or_else}
+use Rattle.tcap_refute.specs.Kind.{goes_elsewhere, is_after_end, is_begin_with_request, is_misplaced_dialogue, is_reused, is_unasked, is_unknown_transaction, is_wrong_operation, lowest_kind}
 use Rattle.tcap_refute.specs.FirstKinds.{first_kinds, is_of_first_kind}
 use Rattle.tcap_refute.specs.FirstComponent.{first_component}
 use Rattle.tcap_refute.specs.Facts.{FromFact, Spoke, Asked, WentElsewhere, From, Ended, shows_from, told_by_list}
@@ -116,7 +117,7 @@ module _ (table : Table) (items : List Item) (side : Side) where
 -- ---- the lowest kind
 
 chained : {A : Type 0} (a b c : Bool) (x y z : A) (rest : Option A)
-    → or_else (cond a (Some x) (cond b (Some y) (cond c (Some z) None))) rest
+    → option_or (cond a (Some x) (cond b (Some y) (cond c (Some z) None))) rest
     ≡ cond a (Some x) (cond b (Some y) (cond c (Some z) rest))
 chained a b c x y z rest = grind arith
 

@@ -1,5 +1,6 @@
 -- What a refutation implies for all runs.
 use Rattle.std.proofs.Common.{◌≡◌, inl, inr, Bool, true, false, cond, ℕ, zero, suc, ◌+◌, List, [], ◌∷◌, ◌++◌, map, length, slice_get, Option, Some, None, Result, Ok, Err, refl, sym, ap, subst, ◌∙◌, arith}
+use Rattle.std.specs.Option.{option_or}
 use Rattle.std.specs.List.{find}
 use Rattle.std.specs.Prelude.{IfOk, IfSome}
 use Rattle.std.proofs.lemmas.List.{length-append}
@@ -17,7 +18,7 @@ use Rattle.tcap_refute.specs.declared.kind.Kind.{Kind}
 use Rattle.tcap_refute.specs.declared.kind.Kind.TheVariants as kinds
 use Rattle.tcap_refute.specs.declared.kind.Refutation.{Refutation}
 use Rattle.tcap_refute.specs.EarlierMessages.{since_quiet}
-use Rattle.tcap_refute.specs.Kind.{is_limit, is_of_kind, kind_of_reason, or_else, refutation_at, refuted, refuted_behind, refuting_kinds}
+use Rattle.tcap_refute.specs.Kind.{is_limit, is_of_kind, kind_of_reason, refutation_at, refuted, refuted_behind, refuting_kinds}
 use Rattle.tcap_refute.specs.Unsendable.{IsAtFault, IsBadByKind}
 use Rattle.tcap_refute.proofs.KindLaws.{none_of_kind}
 
@@ -88,7 +89,7 @@ at_fault_behind table before (Ok (Sent side message) ∷ more) r is =
     by : (o : Option Kind) → find (is_of_kind table side (since_quiet before) message) refuting_kinds ≡ o
         → (refuted_behind table (before ++ Sent side message ∷ []) (length before + 1) more ≡ Some r
         → IsAtFault table (oks before ++ Ok (Sent side message) ∷ more) r)
-        → or_else (refutation_at (length before) o)
+        → option_or (refutation_at (length before) o)
         (refuted_behind table (before ++ Sent side message ∷ []) (length before + 1) more)
         ≡ Some r
         → IsAtFault table (oks before ++ Ok (Sent side message) ∷ more) r

@@ -2,6 +2,7 @@
 -- before it since the last quiet mark, so it can be checked by hand. No end that keeps the rules sends such an entry
 -- there.
 use Rattle.std.specs.Prelude.{ℕ, ℤ, Bool, true, false, List, [], ◌∷◌, Option, Some, None, Result, Ok, Err, ◌+◌, ◌++◌, ◌==◌, ◌&&◌, ◌||◌, not, nat_lt, cond, is_none, is_some, option_map}
+use Rattle.std.specs.Option.{option_or}
 use Rattle.std.specs.List.{find, list_any}
 use Rattle.tcap_ber.specs.declared.fault.Reason.{Reason as ReadingReason}
 use Rattle.tcap_ber.specs.declared.fault.Reason.TheVariants as reading
@@ -241,18 +242,13 @@ kind_of_reason _ = None
 abbrev pub refutation_at : ℕ → Option Kind → Option Refutation
 refutation_at entry kind = option_map (λ k. record { entry = entry; kind = k }) kind
 
--- The first value, or the second if the first is None.
-abbrev pub or_else : {A : Type 0} → Option A → Option A → Option A
-or_else None other = other
-or_else (Some a) other = Some a
-
 -- The first of these entries that has a kind, with its lowest kind. `entry` is the count of the `items` before them,
 -- which have no kind. Nothing after the first entry that is no item is looked at.
 abbrev pub refuted_behind : Table → List Item → ℕ → List (Result Item Reason) → Option Refutation
 refuted_behind table items entry [] = None
 refuted_behind table items entry (Err reason ∷ more) = refutation_at entry (kind_of_reason reason)
 refuted_behind table items entry (Ok item ∷ more) =
-    or_else (refutation_at entry (lowest_kind table items item))
+    option_or (refutation_at entry (lowest_kind table items item))
     (refuted_behind table (items ++ item ∷ []) (entry + 1) more)
 
 -- The first entry of a record that has a kind, with its lowest kind.

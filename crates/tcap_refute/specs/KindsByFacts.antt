@@ -1,5 +1,6 @@
 -- Which kinds F2 to F7 does a message have, if earlier messages are known only by their facts (`Facts`)?
 use Rattle.std.specs.Prelude.{◌≡◌, ℕ, ℤ, Bool, true, false, List, Option, Some, None, ◌==◌, ◌&&◌, ◌||◌, not, cond, is_none, is_some, option_map}
+use Rattle.std.specs.Option.{option_or}
 use Rattle.tcap_parts.specs.declared.component.Component.{Component}
 use Rattle.tcap_parts.specs.declared.component.Component.TheVariants.{Invoke, ReturnResult, ReturnError, Reject}
 use Rattle.tcap_parts.specs.declared.dialogue.Dialogue.{Dialogue}
@@ -19,7 +20,7 @@ use Rattle.tcap_refute.specs.declared.kind.Kind.{Kind}
 use Rattle.tcap_refute.specs.declared.kind.Kind.TheVariants as kinds
 use Rattle.tcap_refute.specs.EarlierMessages.{is_answer, is_reject}
 use Rattle.tcap_refute.specs.FirstComponent.{first_so}
-use Rattle.tcap_refute.specs.Kind.{is_misplaced_aborting, is_misplaced_going_on, is_not_of_class_4, is_unknown_operation, or_else}
+use Rattle.tcap_refute.specs.Kind.{is_misplaced_aborting, is_misplaced_going_on, is_not_of_class_4, is_unknown_operation}
 use Rattle.tcap_model.specs.World.{Item}
 use Rattle.tcap_refute.specs.declared.sent_from_id.FromId.{FromId}
 use Rattle.tcap_refute.specs.KeptFacts.{told_by_from}
@@ -162,7 +163,7 @@ kind_of_parts of_one table there message =
 -- The lowest of F2 to F7. `of_one` is whether one end alone is judged (`FirstKinds`).
 abbrev pub kind_by : Bool → Table → (FromFact → Bool) → (FromFact → Bool) → Bool → Message → Option Kind
 kind_by of_one table own there ended message =
-    or_else (kind_of_ids own there ended message) (kind_of_parts of_one table there message)
+    option_or (kind_of_ids own there ended message) (kind_of_parts of_one table there message)
 
 -- The notes agree with the list: each fact about the message's IDs holds by them exactly if it holds in these items
 -- since the last quiet mark.

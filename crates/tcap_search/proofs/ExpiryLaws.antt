@@ -1,5 +1,6 @@
 -- The expiries that a sweep finds.
 use Rattle.std.proofs.Common.{◌≡◌, ℕ, ℤ, ◌+◌, Bool, true, false, List, [], ◌∷◌, ◌++◌, take, Option, Some, None, refl, sym, ap, ap₂, ◌∙◌, arith, ◌<◌, cond, map, length, get_or}
+use Rattle.std.specs.Option.{option_or}
 use Rattle.std.specs.Prelude.{◌&&◌, is_some, nat_lt, nat_le, ◌||◌}
 use Rattle.std.specs.List.{list_any}
 use Rattle.std.proofs.lemmas.Bool.{and_parts, le-ltb, or_parts}
@@ -14,7 +15,7 @@ use Rattle.tcap_certificate.specs.declared.certificate.Expiry.{Expiry}
 use Rattle.tcap_certificate.specs.declared.certificate.Fate.{Fate}
 use Rattle.tcap_certificate.specs.declared.certificate.Fate.TheVariants.{Gap, Lost, By}
 use Rattle.tcap_search.specs.declared.sweep.Answer.{Answer}
-use Rattle.tcap_search.specs.SegmentEntries.{Line, are_of_one_end, is_of_peer, last, share_transaction, lines_of, or_else}
+use Rattle.tcap_search.specs.SegmentEntries.{Line, are_of_one_end, is_of_peer, last, share_transaction, lines_of}
 use Rattle.tcap_search.specs.ProposedCertificate.{Fated, components_at, expiries_by, expiries_from, expiry_by, invocation_at, is_answer_of, is_delivered_by, last_invocation, rejected_line, unrecognized, with_expiry, fated, expiries_of}
 use Rattle.tcap_search.specs.Fates.{is_line_of, is_of}
 use Rattle.tcap_search.specs.ListedExpiries.{all_rejected, entry_rejected, rejected_of, with_answer}
@@ -340,10 +341,10 @@ module _ (entries : List Entry) (transactions : List (Option ℕ)) (fates : List
     -- the Invokes after the entry
     pub invokes_step : (before behind : Option (ℕ × ℕ)) (t : ℕ) (s : Side) (id : ℤ)
         → before ≡ invoked_in (take i lines) t s id
-        → behind ≡ or_else (where_so (is_of s t e (get_or transactions i None)) (invoked_by i e id)) before
+        → behind ≡ option_or (where_so (is_of s t e (get_or transactions i None)) (invoked_by i e id)) before
         → behind ≡ invoked_in (take (i + 1) lines) t s id
     invokes_step before behind t s id was noted = noted
-        ∙ ap (or_else (where_so (is_of s t e (get_or transactions i None)) (invoked_by i e id))) was
+        ∙ ap (option_or (where_so (is_of s t e (get_or transactions i None)) (invoked_by i e id))) was
         ∙ sym (invoked_more (take i lines) here t s id)
         ∙ ap (λ (ls : List Line). invoked_in ls t s id) (sym (lines_more entries transactions are i within e is_entry))
 

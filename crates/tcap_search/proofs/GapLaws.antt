@@ -1,6 +1,7 @@
 -- First fates, from the gap after the last entry of each end in each transaction, and the gap after the last reply so
 -- far.
 use Rattle.std.proofs.Common.{◌≡◌, ℕ, zero, suc, ◌+◌, ◌<◌, ◌≤◌, max, ◌==◌, Bool, true, false, cond, List, [], ◌∷◌, ◌++◌, take, Option, Some, None, refl, sym, ap, subst, ◌∙◌, arith}
+use Rattle.std.specs.Option.{option_or}
 use Rattle.std.specs.Prelude.{◌&&◌, nat_lt, option_map}
 use Rattle.std.proofs.lemmas.Bool.{le-ltb, lt-ltb, ltb-false, ltb-true}
 use Rattle.std.proofs.lemmas.Option.{none-some, same_Some}
@@ -11,7 +12,7 @@ use Rattle.tcap_record.specs.Ends.{other}
 use Rattle.tcap_model.specs.Run.{where_so}
 use Rattle.tcap_certificate.specs.declared.certificate.Fate.TheVariants.{Gap}
 use Rattle.tcap_search.specs.declared.tie.Tie.{Tie}
-use Rattle.tcap_search.specs.SegmentEntries.{Line, is_end, is_of_peer, last, message_of, or_else, share_transaction}
+use Rattle.tcap_search.specs.SegmentEntries.{Line, is_end, is_of_peer, last, message_of, share_transaction}
 use Rattle.tcap_search.specs.ProposedCertificate.{fate_by, fate_of, first_gap, first_gap_by, gap_behind, gap_behind_reply, holds_back, last_of_receiver, raised, reply_of}
 use Rattle.tcap_search.specs.Fates.{earliest, fate_from, gap_behind_last, gap_behind_line, highest, holds_back_in, is_line_of, is_of, untied_fate}
 use Rattle.tcap_search.proofs.LatestLaws.{last_never, last_same}
@@ -43,7 +44,7 @@ last_number n [] passes x are is = absurd (none-some x is)
 last_number n (y ∷ lines) passes x are is =
     by (last passes lines) (last_number (n + 1) lines passes x are.1) (passes y) is
   where
-    by : (o : Option Line) → (o ≡ Some x → n + 1 ≤ x.number) → (b : Bool) → or_else o (where_so b (Some y)) ≡ Some x
+    by : (o : Option Line) → (o ≡ Some x → n + 1 ≤ x.number) → (b : Bool) → option_or o (where_so b (Some y)) ≡ Some x
         → n ≤ x.number
     by None later false found = absurd (none-some x found)
     by None later true found = subst (λ (z : Line). n ≤ z.number) (same_Some y x found) (omega (arith, are.0))
@@ -69,7 +70,7 @@ last_later k n (x ∷ lines) passes are = by (last passes lines) refl (last_late
     alone false = ap (λ (c : Bool). where_so c (Some x)) (and_false (nat_lt k x.number))
 
     behind : (z : Line) → n < z.number → (b c : Bool) → nat_lt k z.number ≡ b
-        → or_else (where_so b (Some z)) (where_so (nat_lt k x.number && c) (Some x)) ≡ where_so b (Some z)
+        → option_or (where_so b (Some z)) (where_so (nat_lt k x.number && c) (Some x)) ≡ where_so b (Some z)
     behind z after true c test = refl
     behind z after false c test =
         let none : nat_lt k x.number ≡ false = le-ltb k x.number (omega (arith, are.0, ltb-false k z.number test)) in
@@ -77,8 +78,8 @@ last_later k n (x ∷ lines) passes are = by (last passes lines) refl (last_late
 
     by : (o : Option Line) → last passes lines ≡ o
         → last (λ y. nat_lt k y.number && passes y) lines ≡ if_later k o
-        → or_else (last (λ y. nat_lt k y.number && passes y) lines) (where_so (nat_lt k x.number && passes x) (Some x))
-        ≡ if_later k (or_else o (where_so (passes x) (Some x)))
+        → option_or (last (λ y. nat_lt k y.number && passes y) lines) (where_so (nat_lt k x.number && passes x) (Some x))
+        ≡ if_later k (option_or o (where_so (passes x) (Some x)))
     by None at is = rw is (alone (passes x))
     by (Some z) at is =
         let after : n + 1 ≤ z.number = last_number (n + 1) lines passes z are.1 at in

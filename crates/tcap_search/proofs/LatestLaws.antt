@@ -1,9 +1,10 @@
 -- The last element of a list that passes a test, the last value that a function gives, and the map of the lines so far.
 use Rattle.std.proofs.Common.{◌≡◌, Bool, true, false, List, [], ◌∷◌, Option, Some, None, refl, ap, subst, ◌∙◌, ℕ, zero, suc, ◌+◌, ◌≤◌, ◌++◌, take, sym, arith, cond, length, map, get_or, ◌<◌}
+use Rattle.std.specs.Option.{option_or}
 use Rattle.std.specs.List.{AllByRecursion}
 use Rattle.std.proofs.lemmas.Option.{none-some, same_Some}
 use Rattle.tcap_model.specs.Run.{where_so, then_so}
-use Rattle.tcap_search.specs.SegmentEntries.{last, or_else, Line, is_end, is_from, line_behind, lines_of, message_of, transaction_by, transaction_from}
+use Rattle.tcap_search.specs.SegmentEntries.{last, Line, is_end, is_from, line_behind, lines_of, message_of, transaction_by, transaction_from}
 use Rattle.std.specs.Prelude.{◌&&◌, is_some, nat_lt}
 use Rattle.std.proofs.lemmas.Bool.{false≢true, le-ltb, lt-ltb}
 use Rattle.tcap_search.specs.Sweep.{last_given}
@@ -24,13 +25,13 @@ use Rattle.tcap_search.specs.declared.lines.Latest.{Latest}
 use Rattle.tcap_search.specs.LastEntries.{belongs, belongs_by, latest_asked, latest_at, latest_of}
 use Rattle.tcap_search.proofs.TestLaws.{same_id}
 
--- None is a right unit of `or_else`.
-pub or_none : {A : Type 0} (o : Option A) → or_else o None ≡ o
+-- None is a right unit of `option_or`.
+pub or_none : {A : Type 0} (o : Option A) → option_or o None ≡ o
 or_none None = refl
 or_none (Some a) = refl
 
--- `or_else` is associative.
-pub or_or : {A : Type 0} (o p q : Option A) → or_else (or_else o p) q ≡ or_else o (or_else p q)
+-- `option_or` is associative.
+pub or_or : {A : Type 0} (o p q : Option A) → option_or (option_or o p) q ≡ option_or o (option_or p q)
 or_or None p q = refl
 or_or (Some a) p q = refl
 
@@ -38,8 +39,8 @@ or_or (Some a) p q = refl
 pub last_same : {A : Type 0} (P Q : A → Bool) → ((x : A) → P x ≡ Q x) → (xs : List A) → last P xs ≡ last Q xs
 last_same P Q same [] = refl
 last_same P Q same (x ∷ xs) =
-    ap (λ b. or_else (last P xs) (where_so b (Some x))) (same x)
-    ∙ ap (λ o. or_else o (where_so (Q x) (Some x))) (last_same P Q same xs)
+    ap (λ b. option_or (last P xs) (where_so b (Some x))) (same x)
+    ∙ ap (λ o. option_or o (where_so (Q x) (Some x))) (last_same P Q same xs)
 
 -- A property of all elements holds for the last.
 pub last_among : {A : Type 0} (P : A → Type 0) (passes : A → Bool) (xs : List A) (x : A)
@@ -48,7 +49,7 @@ last_among P passes [] x all found = absurd (none-some x found)
 last_among {A = A} P passes (a ∷ xs) x all found =
     by (last passes xs) (last_among P passes xs x all.1) (passes a) found
   where
-    by : (o : Option A) → (o ≡ Some x → P x) → (b : Bool) → or_else o (where_so b (Some a)) ≡ Some x → P x
+    by : (o : Option A) → (o ≡ Some x → P x) → (b : Bool) → option_or o (where_so b (Some a)) ≡ Some x → P x
     by None more false is = absurd (none-some x is)
     by None more true is = subst P (same_Some a x is) all.0
     by (Some y) more b is = more is
@@ -60,7 +61,7 @@ last_passes {A = A} passes (a ∷ xs) x found =
     by (last passes xs) (last_passes passes xs x) (passes a) refl found
   where
     by : (o : Option A) → (o ≡ Some x → passes x ≡ true) → (b : Bool) → passes a ≡ b
-        → or_else o (where_so b (Some a)) ≡ Some x → passes x ≡ true
+        → option_or o (where_so b (Some a)) ≡ Some x → passes x ≡ true
     by None more false test is = absurd (none-some x is)
     by None more true test is = subst (λ (y : A). passes y ≡ true) (same_Some a x is) test
     by (Some y) more b test is = more is
@@ -74,19 +75,19 @@ last_never passes (x ∷ xs) never = rw (last_never passes xs never, never x) re
 
 -- A further element comes first.
 pub given_more : {A B : Type 0} (f : A → Option B) (xs : List A) (x : A)
-    → last_given f (xs ++ x ∷ []) ≡ or_else (f x) (last_given f xs)
+    → last_given f (xs ++ x ∷ []) ≡ option_or (f x) (last_given f xs)
 given_more f [] x = sym (or_none (f x))
 given_more f (y ∷ xs) x =
-    ap (λ o. or_else o (f y)) (given_more f xs x) ∙ or_or (f x) (last_given f xs) (f y)
+    ap (λ o. option_or o (f y)) (given_more f xs x) ∙ or_or (f x) (last_given f xs) (f y)
 
 -- Equal functions give equal values.
 pub given_same : {A B : Type 0} (f g : A → Option B) → ((x : A) → f x ≡ g x)
     → (xs : List A) → last_given f xs ≡ last_given g xs
 given_same f g same [] = refl
 given_same f g same (x ∷ xs) =
-    ap (λ o. or_else o (f x)) (given_same f g same xs) ∙ ap (or_else (last_given g xs)) (same x)
+    ap (λ o. option_or o (f x)) (given_same f g same xs) ∙ ap (option_or (last_given g xs)) (same x)
 
-or_some : {B : Type 0} (o p q : Option B) → is_some o ≡ true → o ≡ p → o ≡ or_else p q
+or_some : {B : Type 0} (o p q : Option B) → is_some o ≡ true → o ≡ p → o ≡ option_or p q
 or_some None p q some is = absurd (false≢true some)
 or_some (Some b) p q some is = rw (← is) refl
 
@@ -104,8 +105,8 @@ given_is {A = A} {B = B} passes f gives (x ∷ xs) =
 
     by : (o : Option A) → ((y : A) → o ≡ Some y → passes y ≡ true)
         → then_so o f ≡ last_given (λ x. where_so (passes x) (f x)) xs
-        → then_so (or_else o (where_so (passes x) (Some x))) f
-        ≡ or_else (last_given (λ x. where_so (passes x) (f x)) xs) (where_so (passes x) (f x))
+        → then_so (option_or o (where_so (passes x) (Some x))) f
+        ≡ option_or (last_given (λ x. where_so (passes x) (f x)) xs) (where_so (passes x) (f x))
     by None test is = rw (← is) (alone (passes x))
     by (Some y) test is =
         or_some (f y) (last_given (λ x. where_so (passes x) (f x)) xs) (where_so (passes x) (f x))

@@ -1,5 +1,6 @@
 -- A segment's certificate has one fate for each entry, and its numbers are gaps and entries of the segment.
 use Rattle.std.proofs.Common.{◌≡◌, ℕ, ℤ, ◌+◌, ◌≤◌, ◌<◌, arith, max, Bool, true, false, cond, List, [], ◌∷◌, ◌++◌, map, length, Option, Some, None, option_map, slice_get, refl, sym, ap, subst, ◌∙◌}
+use Rattle.std.specs.Option.{option_or}
 use Rattle.std.specs.Prelude.{◌&&◌, not, nat_le, nat_lt, is_some}
 use Rattle.std.specs.List.{AllByRecursion, list_any}
 use Rattle.std.proofs.lemmas.Bool.{leb-true}
@@ -18,7 +19,7 @@ use Rattle.tcap_certificate.specs.Certificate.{ClosingFits, ExpiryFits, FateFits
 use Rattle.tcap_model.proofs.ListLaws.{all_more, all_weaker}
 use Rattle.tcap_model.proofs.RunLaws.{map_some, then_some}
 use Rattle.tcap_search.specs.declared.tie.Tie.{Tie}
-use Rattle.tcap_search.specs.SegmentEntries.{Line, are_of_one_end, is_end, or_else, lines_of, message_of}
+use Rattle.tcap_search.specs.SegmentEntries.{Line, are_of_one_end, is_end, lines_of, message_of}
 use Rattle.tcap_search.specs.ProposedCertificate.{Fated, all_fated, closing_behind, closing_by, closings_from, expiries_by, expiries_from, expiry_behind, expiry_by, expiry_in, fate_before, fate_behind, fate_by, fate_of, fated, first_fates, first_gap, first_gap_by, gap_behind, gap_behind_reply, gap_in, invocation_at, is_closing_of, is_continue, is_expiry_of, is_gap, is_invoke_of, is_overtaken, is_unanswered, last_invocation, last_invoke, last_of_receiver, may_invoke, components_at, number_limit, of_stretch, raised, rejected_line, reply_of, ties_of, unrecognized, was_ended, was_told, with_closing, with_expiry, with_losses, without_unanswered}
 use Rattle.tcap_search.specs.SegmentLists.{AreFates}
 use Rattle.tcap_search.proofs.LatestLaws.{last_among}
@@ -191,7 +192,7 @@ module _ (judged : Option Side) (marked : Bool) (entries : List Entry) where
       leave false b is = cc
 
       by : (o : Option ℕ) → (o ≡ Some found → found ≤ number_limit)
-          → or_else o (where_so (is_invoke_of id c && nat_le place number_limit) (Some place)) ≡ Some found
+          → option_or o (where_so (is_invoke_of id c && nat_le place number_limit) (Some place)) ≡ Some found
           → found ≤ number_limit
       by (Some later) on is = on is
       by None on is =

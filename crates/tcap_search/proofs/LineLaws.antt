@@ -1,5 +1,6 @@
 -- The lines of entries: one for each, in order, numbered from 0, and their transactions.
 use Rattle.std.proofs.Common.{◌≡◌, ℕ, zero, suc, ◌+◌, ◌<◌, ◌≤◌, Bool, true, false, cond, List, [], ◌∷◌, ◌++◌, length, take, get_or, reverse, Option, Some, None, refl, sym, ap, ◌∙◌, arith, map, append_assoc}
+use Rattle.std.specs.Option.{option_or}
 use Rattle.std.specs.Prelude.{IfSome, slice_get, option_map}
 use Rattle.std.specs.List.{AllByRecursion}
 use Rattle.std.proofs.lemmas.List.{length-take-le, length_push, reverse-append, take_more, length-map, append-nil, get_or-map, map-append}
@@ -8,7 +9,7 @@ use Rattle.tcap_msg.specs.declared.message.Message.TheVariants.{Unidirectional, 
 use Rattle.tcap_record.specs.declared.entry.Entry.{Entry}
 use Rattle.tcap_model.specs.Run.{where_so}
 use Rattle.tcap_model.proofs.ListLaws.{all_more}
-use Rattle.tcap_search.specs.SegmentEntries.{Line, is_asked_from, last, line_behind, lines_behind, lines_of, message_of, or_else, transaction_by, transaction_from}
+use Rattle.tcap_search.specs.SegmentEntries.{Line, is_asked_from, last, line_behind, lines_behind, lines_of, message_of, transaction_by, transaction_from}
 use Rattle.tcap_search.specs.SegmentLists.{AreTransactions}
 use Rattle.std.proofs.lemmas.Option.{get_or_from_slice_get, slice_get-map, slice_get_read, none-some, same_Some}
 
@@ -95,17 +96,17 @@ pub last_push : {A : Type 0} (passes : A → Bool) (xs : List A) (x : A)
     → last passes (xs ++ x ∷ []) ≡ cond (passes x) (Some x) (last passes xs)
 last_push passes [] x = refl
 last_push {A} passes (y ∷ xs) x =
-    ap (λ (o : Option A). or_else o (where_so (passes y) (Some y))) (last_push passes xs x)
+    ap (λ (o : Option A). option_or o (where_so (passes y) (Some y))) (last_push passes xs x)
     ∙ by (passes x)
   where
-    by : (b : Bool) → or_else (cond b (Some x) (last passes xs)) (where_so (passes y) (Some y))
-        ≡ cond b (Some x) (or_else (last passes xs) (where_so (passes y) (Some y)))
+    by : (b : Bool) → option_or (cond b (Some x) (last passes xs)) (where_so (passes y) (Some y))
+        ≡ cond b (Some x) (option_or (last passes xs) (where_so (passes y) (Some y)))
     by true = refl
     by false = refl
 
 pub last_none : {A : Type 0} (xs : List A) → last (λ x. false) xs ≡ None
 last_none [] = refl
-last_none {A} (x ∷ xs) = ap (λ (o : Option A). or_else o None) (last_none xs)
+last_none {A} (x ∷ xs) = ap (λ (o : Option A). option_or o None) (last_none xs)
 
 -- A property of all lines holds for the last.
 last_holds : {A : Type 0} (P : A → Type 0) (passes : A → Bool) (xs : List A) → AllByRecursion P xs
@@ -117,7 +118,7 @@ last_holds {A} P passes (x ∷ xs) all = by (last passes xs) (last_holds P passe
     here true = all.0
     here false = tt
 
-    by : (o : Option A) → IfSome o P → IfSome (or_else o (where_so (passes x) (Some x))) P
+    by : (o : Option A) → IfSome o P → IfSome (option_or o (where_so (passes x) (Some x))) P
     by None later = here (passes x)
     by (Some y) later = later
 

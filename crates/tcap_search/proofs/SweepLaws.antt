@@ -1,5 +1,6 @@
 -- What a sweep keeps, component by component, gap by gap and entry by entry.
 use Rattle.std.proofs.Common.{◌≡◌, ℕ, ℤ, ◌+◌, ◌<◌, ◌≤◌, ◌==◌, Bool, true, false, cond, List, ◌∷◌, length, drop, get_or, Option, Some, None, refl, sym, ap, ◌∙◌, suc, [], ◌++◌, map, take, arith, zero, Vec, ap₂}
+use Rattle.std.specs.Option.{option_or}
 use Rattle.std.specs.Prelude.{◌&&◌, nat_le, option_map, ◌||◌, is_some, nat_lt, slice_get}
 use Rattle.std.proofs.lemmas.List.{at_drop_more, drop_all}
 use Rattle.tcap_parts.specs.declared.component.Component.{Component}
@@ -7,7 +8,7 @@ use Rattle.tcap_record.specs.declared.entry.End.{End as Side}
 use Rattle.tcap_record.specs.declared.entry.Entry.{Entry}
 use Rattle.tcap_model.specs.World.{is_side}
 use Rattle.tcap_model.specs.Run.{where_so}
-use Rattle.tcap_search.specs.SegmentEntries.{message_of, or_else, Line, are_of_one_end, is_end}
+use Rattle.tcap_search.specs.SegmentEntries.{message_of, Line, are_of_one_end, is_end}
 use Rattle.tcap_search.specs.ProposedCertificate.{is_invoke_of, last_invoke, may_invoke, number_limit, Fated, components_at, invocation_at, is_answer_of, is_expiry_of, with_expiry}
 use Rattle.tcap_search.specs.Fates.{is_of, is_line_of}
 use Rattle.tcap_search.specs.Sweep.{components_of, invoked_by, answer_at, answers, answers_at, invoked_in, last_given, message_components}
@@ -34,18 +35,18 @@ use Rattle.tcap_search.specs.ListedExpiries.{pair_cmp}
 -- The last Invoke is that after the first component, or else the first.
 pub first_invoke : (id : ℤ) (place : ℕ) (c : Component) (more : List Component)
     → last_invoke id place (c ∷ more)
-    ≡ or_else (last_invoke id (place + 1) more) (where_so (is_invoke_of id c && nat_le place number_limit) (Some place))
+    ≡ option_or (last_invoke id (place + 1) more) (where_so (is_invoke_of id c && nat_le place number_limit) (Some place))
 first_invoke id place c more = by (last_invoke id (place + 1) more) refl
   where
     by : (o : Option ℕ) → last_invoke id (place + 1) more ≡ o
         → last_invoke id place (c ∷ more)
-        ≡ or_else o (where_so (is_invoke_of id c && nat_le place number_limit) (Some place))
+        ≡ option_or o (where_so (is_invoke_of id c && nat_le place number_limit) (Some place))
     by None at = rw at refl
     by (Some later) at = rw at refl
 
 -- the Invoke kept after these components
 abbrev pub kept_behind : Bool → ℕ → Option ℕ → Option (ℕ × ℕ) → Option (ℕ × ℕ)
-kept_behind here number invoked kept = or_else (where_so here (option_map (λ place. (number, place)) invoked)) kept
+kept_behind here number invoked kept = option_or (where_so here (option_map (λ place. (number, place)) invoked)) kept
 
 -- one more component
 pub invoke_step : (here : Bool) (number : ℕ) (id : ℤ) (components : List Component) (place : ℕ) (d : Component)
@@ -58,14 +59,14 @@ invoke_step here number id components place d kept within is =
     ∙ ap (λ (o : Option ℕ). kept_behind here number o kept) (sym first)
   where
     first : last_invoke id place (drop place components)
-        ≡ or_else (last_invoke id (place + 1) (drop (place + 1) components))
+        ≡ option_or (last_invoke id (place + 1) (drop (place + 1) components))
         (where_so (is_invoke_of id d && nat_le place number_limit) (Some place))
     first = at_drop_more (last_invoke id place) components place d within
         ∙ ap (λ (c : Component). last_invoke id place (c ∷ drop (place + 1) components)) (sym is)
         ∙ first_invoke id place d (drop (place + 1) components)
 
     by : (b : Bool) (o : Option ℕ) (c : Bool) → kept_behind b number o (cond (b && c) (Some (number, place)) kept)
-        ≡ kept_behind b number (or_else o (where_so c (Some place))) kept
+        ≡ kept_behind b number (option_or o (where_so c (Some place))) kept
     by false o c = refl
     by true (Some later) c = refl
     by true None true = refl
@@ -86,7 +87,7 @@ invoke_end here number id components place kept past =
 pub entry_step : (e : Entry) (number : ℕ) (side s : Side) (transaction t : ℕ) (id : ℤ) (kept : Option (ℕ × ℕ))
     → e.side ≡ Some side → may_invoke (message_of e) ≡ true
     → kept_behind (t == transaction && is_side s side) number (last_invoke id 0 (components_of e)) kept
-    ≡ or_else (where_so (is_of s t e (Some transaction)) (invoked_by number e id)) kept
+    ≡ option_or (where_so (is_of s t e (Some transaction)) (invoked_by number e id)) kept
 entry_step e number side s transaction t id kept is may =
     rw (is, may) (ap (λ (b : Bool). kept_behind b number (last_invoke id 0 (components_of e)) kept)
     (and_swap (t == transaction) (is_side s side)))
@@ -107,10 +108,10 @@ invocation_is id x = rw (components_are x) refl
 
 pub invoked_more : (lines : List Line) (x : Line) (t : ℕ) (s : Side) (id : ℤ)
     → invoked_in (lines ++ x ∷ []) t s id
-    ≡ or_else (where_so (is_line_of s t x) (invoked_by x.number x.entry id)) (invoked_in lines t s id)
+    ≡ option_or (where_so (is_line_of s t x) (invoked_by x.number x.entry id)) (invoked_in lines t s id)
 invoked_more lines x t s id =
     given_more (λ y. where_so (is_line_of s t y) (invocation_at id y)) lines x
-    ∙ ap (λ (o : Option (ℕ × ℕ)). or_else (where_so (is_line_of s t x) o) (invoked_in lines t s id))
+    ∙ ap (λ (o : Option (ℕ × ℕ)). option_or (where_so (is_line_of s t x) o) (invoked_in lines t s id))
     (invocation_is id x)
 
 -- ---- answers, with one more gap
@@ -255,8 +256,8 @@ module _ (lines : List Line) (gap : ℕ) (is_result : Bool) (t : ℕ) (s : Side)
     where
       by : (m : Bool) → last_given (below (gap + 1)) more ≡ cond m (Some answer) (last_given (below gap) more)
           → (b : Bool) → here x ≡ b
-          → or_else (last_given (below (gap + 1)) more) (below (gap + 1) x)
-          ≡ cond (b || m) (Some answer) (or_else (last_given (below gap) more) (below gap x))
+          → option_or (last_given (below (gap + 1)) more) (below (gap + 1) x)
+          ≡ cond (b || m) (Some answer) (option_or (last_given (below gap) more) (below gap x))
       by true is true test = rw is refl
       by true is false test = rw is refl
       by false is false test = rw (is, not_here x test) refl

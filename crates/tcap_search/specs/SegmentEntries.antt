@@ -1,6 +1,7 @@
 -- How the search sees the entries of a segment between two quiet marks: each with its number in the segment and the
 -- transaction to which it belongs (Q.774 3.3).
 use Rattle.std.specs.Prelude.{ℕ, Bool, false, List, [], ◌∷◌, ◌++◌, length, Option, Some, None, ◌==◌, ◌&&◌}
+use Rattle.std.specs.Option.{option_or}
 use Rattle.tcap_msg.specs.declared.message.Message.{Message}
 use Rattle.tcap_msg.specs.declared.message.Message.TheVariants.{Begin}
 use Rattle.tcap_msg.specs.Parts.{dtid_in, otid_in}
@@ -13,15 +14,10 @@ use Rattle.tcap_record.specs.Ends.{other}
 use Rattle.tcap_model.specs.World.{is_side}
 use Rattle.tcap_model.specs.Run.{then_so, where_so}
 
--- the first value, or the second if there is no first
-abbrev pub or_else : {A : Type 0} → Option A → Option A → Option A
-or_else None other = other
-or_else (Some a) other = Some a
-
 -- the last element that passes a test
 abbrev pub last : {A : Type 0} → (A → Bool) → List A → Option A
 last passes [] = None
-last passes (a ∷ more) = or_else (last passes more) (where_so (passes a) (Some a))
+last passes (a ∷ more) = option_or (last passes more) (where_so (passes a) (Some a))
 
 -- ---- entries
 

@@ -1,6 +1,7 @@
 -- What a sweep over gaps and entries keeps: for each transaction, end and invoke ID, the last Invoke so far and the
 -- last answers delivered.
 use Rattle.std.specs.Prelude.{ℕ, ℤ, Bool, true, false, List, [], ◌∷◌, slice_get, Option, Some, None, ◌&&◌, cond, option_map}
+use Rattle.std.specs.Option.{option_or}
 use Rattle.std.specs.List.{list_any}
 use Rattle.tcap_parts.specs.declared.component.Component.{Component}
 use Rattle.tcap_msg.specs.declared.message.Message.{Message}
@@ -11,7 +12,7 @@ use Rattle.tcap_record.specs.Ends.{other}
 use Rattle.tcap_model.specs.Run.{where_so}
 use Rattle.tcap_search.specs.declared.sweep.Answer.{Answer}
 use Rattle.tcap_search.specs.declared.sweep.Sweep.{Sweep}
-use Rattle.tcap_search.specs.SegmentEntries.{Line, message_of, or_else}
+use Rattle.tcap_search.specs.SegmentEntries.{Line, message_of}
 use Rattle.tcap_search.specs.ProposedCertificate.{invocation_at, is_answer_of, last_invoke, may_invoke}
 use Rattle.tcap_search.specs.InvocationMap.{kept_at}
 use Rattle.tcap_search.specs.Fates.{is_line_of, is_of}
@@ -19,7 +20,7 @@ use Rattle.tcap_search.specs.Fates.{is_line_of, is_of}
 -- the last value that `f` gives for the elements of a list
 abbrev pub last_given : {A B : Type 0} → (A → Option B) → List A → Option B
 last_given f [] = None
-last_given f (x ∷ more) = or_else (last_given f more) (f x)
+last_given f (x ∷ more) = option_or (last_given f more) (f x)
 
 -- the components of a message, or none if there is no message
 abbrev pub message_components : Option Message → List Component

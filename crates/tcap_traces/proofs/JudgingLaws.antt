@@ -1,11 +1,11 @@
 -- Both ends have the same first entry that is no message, so the entries before it are judged once for both.
 use Rattle.std.proofs.Common.{◌≡◌, ℕ, ◌==◌, cond, List, length, map, Option, Some, None, refl, sym, ap, ◌∙◌}
+use Rattle.std.specs.Option.{option_or}
 use Rattle.tcap_record.specs.declared.entry.End.{End as Side}
 use Rattle.tcap_record.specs.declared.entry.End.TheVariants as sides
 use Rattle.tcap_record.specs.declared.entry.Entry.{Entry}
 use Rattle.tcap_end.specs.Table.{Table}
 use Rattle.tcap_model.specs.Entries.{item_of}
-use Rattle.tcap_refute.specs.Kind.{or_else}
 use Rattle.tcap_judge.specs.declared.findings.Finding.{Finding}
 use Rattle.tcap_judge.specs.declared.findings.Finding.TheVariants.{Blamed, Lawful, NotBlamed}
 use Rattle.tcap_judge.specs.declared.outcome.Outcome.{Outcome}
@@ -36,29 +36,29 @@ counted table entries side = counted_by (items_before (map item_of entries)) (ve
 
 -- ---- the number for both ends
 
-or_none : (o : Option ℕ) → or_else o None ≡ o
+or_none : (o : Option ℕ) → option_or o None ≡ o
 or_none None = refl
 or_none (Some n) = refl
 
-or_same : (o : Option ℕ) → or_else o o ≡ o
+or_same : (o : Option ℕ) → option_or o o ≡ o
 or_same None = refl
 or_same (Some n) = refl
 
 module _ (n all : ℕ) where
   pub or_behind : (found : Finding) → number_in n found ≡ n
-      → or_else (cond (n == all) None (Some n)) (no_message_at found all) ≡ cond (n == all) None (Some n)
+      → option_or (cond (n == all) None (Some n)) (no_message_at found all) ≡ cond (n == all) None (Some n)
   or_behind (Blamed r) is = or_none (cond (n == all) None (Some n))
   or_behind (Lawful count unheard) is = or_none (cond (n == all) None (Some n))
   or_behind (NotBlamed m) is =
-      ap (λ k. or_else (cond (n == all) None (Some n)) (cond (k == all) None (Some k))) is
+      ap (λ k. option_or (cond (n == all) None (Some n)) (cond (k == all) None (Some k))) is
       ∙ or_same (cond (n == all) None (Some n))
 
   pub or_before : (found : Finding) → number_in n found ≡ n
-      → or_else (no_message_at found all) (cond (n == all) None (Some n)) ≡ cond (n == all) None (Some n)
+      → option_or (no_message_at found all) (cond (n == all) None (Some n)) ≡ cond (n == all) None (Some n)
   or_before (Blamed r) is = refl
   or_before (Lawful count unheard) is = refl
   or_before (NotBlamed m) is =
-      ap (λ k. or_else (cond (k == all) None (Some k)) (cond (n == all) None (Some n))) is
+      ap (λ k. option_or (cond (k == all) None (Some k)) (cond (n == all) None (Some n))) is
       ∙ or_same (cond (n == all) None (Some n))
 
 -- ---- results
@@ -68,14 +68,14 @@ module _ (table : Table) (c : Circumstances) (entries : List Entry) (side : Side
   with_number found number = said_by table c side entries found (found_before table entries side number)
 
   with_behind : (count all : ℕ) (a b : Finding) → number_in count a ≡ count → number_in count b ≡ count
-      → with_number a (or_else (no_message_at a all) (no_message_at b all)) ≡ with_number a (no_message_at a all)
+      → with_number a (option_or (no_message_at a all) (no_message_at b all)) ≡ with_number a (no_message_at a all)
   with_behind count all (Blamed r) b of_a of_b = refl
   with_behind count all (Lawful n unheard) b of_a of_b = refl
   with_behind count all (NotBlamed n) b of_a of_b =
       ap (with_number (NotBlamed n)) (or_behind n all b (rw (sym of_a) at of_b))
 
   with_before : (count all : ℕ) (a b : Finding) → number_in count a ≡ count → number_in count b ≡ count
-      → with_number b (or_else (no_message_at a all) (no_message_at b all)) ≡ with_number b (no_message_at b all)
+      → with_number b (option_or (no_message_at a all) (no_message_at b all)) ≡ with_number b (no_message_at b all)
   with_before count all a (Blamed r) of_a of_b = refl
   with_before count all a (Lawful n unheard) of_a of_b = refl
   with_before count all a (NotBlamed n) of_a of_b =
@@ -84,7 +84,7 @@ module _ (table : Table) (c : Circumstances) (entries : List Entry) (side : Side
 module _ (table : Table) (c : Circumstances) (entries now : List Entry) (a b : Finding) (number : Option ℕ) where
   -- the result for A, by the number for both ends
   pub says_of_a : now ≡ entries → a ≡ finding table entries sides.A → b ≡ finding table entries sides.B
-      → number ≡ or_else (no_message_at a (length entries)) (no_message_at b (length entries))
+      → number ≡ option_or (no_message_at a (length entries)) (no_message_at b (length entries))
       → (earlier : Option Finding) → earlier ≡ found_before table entries sides.A number
       → said_by table c sides.A now a earlier ≡ said_of table c entries sides.A
   says_of_a stays of_a of_b is earlier is_earlier =
@@ -95,7 +95,7 @@ module _ (table : Table) (c : Circumstances) (entries now : List Entry) (a b : F
 
   -- the result for B, by the number for both ends
   pub says_of_b : now ≡ entries → a ≡ finding table entries sides.A → b ≡ finding table entries sides.B
-      → number ≡ or_else (no_message_at a (length entries)) (no_message_at b (length entries))
+      → number ≡ option_or (no_message_at a (length entries)) (no_message_at b (length entries))
       → (earlier : Option Finding) → earlier ≡ found_before table entries sides.B number
       → said_by table c sides.B now b earlier ≡ said_of table c entries sides.B
   says_of_b stays of_a of_b is earlier is_earlier =

@@ -1,5 +1,6 @@
 -- The result for an end holds if the findings hold.
 use Rattle.std.proofs.Common.{◌≡◌, inl, inr, ℕ, Bool, true, false, cond, ◌==◌, List, drop, length, map, take, Option, Some, None, Result, Ok, Err, refl, sym, ap, ◌∙◌, subst}
+use Rattle.std.specs.Option.{option_or}
 use Rattle.std.specs.List.{list_any}
 use Rattle.tcap_record.specs.declared.entry.End.{End as Side}
 use Rattle.tcap_record.specs.declared.entry.End.TheVariants as sides
@@ -9,7 +10,6 @@ use Rattle.tcap_certificate.specs.declared.fault.CheckFault.{CheckFault}
 use Rattle.tcap_model.specs.Run.{Event}
 use Rattle.tcap_model.specs.Entries.{item_of}
 use Rattle.tcap_refute.specs.declared.kind.Refutation.{Refutation}
-use Rattle.tcap_refute.specs.Kind.{or_else}
 use Rattle.tcap_faults.specs.BlameMeaning.{IsAtFaultOf}
 use Rattle.tcap_faults.specs.Fault.{blamed}
 use Rattle.tcap_judge.specs.declared.findings.Finding.{Finding}
@@ -101,9 +101,9 @@ module _ (table : Table) (entries : List Entry) (side : Side) (earlier : Option 
   at_number n false is so = so
 
   module _ (count all : ℕ) (a b : Finding) (of_a : number_in count a ≡ count) (of_b : number_in count b ≡ count)
-      (is : earlier ≡ found_before table entries side (or_else (no_message_at a all) (no_message_at b all)))
-      (so : IsFoundBefore side table entries (or_else (no_message_at a all) (no_message_at b all)) earlier) where
-    at_own : (n : ℕ) → or_else (no_message_at a all) (no_message_at b all) ≡ cond (n == all) None (Some n)
+      (is : earlier ≡ found_before table entries side (option_or (no_message_at a all) (no_message_at b all)))
+      (so : IsFoundBefore side table entries (option_or (no_message_at a all) (no_message_at b all)) earlier) where
+    at_own : (n : ℕ) → option_or (no_message_at a all) (no_message_at b all) ≡ cond (n == all) None (Some n)
         → IsFoundBefore side table entries (Some n) earlier
     at_own n own =
         at_number n (n == all) (is ∙ ap (found_before table entries side) own)
@@ -113,14 +113,14 @@ module _ (table : Table) (entries : List Entry) (side : Side) (earlier : Option 
     first_so n found =
         let same : count ≡ n = sym of_a ∙ ap (number_in count) found in
         at_own n
-        (ap (λ x. or_else (no_message_at x all) (no_message_at b all)) found
+        (ap (λ x. option_or (no_message_at x all) (no_message_at b all)) found
         ∙ or_behind n all b (subst (λ k. number_in k b ≡ k) same of_b))
 
     pub second_so : (n : ℕ) → b ≡ NotBlamed n → IsFoundBefore side table entries (Some n) earlier
     second_so n found =
         let same : count ≡ n = sym of_b ∙ ap (number_in count) found in
         at_own n
-        (ap (λ x. or_else (no_message_at a all) (no_message_at x all)) found
+        (ap (λ x. option_or (no_message_at a all) (no_message_at x all)) found
         ∙ or_before n all a (subst (λ k. number_in k a ≡ k) same of_a))
 
 module _ (at_fault : (table : Table) (side : Side) (entries : List Entry) (r : Refutation)
@@ -129,7 +129,7 @@ module _ (at_fault : (table : Table) (side : Side) (entries : List Entry) (r : R
   -- the result for A holds
   pub so_of_a : now ≡ entries → a ≡ finding table entries sides.A → b ≡ finding table entries sides.B
       → IsFound sides.A table entries a
-      → number ≡ or_else (no_message_at a (length entries)) (no_message_at b (length entries))
+      → number ≡ option_or (no_message_at a (length entries)) (no_message_at b (length entries))
       → (earlier : Option Finding) → earlier ≡ found_before table entries sides.A number
       → IsFoundBefore sides.A table entries number earlier
       → (said : Said) → said ≡ said_by table c sides.A now a earlier → IsSo sides.A table entries said
@@ -146,7 +146,7 @@ module _ (at_fault : (table : Table) (side : Side) (entries : List Entry) (r : R
   -- the result for B holds
   pub so_of_b : now ≡ entries → a ≡ finding table entries sides.A → b ≡ finding table entries sides.B
       → IsFound sides.B table entries b
-      → number ≡ or_else (no_message_at a (length entries)) (no_message_at b (length entries))
+      → number ≡ option_or (no_message_at a (length entries)) (no_message_at b (length entries))
       → (earlier : Option Finding) → earlier ≡ found_before table entries sides.B number
       → IsFoundBefore sides.B table entries number earlier
       → (said : Said) → said ≡ said_by table c sides.B now b earlier → IsSo sides.B table entries said

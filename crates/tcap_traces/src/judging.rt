@@ -1,9 +1,9 @@
 //! Judges a dialogue.
 
 ghost use Rattle.std.specs.Prelude.{◌≡◌, ◌≤◌, drop, length, take, IfOk, OnOk};
+ghost use Rattle.std.specs.Option.{option_or};
 ghost use Rattle.std.specs.List.{list_any};
 ghost use Rattle.tcap_record.specs.declared.entry.End.TheVariants as sides;
-ghost use Rattle.tcap_refute.specs.Kind.{or_else};
 ghost use Rattle.tcap_judge.specs.BlameOutcome.{IsFound, finding};
 ghost use Rattle.tcap_traces.specs.ResultMeaning.{IsFoundBefore, IsSo};
 ghost use Rattle.tcap_traces.specs.Verdict.{found_before, is_of, no_message_at, passes, said_before, said_by, said_of, verdict_asked};
@@ -170,7 +170,7 @@ fn no_message_at(found: Finding, all: usize) -> Option<usize>
 
 /// Returns the number of the first entry that is no message, if there is one and at least one end is not blamed.
 fn no_message_of(found: Found, all: usize) -> Option<usize>
-    ensures { result ≡ or_else (no_message_at found.a all) (no_message_at found.b all) }
+    ensures { result ≡ option_or (no_message_at found.a all) (no_message_at found.b all) }
 {
     match no_message_at(found.a, all) {
         Some(number) => Some(number),

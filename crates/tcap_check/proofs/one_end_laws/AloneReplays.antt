@@ -1,5 +1,6 @@
 -- The replay for one end is a run of this end, part by part.
 use Rattle.std.proofs.Common.{◌≡◌, ℕ, List, [], ◌∷◌, ◌++◌, map, length, drop, Some, refl, sym, ap, subst, ◌∙◌, append_assoc, append-nil, ◌+◌, ◌==◌, Bool, true, false, cond, filter, Option, None, Result, Ok, Err, ap₂}
+use Rattle.std.specs.Option.{option_or}
 use Rattle.std.specs.List.{AllByRecursion}
 use Rattle.std.proofs.lemmas.Bool.{eq-eqb}
 use Rattle.tcap_msg.specs.declared.message.Message.{Message}
@@ -11,7 +12,7 @@ use Rattle.tcap_model.specs.World.{Item, OnItsWay, Sent, World, channel_from, wi
 use Rattle.tcap_model.specs.Run.{Adds, Event, Sends, Receives, Replies, Loses, Expires, Closes, Quiet, Tells, after, joined, numbers_of, played}
 use Rattle.tcap_certificate.specs.Certificate.{Certificate}
 use Rattle.tcap_certificate.specs.DescribedRun.{without_losses, IsImplied, invoking_half, sending_by, taken_by}
-use Rattle.tcap_certificate.specs.Replay.{Replay, all_lost_from, lost_from_front, stepped, with_step, closed_at_mark, deliveries_by, delivery_by, discarded, entries_by, entry_by, fault_at, gap_by, heard, implied_over, is_gap, is_nothing, is_overtaking, is_sent_by, item_by, mark_judged, message_by, next_entry, or_else, own_judged, tied, told_replayed}
+use Rattle.tcap_certificate.specs.Replay.{Replay, all_lost_from, lost_from_front, stepped, with_step, closed_at_mark, deliveries_by, delivery_by, discarded, entries_by, entry_by, fault_at, gap_by, heard, implied_over, is_gap, is_nothing, is_overtaking, is_sent_by, item_by, mark_judged, message_by, next_entry, own_judged, tied, told_replayed}
 use Rattle.tcap_model.proofs.ListLaws.{all_both, all_weaker}
 use Rattle.tcap_model.proofs.RunLaws.{grows, map_some, same_side}
 use Rattle.tcap_check.proofs.replay_laws.ReplaySteps.{Extends, Replays, channel_with, extends_nothing, extends_then, losing_replays, stepped_extends, discard_is, sending_so}
@@ -190,12 +191,12 @@ heard_leads side table c n r next is =
     let before = lost_from_front c (other side) r in
     leads_then side table r before next [] [] (front_leads side table c (other side) r)
     (by before (stepped table (Receives side n) before) refl
-    (some_ok (or_else (stepped table (Receives side n) before) (discarded table side n before))
+    (some_ok (option_or (stepped table (Receives side n) before) (discarded table side n before))
     (fault_at BadReply n)
     next is))
   where
     by : (before : Replay) (o : Option Replay) → stepped table (Receives side n) before ≡ o
-        → or_else o (discarded table side n before) ≡ Some next → Leads side table before [] next
+        → option_or o (discarded table side n before) ≡ Some next → Leads side table before [] next
     by before (Some x) at found =
         step_leads side table (Receives side n) [] before next refl (at ∙ found) (λ adds none. none)
     by before None at found =

@@ -1,5 +1,6 @@
 -- The replay for one end takes each of its peer's messages.
 use Rattle.std.proofs.Common.{arith, ◌≡◌, ◌≤◌, ◌<◌, ◌⊎◌, inl, inr, ℕ, zero, suc, ◌+◌, ◌==◌, Bool, true, false, cond, List, [], ◌∷◌, length, Option, Some, None, Result, Ok, Err, refl, sym, ap, ap₂, subst, ◌∙◌}
+use Rattle.std.specs.Option.{option_or}
 use Rattle.std.specs.Prelude.{◌&&◌, not, ok_or, slice_get}
 use Rattle.std.proofs.lemmas.Bool.{eq-eqb, eqb-false, eqb-true}
 use Rattle.std.proofs.lemmas.List.{length-append}
@@ -18,7 +19,7 @@ use Rattle.tcap_model.specs.World.{Item, Sent, is_side}
 use Rattle.tcap_model.specs.Run.{Event, Receives, Replies, Loses, after, numbers_taken, takes_from}
 use Rattle.tcap_certificate.specs.Certificate.{Certificate}
 use Rattle.tcap_certificate.specs.DescribedRun.{sending_by, taken_by}
-use Rattle.tcap_certificate.specs.Replay.{Replay, all_lost_from, deliveries_by, delivery_by, discarded, entries_by, entry_by, fault_at, gap_by, heard, is_gap, is_nothing, is_overtaking, item_by, lost_from_front, mark_judged, message_by, next_entry, or_else, own_judged, reply_replayed, stepped, tied, told_replayed}
+use Rattle.tcap_certificate.specs.Replay.{Replay, all_lost_from, deliveries_by, delivery_by, discarded, entries_by, entry_by, fault_at, gap_by, heard, is_gap, is_nothing, is_overtaking, item_by, lost_from_front, mark_judged, message_by, next_entry, own_judged, reply_replayed, stepped, tied, told_replayed}
 use Rattle.tcap_check.proofs.replay_laws.ReplaySteps.{discard_is, IsIn, sending_so}
 use Rattle.tcap_check.proofs.given_run_laws.GivenRuns.{replied_at, among_filter}
 use Rattle.tcap_check.proofs.given_run_laws.NumberLaws.{among_plain, taken_left, taken_right}
@@ -66,12 +67,12 @@ heard_takes : (side : Side) (table : Table) (c : Certificate) (n : ℕ) (r next 
 heard_takes side table c n r next is =
     let before = lost_from_front c (other side) r in
     by before (stepped table (Receives side n) before) refl
-    (some_ok (or_else (stepped table (Receives side n) before) (discarded table side n before))
+    (some_ok (option_or (stepped table (Receives side n) before) (discarded table side n before))
     (fault_at BadReply n)
     next is)
   where
     by : (before : Replay) (o : Option Replay) → stepped table (Receives side n) before ≡ o
-        → or_else o (discarded table side n before) ≡ Some next → Took side n next
+        → option_or o (discarded table side n before) ≡ Some next → Took side n next
     by before (Some x) at found = took_by side table n (Receives side n)
         before next (received_takes side n) (at ∙ found)
     by before None at found =

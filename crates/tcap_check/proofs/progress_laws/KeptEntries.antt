@@ -1,5 +1,6 @@
 -- The steps of a checker over what is kept are those of the replay, entry by entry.
 use Rattle.std.proofs.Common.{◌≡◌, ℕ, ◌+◌, Bool, true, false, cond, List, [], ◌∷◌, ◌++◌, filter, length, Option, Some, None, Result, Ok, refl, sym, ap, ap₂, subst, ◌∙◌, arith, append-nil, ◌==◌, drop, Err}
+use Rattle.std.specs.Option.{option_or}
 use Rattle.std.specs.Prelude.{not, option_map, slice_get, ◌&&◌, ok_or}
 use Rattle.tcap_msg.specs.declared.message.Message.{Message}
 use Rattle.tcap_record.specs.declared.entry.End.{End as Side}
@@ -16,7 +17,7 @@ use Rattle.tcap_model.specs.World.{Item, Sent, World, channel_from, end_at, is_s
 use Rattle.tcap_model.specs.Run.{Tells, joined, Loses, Quiet, Receives, after, numbers_of}
 use Rattle.tcap_certificate.specs.Certificate.{Certificate}
 use Rattle.tcap_certificate.specs.DescribedRun.{taken_by, sending_by}
-use Rattle.tcap_certificate.specs.Replay.{Replay, behind_sending, fault_at, gap_by, is_gap, is_nothing, is_overtaking, is_sent_by, item_by, mark_judged, next_entry, own_message, tied, told_replayed, with_step, all_lost_from, certificate_fits, closed_at_mark, deliveries_by, delivery_by, discarded, entry_by, heard, lost_from_front, message_by, nothing_replayed, or_else, own_judged, stepped}
+use Rattle.tcap_certificate.specs.Replay.{Replay, behind_sending, fault_at, gap_by, is_gap, is_nothing, is_overtaking, is_sent_by, item_by, mark_judged, next_entry, own_message, tied, told_replayed, with_step, all_lost_from, certificate_fits, closed_at_mark, deliveries_by, delivery_by, discarded, entry_by, heard, lost_from_front, message_by, nothing_replayed, own_judged, stepped}
 use Rattle.tcap_check.specs.EntryOutlines.{is_named, outline_of, outlines_from, since_from}
 use Rattle.tcap_check.specs.Progress.{overtakes, seat_at}
 use Rattle.tcap_check.specs.ReplaySteps.{is_heard, is_told, mark_taken, own_taken, told_among, told_taken}
@@ -238,14 +239,14 @@ heard_keeps : (side : Side) (table : Table) (c : Certificate) (n : ℕ) (r next 
     → channel_from side next.world ≡ channel_from side r.world
 heard_keeps side table c n r next is =
     by (stepped table (Receives side n) before) refl
-    (some_ok (or_else (stepped table (Receives side n) before) (discarded table side n before)) (fault_at BadReply n) next is)
+    (some_ok (option_or (stepped table (Receives side n) before) (discarded table side n before)) (fault_at BadReply n) next is)
     ∙ own_with_channel side _ r.world
   where
     before : Replay
     before = lost_from_front c (other side) r
 
     by : (o : Option Replay) → stepped table (Receives side n) before ≡ o
-        → or_else o (discarded table side n before) ≡ Some next
+        → option_or o (discarded table side n before) ≡ Some next
         → channel_from side next.world ≡ channel_from side before.world
     by (Some x) at found =
         let event = Receives side n in

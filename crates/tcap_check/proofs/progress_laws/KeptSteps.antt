@@ -1,5 +1,6 @@
 -- How each step of a replay, a gap, and an item change the count of messages that wait for judged ends.
 use Rattle.std.proofs.Common.{◌≡◌, ℕ, ◌+◌, ◌==◌, arith, Bool, true, false, cond, nat_le, List, [], ◌∷◌, length, Option, Some, None, Result, Ok, Err, refl, sym, ap, ap₂, ◌∙◌}
+use Rattle.std.specs.Option.{option_or}
 use Rattle.std.specs.Prelude.{◌&&◌, ok_or, slice_get}
 use Rattle.std.proofs.lemmas.Bool.{eqb-false}
 use Rattle.tcap_msg.specs.declared.message.Message.{Message}
@@ -22,7 +23,7 @@ use Rattle.tcap_model.specs.World.{Item, OnItsWay, Sent, World, channel_from, en
 use Rattle.tcap_model.specs.Run.{Sends, Receives, Replies, Loses, Closes, Quiet, after, joined}
 use Rattle.tcap_certificate.specs.Certificate.{Certificate}
 use Rattle.tcap_certificate.specs.DescribedRun.{invoking_half, sending_by}
-use Rattle.tcap_certificate.specs.Replay.{Replay, all_lost_from, behind_sending, closed_at_mark, closed_before, deliveries_by, discarded, fault_at, gap_by, happens, heard, implied_over, is_abort, lost_from_front, lost_last, message_by, next_entry, or_else, received, send_replayed, sent_or_refused, stepped, with_step}
+use Rattle.tcap_certificate.specs.Replay.{Replay, all_lost_from, behind_sending, closed_at_mark, closed_before, deliveries_by, discarded, fault_at, gap_by, happens, heard, implied_over, is_abort, lost_from_front, lost_last, message_by, next_entry, received, send_replayed, sent_or_refused, stepped, with_step}
 use Rattle.tcap_check.proofs.replay_laws.ReplaySteps.{discard_is, waiting, sending_so}
 use Rattle.tcap_check.specs.ReplaySteps.{is_heard}
 use Rattle.tcap_model.proofs.RunLaws.{delivery, loss, map_some, quiet as quiet_step, reply}
@@ -113,13 +114,13 @@ heard_waits : (table : Table) (c : Certificate) (side : Side) (n : ℕ) (r next 
     → count_for (Some side) c.fates next.world + 1 ≡ count_for (Some side) c.fates r.world
 heard_waits table c side n r next is =
     by (stepped table (Receives side n) before) refl
-    (some_ok (or_else (stepped table (Receives side n) before) (discarded table side n before)) (fault_at BadReply n) next is)
+    (some_ok (option_or (stepped table (Receives side n) before) (discarded table side n before)) (fault_at BadReply n) next is)
   where
     before : Replay
     before = lost_from_front c (other side) r
 
     by : (o : Option Replay) → stepped table (Receives side n) before ≡ o
-        → or_else o (discarded table side n before) ≡ Some next
+        → option_or o (discarded table side n before) ≡ Some next
         → count_for (Some side) c.fates next.world + 1 ≡ count_for (Some side) c.fates r.world
     by (Some x) at found = receives_wait (Some side) table c side n before next r (itself (other side)) refl (at ∙ found)
     by None at found =

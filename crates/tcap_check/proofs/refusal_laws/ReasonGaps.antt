@@ -1,6 +1,7 @@
 -- What a refusal shows if a number of the certificate is out of range, or if it is for a step in a gap, for each choice
 -- of judged ends.
 use Rattle.std.proofs.Common.{◌≡◌, ◌⊎◌, inl, inr, ℕ, zero, suc, ◌+◌, ◌==◌, nat_lt, nat_le, arith, Bool, true, false, cond, List, [], ◌∷◌, ◌++◌, map, filter, take, length, Option, Some, None, Result, Ok, Err, refl, sym, ap, subst, ◌∙◌, append-nil}
+use Rattle.std.specs.Option.{option_or}
 use Rattle.std.specs.Prelude.{◌&&◌, ok_or, slice_get}
 use Rattle.std.proofs.lemmas.Bool.{and_cases, eqb-true, leb-false, ltb-false}
 use lib.Seq.{take-append_seam}
@@ -21,7 +22,7 @@ use Rattle.tcap_model.specs.Run.{Event, Receives}
 use Rattle.tcap_certificate.specs.Certificate.{Certificate}
 use Rattle.tcap_model.specs.Entries.{AreItems, IsItem}
 use Rattle.tcap_check.specs.GivenRun.{IsAt, IsOutside, IsReason}
-use Rattle.tcap_certificate.specs.Replay.{Replay, all_fit, certificate_fits, deliveries_by, delivery_by, discarded, fate_fits, fates_fit, fault_at, gap_by, happens, is_due, is_judged, lost_before, lost_from_front, next_entry, or_else, received, stepped}
+use Rattle.tcap_certificate.specs.Replay.{Replay, all_fit, certificate_fits, deliveries_by, delivery_by, discarded, fate_fits, fates_fit, fault_at, gap_by, happens, is_due, is_judged, lost_before, lost_from_front, next_entry, received, stepped}
 use Rattle.tcap_check.specs.declared.listed_steps.Listed.{Listed}
 use Rattle.tcap_check.specs.declared.listed_steps.Listed.TheVariants as listings
 use Rattle.tcap_check.specs.ListedSteps.{all_replayed, entry_of, event_listed, listed_for, listed_in, listed_replayed, side_of, why_refused}
@@ -290,7 +291,7 @@ received_refused None table c sender number r fault is =
     (none_err (stepped table event (lost_before c event r)) (fault_at reasons.BadReply number) fault is).1
 received_refused (Some side) table c sender number r fault is =
     let before = lost_from_front c (other side) r in
-    (none_err (or_else (stepped table (Receives side number) before) (discarded table side number before))
+    (none_err (option_or (stepped table (Receives side number) before) (discarded table side number before))
     (fault_at reasons.BadReply number) fault is).1
 
 -- A delivery cannot happen.

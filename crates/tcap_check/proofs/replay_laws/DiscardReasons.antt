@@ -1,6 +1,7 @@
 -- Each discard has the reason that the end gives when it cannot receive the message. Each other loss of a message to a
 -- judged end has a loss as its fate.
 use Rattle.std.proofs.Common.{◌≡◌, ◌⊎◌, inl, inr, ℕ, suc, zero, true, false, List, [], ◌∷◌, ◌++◌, map, Option, Some, None, Result, Ok, Err, arith, refl, sym, ap, subst, ◌∙◌, append_assoc}
+use Rattle.std.specs.Option.{option_or}
 use Rattle.std.specs.Prelude.{Contains, ◌+◌, Bool, cond, slice_get}
 use Rattle.std.specs.List.{AllByRecursion}
 use Rattle.std.proofs.lemmas.Bool.{eq-eqb}
@@ -24,7 +25,7 @@ use Rattle.tcap_certificate.specs.declared.certificate.Fate.TheVariants.{Gap, Lo
 use Rattle.tcap_certificate.specs.declared.fault.CheckFault.{CheckFault}
 use Rattle.tcap_certificate.specs.Certificate.{Certificate}
 use Rattle.tcap_certificate.specs.DescribedRun.{is_loss, losses_from, lost_from}
-use Rattle.tcap_certificate.specs.Replay.{Replay, all_lost_from, certificate_fits, discarded, discards_by, entries_by, fault_at, heard, if_lost, is_heard, lost_front, lost_from_front, lost_last, nothing_replayed, or_else, run_by, stepped, why_not_first, with_discards, with_step}
+use Rattle.tcap_certificate.specs.Replay.{Replay, all_lost_from, certificate_fits, discarded, discards_by, entries_by, fault_at, heard, if_lost, is_heard, lost_front, lost_from_front, lost_last, nothing_replayed, run_by, stepped, why_not_first, with_discards, with_step}
 use Rattle.tcap_check.specs.CheckerMeaning.{taken, taken_from}
 use Rattle.tcap_check.specs.RunSoFar.{DiscardsSo, IsDiscardOf, TellsSo}
 use Rattle.tcap_check.specs.ReportedSteps.{IsDiscarded, IsTold, MayAllBeDiscarded}
@@ -261,7 +262,7 @@ module _ (side : Side) (table : Table) (c : Certificate) where
   pub tells_heard : (number : ℕ) (r next : Replay) → heard table c side number r ≡ Ok next → Tells r → Tells next
   tells_heard number r next is so =
       by (stepped table (Receives side number) before) refl
-      (some_ok (or_else (stepped table (Receives side number) before) (discarded table side number before)) (fault_at BadReply number) next is)
+      (some_ok (option_or (stepped table (Receives side number) before) (discarded table side number before)) (fault_at BadReply number) next is)
     where
       before : Replay
       before = lost_from_front c (other side) r
@@ -270,7 +271,7 @@ module _ (side : Side) (table : Table) (c : Certificate) where
       front = tells_front (Some side) table c (other side) r so
 
       by : (o : Option Replay) → stepped table (Receives side number) before ≡ o
-          → or_else o (discarded table side number before) ≡ Some next → Tells next
+          → option_or o (discarded table side number before) ≡ Some next → Tells next
       by (Some x) at found = tells_step (Some side) table c (Receives side number) before next refl (at ∙ found) front
       by None at found = discarded_tells number before next at (front_stays c (other side) r) found front
 

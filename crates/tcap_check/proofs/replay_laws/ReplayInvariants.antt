@@ -1,5 +1,6 @@
 -- What each step of a replay keeps holds for the whole replay.
 use Rattle.std.proofs.Common.{◌≡◌, ℕ, ℤ, ◌+◌, ◌==◌, Bool, true, false, cond, List, [], ◌∷◌, length, Option, Some, None, Result, Ok, Err, refl, ap, subst, ◌∙◌, map, sym}
+use Rattle.std.specs.Option.{option_or}
 use Rattle.std.specs.Prelude.{filter_map, not, ok_or, slice_get}
 use Rattle.tcap_msg.specs.declared.message.Message.{Message}
 use Rattle.tcap_msg.specs.Parts.{components_in}
@@ -23,7 +24,7 @@ use Rattle.tcap_certificate.specs.declared.fault.CheckFault.{CheckFault}
 use Rattle.tcap_certificate.specs.Certificate.{Certificate}
 use Rattle.tcap_certificate.specs.DescribedRun.{invoke_id, invoking_half, is_loss, sending_by}
 use Rattle.tcap_check.specs.CheckerMeaning.{taken_from, taken_next}
-use Rattle.tcap_certificate.specs.Replay.{Replay, all_lost_from, behind_sending, closed_at_mark, closed_before, comes_in_order, deliveries_by, delivery_by, entries_by, entry_by, fault_at, gap_by, happens, heard, implied, implied_over, is_abort, is_due, is_gap, is_nothing, is_overtaking, item_by, lost_before, lost_from_front, lost_last, mark_judged, message_by, next_entry, or_same, own_judged, received, sent_or_refused, stepped, tied, told_replayed, with_step, certificate_fits, discarded, discards_by, nothing_replayed, or_else, why_not_first}
+use Rattle.tcap_certificate.specs.Replay.{Replay, all_lost_from, behind_sending, closed_at_mark, closed_before, comes_in_order, deliveries_by, delivery_by, entries_by, entry_by, fault_at, gap_by, happens, heard, implied, implied_over, is_abort, is_due, is_gap, is_nothing, is_overtaking, item_by, lost_before, lost_from_front, lost_last, mark_judged, message_by, next_entry, or_same, own_judged, received, sent_or_refused, stepped, tied, told_replayed, with_step, certificate_fits, discarded, discards_by, nothing_replayed, why_not_first}
 use Rattle.tcap_check.proofs.given_run_laws.GivenRuns.{both_ok}
 use Rattle.tcap_check.specs.declared.listed_steps.Listed.{Listed}
 use Rattle.tcap_check.specs.ListedSteps.{all_replayed, entry_of, event_listed, listed_for, listed_replayed, why_refused}
@@ -279,13 +280,13 @@ module _ (judged : Option Side) (table : Table) (c : Certificate) where
       → heard table c side number r ≡ Ok next → AllMay r → AllMay next
   heard_may side number r next this is may =
       by (stepped table (Receives side number) before) refl
-      (some_ok (or_else (stepped table (Receives side number) before) (discarded table side number before)) (fault_at BadReply number) next is)
+      (some_ok (option_or (stepped table (Receives side number) before) (discarded table side number before)) (fault_at BadReply number) next is)
     where
       before : Replay
       before = lost_from_front c (other side) r
 
       by : (o : Option Replay) → stepped table (Receives side number) before ≡ o
-          → or_else o (discarded table side number before) ≡ Some next → AllMay next
+          → option_or o (discarded table side number before) ≡ Some next → AllMay next
       by (Some x) at found = step_may (Receives side number) before next (at ∙ found) may
       by None at found = discarded_may side number before next this found may
 

@@ -1,5 +1,6 @@
 -- The loops over the components of a message find the first component with each kind.
 use Rattle.std.proofs.Common.{◌≡◌, ℕ, suc, ℤ, ◌+◌, ◌≤◌, arith, Bool, true, false, cond, List, [], ◌∷◌, ◌++◌, length, filter, Option, Some, None, is_some, length-append, int_cmp, refl, sym, ap, ap₂, ◌∙◌}
+use Rattle.std.specs.Option.{option_or}
 use Rattle.std.specs.Prelude.{◌||◌, map, option_to_list}
 use Rattle.std.specs.BTreeSet.{BTreeSet, contains}
 use Rattle.std.specs.List.{list_any}
@@ -14,7 +15,6 @@ use Rattle.tcap_refute.specs.EarlierMessages.{invokes, is_reject}
 use Rattle.tcap_faults.specs.Components.{has_component, invokes_again, is_linked}
 use Rattle.tcap_faults.specs.Counts.{count}
 use Rattle.tcap_refute.specs.FirstComponent.{first_so}
-use Rattle.tcap_refute.specs.Kind.{or_else}
 use Rattle.tcap_faults.proofs.list_laws.CountLaws.{count_both}
 use Rattle.tcap_refute.proofs.TestLaws.{or_none}
 use Rattle.tcap_faults.specs.ComponentKinds.{answers_again, invokes_busy, links_badly, may_reject_answer, rejects_wrongly}
@@ -41,12 +41,12 @@ few_split told own left all whole few = rw (append_assoc told own left, whole) f
 
 -- ---- the first component
 
-or_nothing : {A : Type 0} (o : Option A) → or_else o None ≡ o
+or_nothing : {A : Type 0} (o : Option A) → option_or o None ≡ o
 or_nothing o = grind arith
 
 -- A component that is found now comes before those that are left.
 first_else : (old : Option ℕ) (now : Bool) (number : ℕ) (left : Option ℕ)
-    → or_else (first_or old now number) left ≡ or_else old (cond now (Some number) left)
+    → option_or (first_or old now number) left ≡ option_or old (cond now (Some number) left)
 first_else old now number left = grind arith
 
 -- There is a first component exactly if one passes.
@@ -138,7 +138,7 @@ module _ (table : Table) (h : HalfOf) (half : Half) (tally rejects : Tally) (own
 abbrev IsFoundSo : (List Component → List Component → Component → Bool) → List Component → List Component → List Component
     → List Component → ℕ → Option ℕ → Type 0
 IsFoundSo is_so told all own left number found =
-    or_else found (component_so is_so number own (told ++ own) left) ≡ component_so is_so 0 [] told all
+    option_or found (component_so is_so number own (told ++ own) left) ≡ component_so is_so 0 [] told all
 
 pub record IsSoFar (table : Table) (h : HalfOf) (all own left : List Component) (number : ℕ) (found : ComponentFaults) : Type 0 where
   pub busy : IsFoundSo (invokes_busy table h (h.told ++ all)) h.told all own left number found.busy
@@ -256,7 +256,7 @@ pub record IsFirstSoFar (all left : List Component) (seen : BTreeSet ℤ) (numbe
   pub ids : (id : ℤ) → contains int_cmp seen id ≡ list_any (invokes id) done
   pub counted : number + length left ≡ length all
   pub busy : IsFoundSo invokes_again [] all done left number found.busy
-  pub badly_linked : or_else found.badly_linked (first_so is_linked number left) ≡ first_so is_linked 0 all
+  pub badly_linked : option_or found.badly_linked (first_so is_linked number left) ≡ first_so is_linked 0 all
   pub answered_already : found.answered_already ≡ None
   pub wrongly_rejected : found.wrongly_rejected ≡ None
 

@@ -1,5 +1,6 @@
 -- What blaming an entry on an end implies for all runs.
 use Rattle.std.proofs.Common.{◌≡◌, inl, inr, Bool, true, false, cond, ℕ, zero, suc, ◌+◌, ◌-◌, arith, List, [], ◌∷◌, ◌++◌, map, length, slice_get, Option, Some, None, Result, Ok, Err, not, refl, sym, ap, subst, ◌∙◌}
+use Rattle.std.specs.Option.{option_or}
 use Rattle.std.specs.Prelude.{◌&&◌}
 use Rattle.std.specs.List.{find}
 use Rattle.std.proofs.lemmas.Bool.{and_parts}
@@ -23,7 +24,7 @@ use Rattle.tcap_refute.specs.declared.kind.Kind.{Kind}
 use Rattle.tcap_refute.specs.declared.kind.Kind.TheVariants as kinds
 use Rattle.tcap_refute.specs.declared.kind.Refutation.{Refutation}
 use Rattle.tcap_refute.specs.EarlierMessages.{since_quiet}
-use Rattle.tcap_refute.specs.Kind.{kind_of_reason, or_else, refutation_at}
+use Rattle.tcap_refute.specs.Kind.{kind_of_reason, refutation_at}
 use Rattle.tcap_refute.specs.FirstKinds.{first_kinds}
 use Rattle.tcap_refute.proofs.RefutedLaws.{bad_reason, found_so, oks}
 use Rattle.tcap_faults.specs.BlameMeaning.{HasNoMessage, IsAtFaultOf, IsBadEntryOf}
@@ -108,14 +109,14 @@ module _ (table : Table) (side : Side) (r : Refutation) (front : List Entry) (e 
   -- The entry is a message: it has the fault, or an entry after it has.
   of_message : (sender : Side) (message : Message) → item_of e ≡ Ok (Sent sender message) → (later : Option Refutation)
       → (later ≡ Some r → IsAtFaultOf table side (front ++ e ∷ more) r)
-      → or_else (refutation_at (length before) (fault_since table side (since_quiet before) (Sent sender message))) later ≡ Some r
+      → option_or (refutation_at (length before) (fault_since table side (since_quiet before) (Sent sender message))) later ≡ Some r
       → IsAtFaultOf table side (front ++ e ∷ more) r
   of_message sender message read later on is =
       by (is_side side sender && not (has_used_again table side (since_quiet before ++ Sent sender message ∷ []))) refl is
     where
       found : (o : Option Kind) → is_side side sender ≡ true
           → find (is_fault table side (since_quiet before) message) (first_kinds ++ further_kinds) ≡ o
-          → or_else (refutation_at (length before) o) later ≡ Some r → IsAtFaultOf table side (front ++ e ∷ more) r
+          → option_or (refutation_at (length before) o) later ≡ Some r → IsAtFaultOf table side (front ++ e ∷ more) r
       found None mine named is = on is
       found (Some kind) mine named is =
           let same : side ≡ sender = same_side side sender mine in
@@ -135,7 +136,7 @@ module _ (table : Table) (side : Side) (r : Refutation) (front : List Entry) (e 
 
       by : (b : Bool)
           → (is_side side sender && not (has_used_again table side (since_quiet before ++ Sent sender message ∷ []))) ≡ b
-          → or_else (refutation_at (length before)
+          → option_or (refutation_at (length before)
           (cond b (find (is_fault table side (since_quiet before) message) (first_kinds ++ further_kinds)) None)) later ≡ Some r
           → IsAtFaultOf table side (front ++ e ∷ more) r
       by true mine is =
@@ -145,14 +146,14 @@ module _ (table : Table) (side : Side) (r : Refutation) (front : List Entry) (e 
 
   of_mark : item_of e ≡ Ok Item.Quiet → (later : Option Refutation)
       → (later ≡ Some r → IsAtFaultOf table side (front ++ e ∷ more) r)
-      → or_else (refutation_at (length before) (fault_since table side (since_quiet before) Item.Quiet)) later ≡ Some r
+      → option_or (refutation_at (length before) (fault_since table side (since_quiet before) Item.Quiet)) later ≡ Some r
       → IsAtFaultOf table side (front ++ e ∷ more) r
   of_mark read later on is =
       by (not (has_used_again table side (since_quiet before)) && is_open_at_mark table side (since_quiet before)) refl is
     where
       by : (b : Bool)
           → (not (has_used_again table side (since_quiet before)) && is_open_at_mark table side (since_quiet before)) ≡ b
-          → or_else (refutation_at (length before) (cond b (Some kinds.OpenAtMark) None)) later ≡ Some r
+          → option_or (refutation_at (length before) (cond b (Some kinds.OpenAtMark) None)) later ≡ Some r
           → IsAtFaultOf table side (front ++ e ∷ more) r
       by true so is =
           let left = (and_parts (not (has_used_again table side (since_quiet before))) _ so).1 in

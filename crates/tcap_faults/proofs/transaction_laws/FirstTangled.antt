@@ -1,5 +1,6 @@
 -- There is a first tangled ID exactly if a message goes over tangled IDs, and it is found from what is kept.
 use Rattle.std.proofs.Common.{◌≡◌, ◌⊎◌, inl, inr, ℕ, Bool, true, false, cond, ◌||◌, List, [], ◌∷◌, ◌++◌, Option, Some, None, is_some, refl, sym, ap, ap₂, ◌∙◌, arith}
+use Rattle.std.specs.Option.{option_or}
 use Rattle.std.proofs.lemmas.Bool.Decides.{nat_tests}
 use Rattle.std.specs.Prelude.{Contains, ◌&&◌, nat_le}
 use Rattle.std.specs.List.{flat_map, list_any}
@@ -13,7 +14,6 @@ use Rattle.tcap_record.specs.declared.entry.End.{End as Side}
 use Rattle.tcap_record.specs.Ends.{other}
 use Rattle.tcap_model.specs.World.{Item}
 use Rattle.tcap_refute.specs.EarlierMessages.{asked, has_a, is_a}
-use Rattle.tcap_refute.specs.Kind.{or_else}
 use Rattle.tcap_refute.proofs.Members.{has_first, has_later, has_not}
 use Rattle.tcap_faults.specs.declared.verdict.unblamed_reason.Tangle.{Tangle}
 use Rattle.tcap_faults.specs.declared.verdict.unblamed_reason.Tangle.TheVariants.{TwoIds, BegunTwice, BothBegan, Guessed}
@@ -30,11 +30,11 @@ use Rattle.tcap_faults.proofs.transaction_laws.TangledLaws.{all_same}
 none_from : {A : Type 0} (o : Option A) → is_some o ≡ false → o ≡ None
 none_from o none = grind (arith, none)
 
-either_some : {A : Type 0} (a b : Option A) → is_some (or_else a b) ≡ (is_some a || is_some b)
+either_some : {A : Type 0} (a b : Option A) → is_some (option_or a b) ≡ (is_some a || is_some b)
 either_some a b = grind arith
 
-or_else_all : {A : Type 0} (a b c : Option A) → or_else (or_else a b) c ≡ or_else a (or_else b c)
-or_else_all a b c = grind arith
+option_or_all : {A : Type 0} (a b c : Option A) → option_or (option_or a b) c ≡ option_or a (option_or b c)
+option_or_all a b c = grind arith
 
 -- An own ID has a reason exactly if it is tangled.
 own_has : (side : Side) (items : List Item) (own : List ℕ) → is_some (tangle_of_own side items own) ≡ is_own_tangled side items own
@@ -63,18 +63,18 @@ module _ (of : Side) where
   module _ (why : List ℕ → Option Tangle) where
     -- The first of two joined lists is the first of the first list, or else of the second.
     first_both : (xs ys : List (List ℕ))
-        → first_tangled of why (xs ++ ys) ≡ or_else (first_tangled of why xs) (first_tangled of why ys)
+        → first_tangled of why (xs ++ ys) ≡ option_or (first_tangled of why xs) (first_tangled of why ys)
     first_both [] ys = refl
     first_both (x ∷ xs) ys =
-        ap (or_else (tangled_for of x (why x))) (first_both xs ys)
-        ∙ sym (or_else_all (tangled_for of x (why x)) (first_tangled of why xs) (first_tangled of why ys))
+        ap (option_or (tangled_for of x (why x))) (first_both xs ys)
+        ∙ sym (option_or_all (tangled_for of x (why x)) (first_tangled of why xs) (first_tangled of why ys))
 
     -- If all IDs are equal, the first tangled ID is any of them, if it is tangled.
     first_same : (ids : List (List ℕ)) (x : List ℕ) → Contains ids x → two_differ ids ≡ false
         → first_tangled of why ids ≡ tangled_for of x (why x)
     first_same [] x has same = has_not x has
     first_same (id ∷ more) x has same =
-        ap (λ o. or_else o (first_tangled of why more)) (ap (λ y. tangled_for of y (why y)) here) ∙ by (why x) refl
+        ap (λ o. option_or o (first_tangled of why more)) (ap (λ y. tangled_for of y (why y)) here) ∙ by (why x) refl
       where
         here : id ≡ x
         here = all_same (id ∷ more) id x same (has_first id more) has
@@ -82,12 +82,12 @@ module _ (of : Side) where
         rest : (ys : List (List ℕ)) → ((y : List ℕ) → Contains ys y → y ≡ x) → why x ≡ None → first_tangled of why ys ≡ None
         rest [] so none = refl
         rest (y ∷ ys) so none =
-            ap (λ z. or_else (tangled_for of z (why z)) (first_tangled of why ys)) (so y (has_first y ys))
-            ∙ ap (λ o. or_else (tangled_for of x o) (first_tangled of why ys)) none
+            ap (λ z. option_or (tangled_for of z (why z)) (first_tangled of why ys)) (so y (has_first y ys))
+            ∙ ap (λ o. option_or (tangled_for of x o) (first_tangled of why ys)) none
             ∙ rest ys (λ z in_ys. so z (has_later y ys z in_ys)) none
 
         by : (o : Option Tangle) → why x ≡ o
-            → or_else (tangled_for of x (why x)) (first_tangled of why more) ≡ tangled_for of x (why x)
+            → option_or (tangled_for of x (why x)) (first_tangled of why more) ≡ tangled_for of x (why x)
         by None none =
             let left = rest more (λ y in_more. all_same (id ∷ more) y x same (has_later id more y in_more) has) none in
             rw (none, left) refl
@@ -124,7 +124,7 @@ first_is of why (id ∷ more) t is = by (λ rest. first_is of why more t rest) (
         (end, rw here (has_first id more), ap why here ∙ so)
 
 -- The first value of three is one of them.
-one_has : (a b c : Option TangledId) (t : TangledId) → or_else a (or_else b c) ≡ Some t
+one_has : (a b c : Option TangledId) (t : TangledId) → option_or a (option_or b c) ≡ Some t
     → (a ≡ Some t) ⊎ ((b ≡ Some t) ⊎ (c ≡ Some t))
 one_has (Some x) b c t is = inl is
 one_has None (Some x) c t is = inr (inl is)
@@ -238,10 +238,10 @@ module _ (side : Side) (items : List Item) (id : List ℕ) where
           (id_told side items (own ∷ []) id ∙ sym (plain_itself side items id (plain (sym none)) none_own own has)))
 
       near_besides : (own : List ℕ) → first_tangled side (tangle_of_own side items) (owns_of side items id ++ own ∷ [])
-          ≡ or_else (tangled_for side own (tangle_of_own side items own)) None
+          ≡ option_or (tangled_for side own (tangle_of_own side items own)) None
       near_besides own =
           first_both side (tangle_of_own side items) (owns_of side items id) (own ∷ [])
-          ∙ ap (λ o. or_else o (or_else (tangled_for side own (tangle_of_own side items own)) None)) (sym no_own)
+          ∙ ap (λ o. option_or o (option_or (tangled_for side own (tangle_of_own side items own)) None)) (sym no_own)
 
       -- Otherwise the first is the additional own ID, or the first ID of the peer that is joined with it.
       pub tangled_besides : (own : List ℕ) (t : TangledId) → Some t ≡ tangled_for side own (tangle_of_own side items own)

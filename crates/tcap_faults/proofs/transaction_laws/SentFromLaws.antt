@@ -18,7 +18,7 @@ use Rattle.tcap_end.specs.Table.{Table, octets_cmp}
 use Rattle.tcap_refute.specs.EarlierMessages.{components_of, is_a}
 use Rattle.tcap_refute.specs.Facts.{FromFact, shows_from}
 use Rattle.tcap_refute.specs.KeptFacts.{tells_from}
-use Rattle.tcap_refute.specs.Kind.{is_begin_with_request, or_else}
+use Rattle.tcap_refute.specs.Kind.{is_begin_with_request}
 use Rattle.tcap_refute.specs.declared.sent_from_id.FromId.{FromId}
 use Rattle.tcap_refute.proofs.TestLaws.{or_none}
 use Rattle.tcap_faults.specs.Counts.{count}
@@ -106,10 +106,10 @@ neither kind m is no_begin no_continue = (refl, refl)
 -- ---- Begins
 
 module _ {A : Type 0} (p : A → Bool) where
-  find_more : (xs : List A) (x : A) → find p (xs ++ x ∷ []) ≡ or_else (find p xs) (cond (p x) (Some x) None)
+  find_more : (xs : List A) (x : A) → find p (xs ++ x ∷ []) ≡ option_or (find p xs) (cond (p x) (Some x) None)
   find_more xs x = find-append p xs (x ∷ []) ∙ by (find p xs)
     where
-      by : (o : Option A) → option_or o (cond (p x) (Some x) None) ≡ or_else o (cond (p x) (Some x) None)
+      by : (o : Option A) → option_or o (cond (p x) (Some x) None) ≡ option_or o (cond (p x) (Some x) None)
       by o = grind arith
 
   -- With one more Begin, there are two exactly if there was one.
@@ -154,7 +154,7 @@ module _ (table : Table) (ms : List Message) (m : Message) (old : SentFrom) (was
     where
       by : (found : Option Message) (kept : Option FirstBegin) → IsFirstBegin table found kept
           → (is_a forms.Begin m ≡ false) ⊎ (is_some kept ≡ true)
-          → IsFirstBegin table (or_else found (cond (is_a forms.Begin m) (Some m) None)) kept
+          → IsFirstBegin table (option_or found (cond (is_a forms.Begin m) (Some m) None)) kept
       by None None is (inl none) = rw none tt
       by None None is (inr some) = cc
       by (Some begin) (Some kept) is _ = is
@@ -167,7 +167,7 @@ module _ (table : Table) (ms : List Message) (m : Message) (old : SentFrom) (was
   begin_first kept it none is =
       rw (find_more (is_a forms.Begin) ms m, it) (by (find (is_a forms.Begin) ms) (is_begun ∙ none))
     where
-      by : (found : Option Message) → is_some found ≡ false → IsFirstBegin table (or_else found (Some m)) (Some kept)
+      by : (found : Option Message) → is_some found ≡ false → IsFirstBegin table (option_or found (Some m)) (Some kept)
       by None first = is
       by (Some begin) bad = cc
 

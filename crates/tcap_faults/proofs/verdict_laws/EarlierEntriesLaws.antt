@@ -11,7 +11,6 @@ use Rattle.tcap_model.specs.declared.reason.Reason.{Reason}
 use Rattle.tcap_model.specs.World.{Item, Sent}
 use Rattle.tcap_model.specs.Entries.{item_of}
 use Rattle.tcap_refute.specs.EarlierMessages.{since_quiet}
-use Rattle.tcap_refute.specs.Kind.{or_else}
 use Rattle.tcap_refute.proofs.ItemLaws.{since_mark, since_more}
 use Rattle.tcap_faults.specs.declared.transaction.history.Facts.{Facts}
 use Rattle.tcap_faults.specs.declared.verdict.earlier_entries.Replay.{Replay}
@@ -22,7 +21,6 @@ use Rattle.tcap_faults.specs.Unblamed.{again_behind}
 use Rattle.tcap_faults.specs.UsedAgain.{has_used_again, is_used_again}
 use Rattle.tcap_faults.proofs.component_laws.FewComponentsLaws.{counted_roomy, more_counted, none_counted, still_counted}
 use Rattle.tcap_faults.proofs.list_laws.FindLaws.{one_more}
-use Rattle.tcap_faults.proofs.verdict_laws.SubjectLaws.{either}
 
 -- ---- the items among the entries
 
@@ -69,16 +67,16 @@ module _ (entries : List Entry) (number : ℕ) (entry : Entry) (there : slice_ge
 
 -- In one more entry, no own ID is used again.
 first_stays : (first : Option ℕ) (again : Bool) (k : ℕ) → is_some first ≡ again
-    → first ≡ cond again (or_else first (Some k)) None
+    → first ≡ cond again (option_or first (Some k)) None
 first_stays first again k so = grind (arith, so)
 
 -- In one more entry, an own ID may be used again.
 first_more : (first : Option ℕ) (again now : Bool) (k : ℕ) → is_some first ≡ again
-    → or_else first (cond now (Some k) None) ≡ cond (again || now) (or_else first (Some k)) None
+    → option_or first (cond now (Some k) None) ≡ cond (again || now) (option_or first (Some k)) None
 first_more first again now k so = grind (arith, so)
 
 some_more : (first : Option ℕ) (again now : Bool) (k : ℕ) → is_some first ≡ again
-    → is_some (or_else first (cond now (Some k) None)) ≡ (again || now)
+    → is_some (option_or first (cond now (Some k) None)) ≡ (again || now)
 some_more first again now k so = grind (arith, so)
 
 module _ (table : Table) (side : Side) where
@@ -92,7 +90,7 @@ module _ (table : Table) (side : Side) where
       → k ≡ number + length xs → is_some first ≡ has_used_again table side seen
       → again_behind table side number (xs ++ x ∷ []) seen first
       ≡ cond (has_used_again table side (seen_behind seen (xs ++ x ∷ [])))
-      (or_else (again_behind table side number xs seen first) (Some k)) None
+      (option_or (again_behind table side number xs seen first) (Some k)) None
   again_next k number [] (Err reason) seen first at so = first_stays first (has_used_again table side seen) k so
   again_next k number [] (Ok Item.Quiet) seen first at so = refl
   again_next k number [] (Ok (Sent sender m)) seen first at so =
@@ -103,7 +101,7 @@ module _ (table : Table) (side : Side) where
   again_next k number (Ok Item.Quiet ∷ xs) x seen first at so = again_next k (number + 1) xs x [] None (omega (arith, at)) refl
   again_next k number (Ok (Sent sender m) ∷ xs) x seen first at so =
       again_next k (number + 1) xs x (seen ++ Sent sender m ∷ [])
-      (or_else first (cond (is_used_again table side seen (Sent sender m)) (Some number) None)) (omega (arith, at))
+      (option_or first (cond (is_used_again table side seen (Sent sender m)) (Some number) None)) (omega (arith, at))
       (some_more first (has_used_again table side seen) (is_used_again table side seen (Sent sender m)) number so
       ∙ sym (again_more seen (Sent sender m)))
 
@@ -147,7 +145,7 @@ module _ (table : Table) (side : Side) (entries : List Entry) (number : ℕ) (ol
       again = again
           ∙ ap₂ (λ seen first. cond (has_used_again table side seen) first None)
           (ap since_quiet (sym (among_both before (item_of entry ∷ []))) ∙ seen_is [] (before ++ item_of entry ∷ []))
-          (either old.again (Some number) ∙ ap (λ first. or_else first (Some number)) so_far.again)
+          (ap (λ first. option_or first (Some number)) so_far.again)
           ∙ sym (ap (λ xs. again_behind table side 0 xs [] None) (one_entry entries number entry there)
           ∙ again_next table side number 0 before (item_of entry) [] None many refl);
     }

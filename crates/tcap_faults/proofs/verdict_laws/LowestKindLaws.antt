@@ -1,6 +1,7 @@
 -- The lowest kind of a message is the lowest first kind or else the lowest further kind; and the lowest further kind
 -- over a half.
 use Rattle.std.proofs.Common.{◌≡◌, ℕ, Bool, true, false, cond, not, ◌&&◌, ◌||◌, List, [], ◌∷◌, ◌++◌, Option, Some, None, is_some, refl, sym, ap, ap₂, ◌∙◌, arith}
+use Rattle.std.specs.Option.{option_or}
 use Rattle.std.specs.List.{find, list_any}
 use Rattle.std.proofs.Math.Bool.{or-false}
 use Rattle.std.proofs.lemmas.Bool.{or_parts}
@@ -14,7 +15,6 @@ use Rattle.tcap_refute.specs.declared.kind.Kind.{Kind}
 use Rattle.tcap_refute.specs.declared.kind.Kind.TheVariants as kinds
 use Rattle.tcap_faults.specs.Components.{has_component, invokes_again, is_linked}
 use Rattle.tcap_refute.specs.FirstKinds.{first_kinds, is_of_first_kind}
-use Rattle.tcap_refute.specs.Kind.{or_else}
 use Rattle.tcap_refute.proofs.TestLaws.{some_first}
 use Rattle.tcap_faults.specs.declared.component.component_faults.ComponentFaults.{ComponentFaults}
 use Rattle.tcap_faults.specs.ComponentKinds.{answers_again, invokes_busy, links_badly, rejects_wrongly}
@@ -134,7 +134,7 @@ same_find p q [] same = refl
 same_find p q (x ∷ xs) same =
     ap (λ b. cond b (Some x) (find p xs)) (same x) ∙ ap (λ o. cond (q x) (Some x) o) (same_find p q xs same)
 
-find_two : (p : Kind → Bool) (xs ys : List Kind) → find p (xs ++ ys) ≡ or_else (find p xs) (find p ys)
+find_two : (p : Kind → Bool) (xs ys : List Kind) → find p (xs ++ ys) ≡ option_or (find p xs) (find p ys)
 find_two p [] ys = refl
 find_two p (x ∷ xs) ys = grind (arith, find_two p xs ys)
 
@@ -172,12 +172,12 @@ further_alone table side items m id = refl
 -- Over no tangled IDs, the lowest kind is the lowest first kind, or else the lowest further one.
 pub fault_found : (table : Table) (side : Side) (items : List Item) (m : Message) → goes_over_tangled side items m ≡ false
     → find (is_fault table side items m) (first_kinds ++ further_kinds)
-    ≡ or_else (find (is_of_first_kind table side items m) first_kinds)
+    ≡ option_or (find (is_of_first_kind table side items m) first_kinds)
     (find (is_of_further_kind table side items m (dtid_in m)) further_kinds)
 fault_found table side items m plain =
     ap (λ b. find (λ kind. not b && either_kind table side items m (dtid_in m) kind) (first_kinds ++ further_kinds)) plain
     ∙ find_two (either_kind table side items m (dtid_in m)) first_kinds further_kinds
-    ∙ ap₂ or_else (first_alone table side items m) (further_alone table side items m (dtid_in m))
+    ∙ ap₂ option_or (first_alone table side items m) (further_alone table side items m (dtid_in m))
 
 -- Over tangled IDs, a message has no kind.
 pub none_found : (table : Table) (side : Side) (items : List Item) (m : Message) → goes_over_tangled side items m ≡ true

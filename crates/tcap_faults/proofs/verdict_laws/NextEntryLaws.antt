@@ -1,5 +1,6 @@
 -- The kind of the next item for an end, from the history; and the history after it.
 use Rattle.std.proofs.Common.{◌≡◌, Bool, true, false, cond, not, ◌&&◌, ◌||◌, List, [], ◌∷◌, ◌++◌, Option, Some, None, Result, Ok, Err, refl, sym, ap, subst, ◌∙◌, ap₂, is_some, arith}
+use Rattle.std.specs.Option.{option_or}
 use Rattle.std.specs.Prelude.{IfOk}
 use Rattle.std.specs.List.{find}
 use Rattle.tcap_msg.specs.declared.message.Message.{Message}
@@ -10,7 +11,6 @@ use Rattle.tcap_model.specs.World.{Item, Sent, is_side}
 use Rattle.tcap_refute.specs.declared.kind.Kind.{Kind}
 use Rattle.tcap_refute.specs.EarlierMessages.{since_quiet}
 use Rattle.tcap_refute.specs.FirstKinds.{first_kinds, is_of_first_kind}
-use Rattle.tcap_refute.specs.Kind.{or_else}
 use Rattle.tcap_model.proofs.WorldLaws.{itself}
 use Rattle.tcap_refute.proofs.ItemLaws.{since_mark, since_more}
 use Rattle.tcap_faults.specs.declared.transaction.history.Facts.{Facts}
@@ -61,7 +61,7 @@ no_fault table side items m is =
 either_fault : (table : Table) (side : Side) (items : List Item) (m : Message)
     → (has_used_again table side items || uses_again table side items m || goes_over_tangled side items m) ≡ false
     → fault_since table side items (Sent side m)
-    ≡ or_else (find (is_of_first_kind table side items m) first_kinds)
+    ≡ option_or (find (is_of_first_kind table side items m) first_kinds)
     (find (is_of_further_kind table side items m (dtid_in m)) further_kinds)
 either_fault table side items m is =
     fault_is table side items m
@@ -69,7 +69,7 @@ either_fault table side items m is =
   where
     by : (again over : Bool) → goes_over_tangled side items m ≡ over → (again || over) ≡ false
         → cond (not again) (find (is_fault table side items m) (first_kinds ++ further_kinds)) None
-        ≡ or_else (find (is_of_first_kind table side items m) first_kinds)
+        ≡ option_or (find (is_of_first_kind table side items m) first_kinds)
         (find (is_of_further_kind table side items m (dtid_in m)) further_kinds)
     by true over same so = cc
     by false true same so = cc
@@ -96,7 +96,7 @@ pub first_fault : (table : Table) (side : Side) (items : List Item) (m : Message
     → Some kind ≡ fault_since table side items (Sent side m)
 first_fault table side items m kind is first =
     sym (either_fault table side items m is
-    ∙ ap (λ o. or_else o (find (is_of_further_kind table side items m (dtid_in m)) further_kinds)) (sym first))
+    ∙ ap (λ o. option_or o (find (is_of_further_kind table side items m (dtid_in m)) further_kinds)) (sym first))
 
 pub further_fault : {E : Type 0} (table : Table) (side : Side) (items : List Item) (m : Message)
     (result : Result (Option Kind) E)
@@ -107,7 +107,7 @@ pub further_fault : {E : Type 0} (table : Table) (side : Side) (items : List Ite
 further_fault {E} table side items m (Err e) is none found = tt
 further_fault {E} table side items m (Ok kind) is none found =
     found ∙ sym (either_fault table side items m is
-    ∙ ap (λ o. or_else o (find (is_of_further_kind table side items m (dtid_in m)) further_kinds)) (sym none))
+    ∙ ap (λ o. option_or o (find (is_of_further_kind table side items m (dtid_in m)) further_kinds)) (sym none))
 
 -- A message of the other end is no fault.
 pub peer_alone : (table : Table) (side sender : Side) (items : List Item) (m : Message) → is_side side sender ≡ false

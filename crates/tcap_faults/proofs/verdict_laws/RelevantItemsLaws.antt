@@ -2,7 +2,7 @@
 use Rattle.std.proofs.Common.{◌≡◌, ℕ, Bool, true, false, cond, ◌&&◌, ◌||◌, List, [], ◌∷◌, ◌++◌, filter, Option, Some, None, Result, Ok, refl, sym, ap, ap₂, ◌∙◌}
 use Rattle.std.specs.Prelude.{is_some, not}
 use Rattle.std.specs.List.{cons_option, find}
-use Rattle.std.specs.Option.{option_to_list}
+use Rattle.std.specs.Option.{option_to_list, option_or}
 use Rattle.std.proofs.lemmas.Option.{same_Some}
 use Rattle.tcap_parts.specs.declared.component.Component.{Component}
 use Rattle.tcap_msg.specs.declared.kind.Kind.TheVariants as forms
@@ -22,7 +22,7 @@ use Rattle.tcap_refute.specs.declared.kind.Kind.TheVariants as kinds
 use Rattle.tcap_refute.specs.EarlierMessages.{asked, components_of, has_a, is_a, sent_by, since_quiet}
 use Rattle.tcap_refute.specs.FirstComponent.{answers_nothing_in, first_component, first_so, is_wrong_in}
 use Rattle.tcap_refute.specs.FirstKinds.{answers_none}
-use Rattle.tcap_refute.specs.Kind.{answers_none_of, is_unknown_operation, no_class_allows, or_else}
+use Rattle.tcap_refute.specs.Kind.{answers_none_of, is_unknown_operation, no_class_allows}
 use Rattle.tcap_faults.specs.declared.dialogue.half_origin.How.TheVariants.{Accepted, Refused, Begun, Unanswered, Nowhere}
 use Rattle.tcap_faults.specs.Counts.{is_nothing}
 use Rattle.tcap_faults.specs.SentToId.{begin_from, begins_from, goes_on_to, is_abort_with, tells_to, told, was_refused}
@@ -269,7 +269,7 @@ module _ (of_one : Bool) (table : Table) (side : Side) where
         ∙ (λ i. record {
           how = (same_half side id items i).how;
           own = (same_half side id items i).own;
-          component = or_else (asked_first id m kind to i)
+          component = option_or (asked_first id m kind to i)
               (half_component table (same_half side id items i) (components_in m) kind);
         })
         ∙ half_is of_one table side items kind m id to
@@ -282,7 +282,7 @@ module _ (of_one : Bool) (table : Table) (side : Side) where
         ∙ ap (λ first. record {
           how = Nowhere;
           own = None;
-          component = or_else first (alone_component (components_in m) kind);
+          component = option_or first (alone_component (components_in m) kind);
         }) (same_first [] items m kind (answers m none) (wrong m none))
         ∙ alone_is of_one table side items kind m none
       where

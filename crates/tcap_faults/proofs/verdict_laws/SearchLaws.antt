@@ -1,5 +1,6 @@
 -- The search over the entries, after one more entry.
 use Rattle.std.proofs.Common.{◌≡◌, ℕ, suc, ◌+◌, ◌≤◌, ◌<◌, ◌^◌, Bool, true, false, cond, not, ◌||◌, List, [], ◌∷◌, ◌++◌, length, map, drop, Option, Some, None, Result, Ok, Err, refl, sym, ap, subst, ◌∙◌, arith}
+use Rattle.std.specs.Option.{option_or}
 use Rattle.std.specs.Prelude.{get_or}
 use Rattle.std.proofs.Math.Numerals.{suc-eq-add-one}
 use Rattle.std.proofs.Math.Seq.{drop-cons}
@@ -15,7 +16,7 @@ use Rattle.tcap_model.specs.declared.reason.Reason.{Reason}
 use Rattle.tcap_refute.specs.declared.kind.Kind.{Kind}
 use Rattle.tcap_refute.specs.declared.kind.Refutation.{Refutation}
 use Rattle.tcap_refute.specs.EarlierMessages.{since_quiet}
-use Rattle.tcap_refute.specs.Kind.{or_else, refutation_at}
+use Rattle.tcap_refute.specs.Kind.{refutation_at}
 use Rattle.tcap_faults.specs.declared.verdict.first_fault.Looking.{Looking}
 use Rattle.tcap_faults.specs.declared.verdict.first_fault.SearchState.{SearchState}
 use Rattle.tcap_faults.specs.declared.transaction.history.Facts.{Facts}
@@ -206,7 +207,7 @@ module _ (table : Table) (side : Side) (entries : List Entry) (items : List Item
         rest : Option Refutation
         rest = blamed_behind table side (items ++ item ∷ []) (number + 1) (told (drop (number + 1) entries))
 
-        by : (kind : Option Kind) → or_else (refutation_at number kind) rest ≡ blamed table side entries
+        by : (kind : Option Kind) → option_or (refutation_at number kind) rest ≡ blamed table side entries
             → IsFound table side entries (items ++ item ∷ []) (number + 1) (looking_with number kind (look false found))
         by None is = (none, is)
         by (Some kind) is = is

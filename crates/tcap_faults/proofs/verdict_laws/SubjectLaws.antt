@@ -18,7 +18,6 @@ use Rattle.tcap_refute.specs.declared.kind.Kind.{Kind}
 use Rattle.tcap_refute.specs.declared.kind.Refutation.{Refutation}
 use Rattle.tcap_refute.specs.EarlierMessages.{since_quiet}
 use Rattle.tcap_refute.specs.FirstComponent.{first_component}
-use Rattle.tcap_refute.specs.Kind.{or_else}
 use Rattle.tcap_faults.specs.declared.dialogue.half_origin.How.{How}
 use Rattle.tcap_faults.specs.declared.dialogue.half_origin.How.TheVariants.{Nowhere}
 use Rattle.tcap_faults.specs.declared.transaction.history.Facts.{Facts}
@@ -31,15 +30,12 @@ use Rattle.tcap_faults.proofs.component_laws.FewComponentsLaws.{all_more}
 
 -- ---- a message
 
-pub either : {A : Type 0} (a b : Option A) → option_or a b ≡ or_else a b
-either a b = grind arith
-
 module _ (of_one : Bool) (table : Table) (side : Side) (items : List Item) (kind : Kind) where
   pub alone_is : (m : Message) → None ≡ dtid_in m
       → record {
         how = Nowhere;
         own = None;
-        component = or_else (first_component of_one table side items m kind) (alone_component (components_in m) kind);
+        component = option_or (first_component of_one table side items m kind) (alone_component (components_in m) kind);
       } ≡ subject of_one table side items m kind
   alone_is m none = grind (arith, none)
 
@@ -47,7 +43,7 @@ module _ (of_one : Bool) (table : Table) (side : Side) (items : List Item) (kind
       → record {
         how = (half_of side items id).how;
         own = (half_of side items id).own;
-        component = or_else (first_component of_one table side items m kind)
+        component = option_or (first_component of_one table side items m kind)
             (half_component table (half_of side items id) (components_in m) kind);
       } ≡ subject of_one table side items m kind
   half_is (Continue otid dtid dialogue components) id to = rw (same_Some id dtid to) refl
@@ -63,7 +59,7 @@ module _ (of_one : Bool) (table : Table) (side : Side) (items : List Item) (kind
         (λ i. record {
           how = Nowhere;
           own = None;
-          component = (either first rest ∙ ap₂ or_else is_first is_rest) i;
+          component = ap₂ option_or is_first is_rest i;
         })
         ∙ alone_is m none
 
@@ -76,7 +72,7 @@ module _ (of_one : Bool) (table : Table) (side : Side) (items : List Item) (kind
         (λ i. record {
           how = is_how i;
           own = is_own i;
-          component = (either first rest ∙ ap₂ or_else is_first is_rest) i;
+          component = ap₂ option_or is_first is_rest i;
         })
         ∙ half_is m id to
 
