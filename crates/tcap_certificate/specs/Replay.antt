@@ -314,6 +314,12 @@ abbrev pub is_gap : ℕ → Fate → Bool
 is_gap gap (Gap g) = g == gap
 is_gap gap _ = false
 
+-- the numbers of the entries whose fate is this gap; the first of these fates has number n
+abbrev pub due_in : ℕ → ℕ → List Fate → List ℕ
+due_in gap n [] = []
+due_in gap n (Gap g ∷ fates) = cond (g == gap) (n ∷ due_in gap (n + 1) fates) (due_in gap (n + 1) fates)
+due_in gap n (_ ∷ fates) = due_in gap (n + 1) fates
+
 -- whether there are no messages
 abbrev pub is_nothing : List ℕ → Bool
 is_nothing [] = true

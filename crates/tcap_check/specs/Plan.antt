@@ -6,7 +6,7 @@ use Rattle.tcap_certificate.specs.DescribedRun.{taken_by}
 use Rattle.tcap_check.specs.Buckets.{list_at}
 use Rattle.tcap_check.specs.ListedSteps.{listed_in}
 use Rattle.tcap_check.specs.EntryOutlines.{is_named}
-use Rattle.tcap_check.specs.Progress.{due_in}
+use Rattle.tcap_certificate.specs.Replay.{due_in}
 
 -- the flag, or false if there is none
 abbrev pub flag_by : Option Bool → Bool

@@ -202,12 +202,6 @@ abbrev pub all_kept : Table → List Outline → ℕ → List Listed → Progres
 all_kept table entries since [] p = Ok p
 all_kept table entries since (x ∷ more) p = listed_kept table entries since x p >>= all_kept table entries since more
 
--- the numbers of the entries whose fate is this gap; the first of these fates has number n
-abbrev pub due_in : ℕ → ℕ → List Fate → List ℕ
-due_in gap n [] = []
-due_in gap n (Gap g ∷ fates) = cond (g == gap) (n ∷ due_in gap (n + 1) fates) (due_in gap (n + 1) fates)
-due_in gap n (_ ∷ fates) = due_in gap (n + 1) fates
-
 -- ---- a message
 
 -- the time of a fate (`time_of`), or 0 if it has none

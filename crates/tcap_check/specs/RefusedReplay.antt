@@ -17,14 +17,14 @@ use Rattle.tcap_certificate.specs.declared.certificate.Fate.{Fate}
 use Rattle.tcap_certificate.specs.declared.fault.CheckFault.{CheckFault}
 use Rattle.tcap_certificate.specs.Certificate.{Certificate}
 use Rattle.tcap_certificate.specs.DescribedRun.{invoke_id, invoking_half}
-use Rattle.tcap_certificate.specs.Replay.{fault_at, is_gap, is_judged, is_nothing}
+use Rattle.tcap_certificate.specs.Replay.{fault_at, is_gap, is_judged, is_nothing, due_in}
 use Rattle.tcap_check.specs.declared.listed_steps.Listed.{Listed}
 use Rattle.tcap_check.specs.declared.outline.Outline.{Outline}
 use Rattle.tcap_check.specs.declared.progress.Progress.{Progress}
 use Rattle.tcap_check.specs.CheckerMeaning.{Kept, gap_before, is_alone, tied_now}
 use Rattle.tcap_check.specs.ReplaySteps.{delivery_kept, halves_shut, heard_from}
 use Rattle.tcap_check.specs.ListedSteps.{listed_for}
-use Rattle.tcap_check.specs.Progress.{all_kept, due_in, end_moved, front_lost, ids_ended_over, last_lost, listed_kept, overtakes, seat_at}
+use Rattle.tcap_check.specs.Progress.{all_kept, end_moved, front_lost, ids_ended_over, last_lost, listed_kept, overtakes, seat_at}
 use Rattle.tcap_check.specs.PartialReplay.{as_far, behind_or}
 
 -- A refused call leaves this progress, unless memory ran out.

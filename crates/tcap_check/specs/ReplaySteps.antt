@@ -23,9 +23,9 @@ use Rattle.tcap_model.specs.World.{is_side}
 use Rattle.tcap_model.specs.Run.{Closes, Receives, Tells, where_so}
 use Rattle.tcap_certificate.specs.Certificate.{Certificate}
 pub use Rattle.tcap_certificate.specs.Replay.{is_heard, is_judged}
-use Rattle.tcap_certificate.specs.Replay.{fault_at, is_nothing, refused}
+use Rattle.tcap_certificate.specs.Replay.{fault_at, is_nothing, refused, due_in}
 use Rattle.tcap_check.specs.ListedSteps.{listed_for}
-use Rattle.tcap_check.specs.Progress.{all_kept, discard_told, due_in, end_moved, front_lost, last_lost, lost_counted, map_ok, message_kept, moved, quiet_kept, seat_at, sent_by, with_seat_end, with_told, with_waiting}
+use Rattle.tcap_check.specs.Progress.{all_kept, discard_told, end_moved, front_lost, last_lost, lost_counted, map_ok, message_kept, moved, quiet_kept, seat_at, sent_by, with_seat_end, with_told, with_waiting}
 
 -- ---- who is judged
 

@@ -5,10 +5,9 @@ ghost use Rattle.tcap_check.specs.Buckets.{count_lists, list_at};
 ghost use Rattle.tcap_check.specs.ListedSteps.{listed_in};
 ghost use Rattle.tcap_check.specs.EntryOutlines.{is_named};
 ghost use Rattle.tcap_check.specs.Plan.{IsPlan, flag_by};
-ghost use Rattle.tcap_check.specs.Progress.{due_in};
 ghost use Rattle.tcap_model.specs.declared.reason.Reason.TheVariants.{FateRange};
 ghost use Rattle.tcap_certificate.specs.DescribedRun.{taken_by};
-ghost use Rattle.tcap_certificate.specs.Replay.{all_fit, certificate_fits, fate_fits, fates_fit, fault_at};
+ghost use Rattle.tcap_certificate.specs.Replay.{all_fit, certificate_fits, fate_fits, fates_fit, fault_at, due_in};
 
 use crate::buckets::Buckets;
 use crate::listed_steps::Listed;

@@ -1,21 +1,16 @@
 -- A part that shares no ID with the rest: the IDs of a message are all in it, or none.
 use Rattle.std.proofs.Common.{◌≡◌, ℕ, Bool, true, false, List, Option, Some, refl, sym, ap, ◌∙◌}
 use Rattle.std.specs.Prelude.{slice_get}
-use Rattle.std.proofs.lemmas.Slice.Eq.{bytes_eq-Decides}
 use Rattle.tcap_msg.specs.declared.message.Message.{Message}
 use Rattle.tcap_msg.specs.Parts.{dtid_in, otid_in}
 use Rattle.tcap_record.specs.declared.entry.End.{End as Side}
 use Rattle.tcap_record.specs.declared.entry.End.TheVariants as sides
-use Rattle.tcap_end.specs.End.{is_id}
+use Rattle.tcap_end.proofs.FoundLaws.{is_that_id}
 use Rattle.tcap_record.specs.Ends.{other}
 use Rattle.tcap_model.specs.World.{Item, Sent}
 use Rattle.tcap_dialogues.specs.Part.{IsClosed, carries}
 use Rattle.tcap_dialogues.proofs.PartLists.{carried_by, carried_in, from_zero, is_carried}
 use Rattle.tcap_dialogues.proofs.SendLaws.{Fits}
-
--- An ID equals itself.
-is_itself : (id : List ℕ) (o : Option (List ℕ)) → o ≡ Some id → is_id id o ≡ true
-is_itself id o is = rw is ((bytes_eq-Decides id id).1 refl)
 
 module _ (keeps : ℕ → Bool) (items : List Item) (closed : IsClosed keeps items) where
   -- whether an ID of an end is in the part
@@ -39,12 +34,12 @@ module _ (keeps : ℕ → Bool) (items : List Item) (closed : IsClosed keeps ite
   pub all_fit : (side : Side) (i : ℕ) (m : Message) → slice_get items i ≡ Some (Sent side m)
       → Fits (in_part side) (in_part (other side)) (keeps i) m
   all_fit sides.A i m listed = record {
-    origin = λ id is. carried_is sides.A id i sides.A m listed (is_itself id (otid_in m) is);
-    destination = λ id is. carried_is sides.B id i sides.A m listed (is_itself id (dtid_in m) is);
+    origin = λ id is. carried_is sides.A id i sides.A m listed (is_that_id id (otid_in m) is);
+    destination = λ id is. carried_is sides.B id i sides.A m listed (is_that_id id (dtid_in m) is);
   }
   all_fit sides.B i m listed = record {
-    origin = λ id is. carried_is sides.B id i sides.B m listed (is_itself id (otid_in m) is);
-    destination = λ id is. carried_is sides.A id i sides.B m listed (is_itself id (dtid_in m) is);
+    origin = λ id is. carried_is sides.B id i sides.B m listed (is_that_id id (otid_in m) is);
+    destination = λ id is. carried_is sides.A id i sides.B m listed (is_that_id id (dtid_in m) is);
   }
 
   -- So it is with all IDs of a received message.

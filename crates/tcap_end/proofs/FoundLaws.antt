@@ -106,16 +106,17 @@ pub named_has : (e : End) (name : HalfName) → IsEnd e → (f : KeptHalf) → n
 named_has e (names.Own id) = own_has e id
 named_has e (names.Peer id) = peer_has e id
 
-is_same_id : (id : List ℕ) (o : Option (List ℕ)) → o ≡ Some id → is_id id o ≡ true
-is_same_id id o is = rw is ((bytes_eq-Decides id id).1 refl)
+-- An ID equals itself.
+pub is_that_id : (id : List ℕ) (o : Option (List ℕ)) → o ≡ Some id → is_id id o ≡ true
+is_that_id id o is = rw is ((bytes_eq-Decides id id).1 refl)
 
 -- If no half is found by an own ID or a peer's ID, no half has it.
 pub none_own : {P : Type 0} (e : End) (id : List ℕ) (g : KeptHalf) → with_own e id ≡ None → Has e g → g.half.own ≡ Some id → P
 none_own e id g none had own =
     let fails = found_none (λ h. is_id id h.own) e g none had in
-    let passes = is_same_id id g.half.own own in cc
+    let passes = is_that_id id g.half.own own in cc
 
 pub none_peer : {P : Type 0} (e : End) (id : List ℕ) (g : KeptHalf) → with_peer e id ≡ None → Has e g → g.half.peer ≡ Some id → P
 none_peer e id g none had peer =
     let fails = found_none (λ h. is_id id h.peer) e g none had in
-    let passes = is_same_id id g.half.peer peer in cc
+    let passes = is_that_id id g.half.peer peer in cc

@@ -11,7 +11,7 @@ use Rattle.tcap_record.specs.declared.entry.End.{End as Side}
 use Rattle.tcap_record.specs.declared.entry.Body.{Body}
 use Rattle.tcap_record.specs.declared.entry.Body.TheVariants.{Good, Bad, Quiet}
 use Rattle.tcap_record.specs.declared.entry.Entry.{Entry}
-use Rattle.tcap_record.specs.Ends.{letter, other}
+use Rattle.tcap_record.specs.Ends.{letter, other, is_entry_of}
 use Rattle.tcap_record.specs.Lines.{code_text, component_line, head_text, line_end}
 use Rattle.tcap_end.specs.Table.{Table, class_of}
 use Rattle.tcap_refute.specs.declared.kind.Kind.{Kind}
@@ -28,7 +28,7 @@ use Rattle.tcap_faults.specs.declared.verdict.fault_subject.Subject.{Subject}
 use Rattle.tcap_evidence.specs.declared.operations.Invocation.{Invocation}
 use Rattle.tcap_evidence.specs.declared.shown_things.What.{What}
 use Rattle.tcap_evidence.specs.declared.shown_things.What.TheVariants as whats
-use Rattle.tcap_faults.specs.Fault.{is_entry_of}
+use Rattle.tcap_faults.specs.Counts.{is_nothing}
 use Rattle.tcap_faults.specs.FaultSubject.{subject_of}
 use Rattle.tcap_evidence.specs.Evidence.{component_at, grounds_of, invoke_id_at}
 use Rattle.tcap_evidence.specs.Operations.{invocations_at}
@@ -240,10 +240,6 @@ is_told_empty (whats.Heard sorts.Results) = true
 is_told_empty (whats.Heard sorts.Errors) = true
 is_told_empty what = false
 
-abbrev pub is_empty : {A : Type 0} → List A → Bool
-is_empty [] = true
-is_empty (a ∷ more) = false
-
 -- the words for what entries show, with the end that sent them
 abbrev pub what_words : Side → Option ℤ → What → List ℕ
 what_words side id what =
@@ -251,7 +247,7 @@ what_words side id what =
 
 -- the line for a thing and the entries that show it
 abbrev pub ground_line : Side → Option ℤ → What × List ℕ → List ℕ
-ground_line side id g = cond (is_empty g.1 && not (is_told_empty g.0)) []
+ground_line side id g = cond (is_nothing g.1 && not (is_told_empty g.0)) []
     (codes "  " ++ what_words side id g.0 ++ codes ": " ++ entries_words g.1 ++ line_end)
 
 -- ---- invocations

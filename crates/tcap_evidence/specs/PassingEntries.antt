@@ -3,9 +3,8 @@ use Rattle.std.specs.Prelude.{ℕ, Bool, true, List, Option, is_none, option_map
 use Rattle.tcap_msg.specs.declared.kind.Kind.TheVariants as forms
 use Rattle.tcap_msg.specs.declared.message.Message.{Message}
 use Rattle.tcap_msg.specs.Parts.{cause_in, dtid_in, otid_in}
-use Rattle.tcap_model.specs.SinceMark.{ended_by}
+use Rattle.tcap_model.specs.SinceMark.{ended_by, is_begin_with_request}
 use Rattle.tcap_refute.specs.EarlierMessages.{is_a}
-use Rattle.tcap_refute.specs.Kind.{is_begin_with_request}
 use Rattle.tcap_faults.specs.SentToId.{is_cause}
 use Rattle.tcap_evidence.specs.declared.listing.Test.{Test}
 use Rattle.tcap_evidence.specs.declared.listing.Test.TheVariants as tests

@@ -16,11 +16,11 @@ use Rattle.tcap_end.specs.Dialogue.{is_response}
 use Rattle.tcap_end.specs.End.{is_id}
 use Rattle.tcap_end.specs.Table.{Table}
 use Rattle.tcap_model.specs.World.{Item}
-use Rattle.tcap_model.specs.SinceMark.{ended_by}
+use Rattle.tcap_model.specs.SinceMark.{ended_by, is_begin_with_request}
 use Rattle.tcap_refute.specs.declared.kind.Kind.{Kind}
 use Rattle.tcap_refute.specs.declared.kind.Kind.TheVariants as kinds
 use Rattle.tcap_refute.specs.EarlierMessages.{is_a}
-use Rattle.tcap_refute.specs.Kind.{goes_elsewhere, is_begin_with_request}
+use Rattle.tcap_refute.specs.Kind.{goes_elsewhere}
 use Rattle.tcap_faults.specs.SentToId.{goes_on_to, is_cause}
 use Rattle.tcap_faults.specs.ClosedHalves.{is_surely_open}
 use Rattle.tcap_faults.specs.declared.dialogue.half_origin.How.{How}

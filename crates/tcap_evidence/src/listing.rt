@@ -8,7 +8,7 @@ ghost use Rattle.tcap_msg.specs.Meaning.{cause_of, id_of};
 ghost use Rattle.tcap_msg.specs.Parts.{components_in, dialogue_in};
 ghost use Rattle.tcap_end.specs.Dialogue.{is_response};
 ghost use Rattle.tcap_refute.specs.EarlierMessages.{is_a};
-ghost use Rattle.tcap_refute.specs.Kind.{is_begin_with_request};
+ghost use Rattle.tcap_model.specs.SinceMark.{is_begin_with_request};
 ghost use Rattle.tcap_faults.specs.SentToId.{is_cause};
 ghost use Rattle.tcap_faults.specs.CountUpdate.{invoke_has, reject_has, result_has};
 ghost use Rattle.tcap_faults.specs.InvokeCounts.{is_of_class, is_sort};

@@ -10,6 +10,7 @@ use Rattle.tcap_record.specs.declared.entry.End.{End as Side}
 use Rattle.tcap_record.specs.declared.entry.Entry.{Entry}
 use Rattle.tcap_end.specs.Table.{Table}
 use Rattle.tcap_model.specs.declared.reason.Reason.{Reason}
+use Rattle.tcap_record.specs.Ends.{is_entry_of}
 use Rattle.tcap_model.specs.World.{Item, Sent, is_side}
 use Rattle.tcap_model.specs.Entries.{item_of}
 use Rattle.tcap_refute.specs.declared.kind.Kind.{Kind}
@@ -115,11 +116,6 @@ further_kinds = kinds.WrongHalf ∷ kinds.WrongDialogue ∷ kinds.InvokeIdBusy �
     ∷ kinds.RejectNotAllowed ∷ kinds.WrongReply ∷ []
 
 -- ---- a record
-
--- Whether an entry has a sender, and it is this end.
-abbrev pub is_entry_of : Side → Option Side → Bool
-is_entry_of side None = false
-is_entry_of side (Some sender) = is_side side sender
 
 -- The kind of an entry that is no item, if this end sent it.
 abbrev pub bad_entry_of : Side → Option Side → Reason → Option Kind

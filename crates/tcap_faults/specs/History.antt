@@ -13,11 +13,10 @@ use Rattle.tcap_record.specs.Ends.{other}
 use Rattle.tcap_end.specs.End.{is_id}
 use Rattle.tcap_end.specs.Table.{Table, octets_cmp}
 use Rattle.tcap_model.specs.World.{Item}
-use Rattle.tcap_model.specs.SinceMark.{ended_by}
+use Rattle.tcap_model.specs.SinceMark.{ended_by, is_begin_with_request}
 use Rattle.tcap_refute.specs.EarlierMessages.{components_of, is_a, sent_by}
 use Rattle.tcap_refute.specs.Facts.{FromFact, shows_from}
 use Rattle.tcap_refute.specs.KeptFacts.{tells_from}
-use Rattle.tcap_refute.specs.Kind.{is_begin_with_request}
 use Rattle.tcap_faults.specs.ClosedHalves.{shows_closed}
 use Rattle.tcap_faults.specs.Counts.{count, is_nothing}
 use Rattle.tcap_faults.specs.SentToId.{goes_on_to, has_ended, has_used, is_cause, one_passes}

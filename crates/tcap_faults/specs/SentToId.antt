@@ -7,9 +7,8 @@ use Rattle.tcap_msg.specs.Parts.{cause_in, dtid_in, otid_in}
 use Rattle.tcap_record.specs.declared.entry.End.{End as Side}
 use Rattle.tcap_end.specs.End.{is_id}
 use Rattle.tcap_model.specs.World.{Item}
-use Rattle.tcap_model.specs.SinceMark.{ended_by}
+use Rattle.tcap_model.specs.SinceMark.{ended_by, is_begin_with_request}
 use Rattle.tcap_refute.specs.EarlierMessages.{is_a, sent_by}
-use Rattle.tcap_refute.specs.Kind.{is_begin_with_request}
 
 -- Whether an item passes a test. The test gets the items before it.
 abbrev pub one_passes : (List Item → Item → Bool) → List Item → List Item → Bool

@@ -28,13 +28,13 @@ pub use Rattle.tcap_model.proofs.TurnLaws.{id_is}
 pub use Rattle.tcap_model.proofs.WorldLaws.{itself}
 pub use Rattle.tcap_model.specs.Entries.{item_of}
 pub use Rattle.tcap_model.specs.Run.{where_so}
-pub use Rattle.tcap_model.specs.SinceMark.{ended_by}
+pub use Rattle.tcap_model.specs.SinceMark.{ended_by, is_begin_with_request}
 pub use Rattle.tcap_model.specs.World.{Item, Sent, is_side}
 pub use Rattle.tcap_model.specs.declared.reason.Reason.{Reason}
-pub use Rattle.tcap_refute.proofs.BeforeLaws.{is_that_id}
+pub use Rattle.tcap_end.proofs.FoundLaws.{is_that_id}
 pub use Rattle.tcap_refute.proofs.Members.{has_not, any_has, filter_has, filter_map_has, has_first, has_later}
 pub use Rattle.tcap_refute.specs.EarlierMessages.{invokes, is_invoke_id, is_a, asked, components_of, has_a, message_of, sent_by}
-pub use Rattle.tcap_refute.specs.Kind.{is_begin_with_request, goes_elsewhere}
+pub use Rattle.tcap_refute.specs.Kind.{goes_elsewhere}
 pub use Rattle.tcap_refute.specs.declared.kind.Kind.{Kind}
 pub use Rattle.tcap_refute.specs.declared.kind.Refutation.{Refutation}
 pub use Rattle.tcap_faults.proofs.component_laws.FewSums.{count_invokes, any_same}

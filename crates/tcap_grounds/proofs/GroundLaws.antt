@@ -2,8 +2,9 @@
 use Rattle.tcap_grounds.proofs.Common.{◌≡◌, ◌≢◌, inr, ℕ, Bool, true, false, not, ◌&&◌, List, ◌∷◌, [], map, Option, Some, Result, Ok, refl, sym, ap, ◌∙◌, Contains, slice_get, and_parts, Message, components_in, dtid_in, Side, Entry, Table, Reason, Item, Sent, item_of, Kind, Refutation, Nowhere, Subject, is_fault, is_of_half_kind, is_wrong_half, HalfOf, half_of, subject, subject_by, subject_of, What, component_at, grounds_in, grounds_of, mark_scene, scene_of, shows, Scene, shown, items_before, scene_at}
 use Rattle.tcap_refute.specs.declared.kind.Kind.TheVariants as kinds
 use Rattle.tcap_evidence.specs.declared.shown_things.What.TheVariants as whats
+use Rattle.tcap_evidence.specs.EvidenceWords.{is_of_half}
 use Rattle.tcap_grounds.specs.ListedEntries.{is_of_component}
-use Rattle.tcap_grounds.proofs.HasKindLaws.{half_so, is_of_a_half}
+use Rattle.tcap_grounds.proofs.HasKindLaws.{half_so}
 use Rattle.tcap_grounds.proofs.NumberedLists.{map_is}
 use Rattle.tcap_grounds.proofs.SoLaws.{speaks_half}
 
@@ -54,7 +55,7 @@ module _ (table : Table) (side : Side) (items : List Item) (m : Message) (id : L
   speaks h kinds.RejectNotAllowed is so = first h _ so
   speaks h kind is so = let bad : false ≡ true = is in cc
 
-  of_a_half : (kind : Kind) → is_of_component kind ≡ true → is_of_a_half kind ≡ true
+  of_a_half : (kind : Kind) → is_of_component kind ≡ true → is_of_half kind ≡ true
   of_a_half kinds.InvokeIdBusy is = refl
   of_a_half kind is = cc
 

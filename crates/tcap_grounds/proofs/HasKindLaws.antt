@@ -5,6 +5,7 @@ use Rattle.tcap_refute.specs.FirstKinds.{is_of_first_kind}
 use Rattle.tcap_refute.specs.Kind.{is_of_kind}
 use Rattle.tcap_faults.specs.Fault.{is_of_alone_kind, is_of_further_kind, is_of_kind_to, is_of_reply_kind}
 use Rattle.tcap_refute.specs.declared.kind.Kind.TheVariants as kinds
+use Rattle.tcap_evidence.specs.EvidenceWords.{is_of_half}
 
 -- What follows from each of two tests follows if one of them holds.
 pub either : {A : Type 0} (a b : Bool) → (a || b) ≡ true → (a ≡ true → A) → (b ≡ true → A) → A
@@ -19,20 +20,10 @@ is_early kinds.WrongOperation = true
 is_early kinds.MisplacedDialogue = true
 is_early kind = false
 
--- F8 to F13, which are kinds of a message over a half
-abbrev pub is_of_a_half : Kind → Bool
-is_of_a_half kinds.WrongHalf = true
-is_of_a_half kinds.WrongDialogue = true
-is_of_a_half kinds.InvokeIdBusy = true
-is_of_a_half kinds.BadLink = true
-is_of_a_half kinds.AnsweredAlready = true
-is_of_a_half kinds.RejectNotAllowed = true
-is_of_a_half kind = false
-
 -- F8 to F14
 abbrev is_further : Kind → Bool
 is_further kinds.WrongReply = true
-is_further kind = is_of_a_half kind
+is_further kind = is_of_half kind
 
 -- those of F8 to F14 that a message without a destination ID never has
 abbrev is_never_alone : Kind → Bool
@@ -142,16 +133,16 @@ module _ (table : Table) (side : Side) (items : List Item) (m : Message) where
         by (Some cause) is so = (cause, is, so)
 
     -- F8 to F13 are not kinds of such an Abort.
-    not_reply : (h : HalfOf) (cause : ℕ) (kind : Kind) → is_of_a_half kind ≡ true
+    not_reply : (h : HalfOf) (cause : ℕ) (kind : Kind) → is_of_half kind ≡ true
         → is_of_reply_kind table side id items h cause kind ≡ false
     not_reply h cause kinds.WrongHalf late = refl
     not_reply h cause kind late = cc
 
-    half_further : (kind : Kind) → is_of_a_half kind ≡ true → is_further kind ≡ true
+    half_further : (kind : Kind) → is_of_half kind ≡ true → is_further kind ≡ true
     half_further kinds.WrongHalf late = refl
     half_further kind late = cc
 
-    pub half_so : (kind : Kind) → is_of_a_half kind ≡ true → HasKind table side items m kind
+    pub half_so : (kind : Kind) → is_of_half kind ≡ true → HasKind table side items m kind
         → is_of_half_kind table side id items m (half_of side items id) kind ≡ true
     half_so kind late has = by (cause_in m) (to_so kind (half_further kind late) has)
       where

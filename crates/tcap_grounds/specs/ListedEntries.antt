@@ -15,7 +15,8 @@ use Rattle.tcap_refute.specs.declared.kind.Kind.TheVariants as kinds
 use Rattle.tcap_refute.specs.EarlierMessages.{asked, components_of, invokes, is_a, sent_by, since_quiet}
 use Rattle.tcap_faults.specs.SentToId.{begins_from, is_abort_with, told}
 use Rattle.tcap_faults.specs.Counts.{count, count_class, count_lasting, has_class, takes}
-use Rattle.tcap_refute.specs.Kind.{is_begin_with_request, is_of_kind}
+use Rattle.tcap_refute.specs.Kind.{is_of_kind}
+use Rattle.tcap_model.specs.SinceMark.{is_begin_with_request}
 use Rattle.tcap_faults.specs.ClosedHalves.{is_surely_open}
 use Rattle.tcap_faults.specs.declared.dialogue.half_origin.How.TheVariants.{Nowhere}
 use Rattle.tcap_faults.specs.declared.component.component_sort.Class.TheVariants.{Any, One, Two, Three}

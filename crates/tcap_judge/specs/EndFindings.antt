@@ -5,7 +5,7 @@ use Rattle.tcap_record.specs.declared.entry.Entry.{Entry}
 use Rattle.tcap_certificate.specs.declared.certificate.Fate.{Fate}
 use Rattle.tcap_certificate.specs.declared.certificate.Fate.TheVariants.{Lost}
 use Rattle.tcap_end.specs.Table.{Table}
-use Rattle.tcap_search.specs.SegmentEntries.{is_end}
+use Rattle.tcap_record.specs.Ends.{is_entry_of}
 use Rattle.tcap_judge.specs.declared.findings.Ends.{Ends}
 use Rattle.tcap_judge.specs.declared.outcome.Outcome.{Outcome}
 use Rattle.tcap_judge.specs.BlameOutcome.{AreFound, ends_of, joint_verdict}
@@ -13,7 +13,7 @@ use Rattle.tcap_judge.specs.LawfulOutcome.{IsShown}
 
 -- 1 if the entry is from this end and lost, else 0
 abbrev pub lost_by : Side → Fate → Option Side → ℕ
-lost_by side Lost sender = cond (is_end side sender) 1 0
+lost_by side Lost sender = cond (is_entry_of side sender) 1 0
 lost_by side fate sender = 0
 
 -- the number of messages of this end that these fates lose

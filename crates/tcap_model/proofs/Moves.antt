@@ -12,7 +12,7 @@ use Rattle.tcap_end.specs.Half.{Answer, Half, Invocation, fresh, listed}
 use Rattle.tcap_end.specs.End.{End, KeptHalf}
 use Rattle.tcap_end.specs.ReachableEnd.{Has}
 use Rattle.tcap_model.specs.SinceMark.{originating}
-use Rattle.tcap_model.specs.SinceMark.{IsAnswer, asks}
+use Rattle.tcap_model.specs.SinceMark.{IsAnswer, is_begin_with_request}
 
 -- a half before its first step
 abbrev pub blank : Half
@@ -26,7 +26,7 @@ IsFrom (Some m) peer = originating m ≡ peer
 -- The received message is a Begin with a dialogue request.
 abbrev pub IsAsked : Option Message → Type 0
 IsAsked None = ⊥
-IsAsked (Some m) = asks m ≡ true
+IsAsked (Some m) = is_begin_with_request m ≡ true
 
 -- The received message has this component.
 abbrev pub HasCome : Option Message → Component → Type 0

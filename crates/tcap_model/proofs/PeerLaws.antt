@@ -16,7 +16,7 @@ use Rattle.tcap_record.specs.Ends.{other}
 use Rattle.tcap_model.specs.World.{World, end_at}
 use Rattle.tcap_model.specs.Run.{Event, Runs}
 use Rattle.tcap_model.specs.SinceMark.{originating}
-use Rattle.tcap_model.specs.SinceMark.{AnswersWereSent, CameFromPeer, InvokesWereSent, IsAnswer, PeerWasSent, RequestWasSent, SentSince, asks}
+use Rattle.tcap_model.specs.SinceMark.{AnswersWereSent, CameFromPeer, InvokesWereSent, IsAnswer, PeerWasSent, RequestWasSent, SentSince, is_begin_with_request}
 use Rattle.tcap_model.proofs.ListLaws.{all_weaker}
 use Rattle.tcap_model.proofs.Moves.{HasCome, IsAsked, IsFrom, Turns, blank}
 use Rattle.tcap_model.proofs.WorldMoves.{Advances, CameSince, EndMoves, SentMore, worlds_keep}
@@ -97,7 +97,7 @@ module _ {event : Event} (w next : World) (side : Side) (g : KeptHalf) (h : Half
     where
       by : (came : Option Message) → CameSince w side came → HasPeer h ⊎ IsBare h
           → ((h.phase ≡ phases.Received) × (h.standing ≡ standings.Asked)) ⊎ (IsAsked came × IsFrom came g.half.peer)
-          → (m : Message) × SentSince (other side) m next.sent × (asks m ≡ true) × (originating m ≡ g.half.peer)
+          → (m : Message) × SentSince (other side) m next.sent × (is_begin_with_request m ≡ true) × (originating m ≡ g.half.peer)
       by came since (inl peer) (inl had) =
           let (m, there, so, from) = old had.0 had.1 in
           (m, sent.keeps (other side) m there, so, from ∙ same_peer peer)

@@ -129,7 +129,7 @@ component_lists table h g (ReturnResult last id body) inn grants is = answer_lis
 component_lists table h g (ReturnError id code parameter) inn grants is = answer_lists table h g false true id None inn is
 component_lists table h g (Reject id problem) inn grants is = reject_lists h g id problem inn grants is
 
-one_follows : (table : Table) (h g : Half) (c : Component) → send_component table h c ≡ Ok g → Follows h g
+pub one_follows : (table : Table) (h g : Half) (c : Component) → send_component table h c ≡ Ok g → Follows h g
 one_follows table h g c is = (all_sends table (c ∷ []) h g (rw is refl)).follows
 
 -- A list of components is sent.

@@ -140,7 +140,7 @@ put_there e Begun key h = found_new octets_total key h e.begun
 put_there e Accepted key h = found_new octets_total key h e.accepted
 
 -- Two places are equal or differ.
-one_place : (f g : KeptHalf) → ((f.slot ≡ g.slot) × (f.key ≡ g.key)) ⊎ (f.slot ≡ g.slot → f.key ≢ g.key)
+pub one_place : (f g : KeptHalf) → ((f.slot ≡ g.slot) × (f.key ≡ g.key)) ⊎ (f.slot ≡ g.slot → f.key ≢ g.key)
 one_place f g = by (slots_eq f.slot g.slot) (keys_eq octets_total exact_bytes f.key g.key)
   where
     by : (f.slot ≡ g.slot) ⊎ (f.slot ≢ g.slot) → (f.key ≡ g.key) ⊎ (f.key ≢ g.key)

@@ -69,7 +69,7 @@ pub ids_used : (table : Table) (events : List Event) (w : World) (side : Side) (
 ids_used table events w side m runs keeps since = (has_halves table side events w runs keeps m since).0
 
 -- An end has one half at one place.
-one_half : (e : End) (f g : KeptHalf) → Has e f → Has e g → IsSame f g → g.half ≡ f.half
+pub one_half : (e : End) (f g : KeptHalf) → Has e f → Has e g → IsSame f g → g.half ≡ f.half
 one_half e f g in_f in_g same =
     let here : Some g.half ≡ Some f.half = sym in_g ∙ (rw (← same.0, ← same.1) in_f) in cc
 

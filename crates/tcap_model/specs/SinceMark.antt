@@ -42,15 +42,15 @@ PeerWasSent w side f = (id : List ℕ) → f.half.peer ≡ Some id → (m : Mess
     × (originating m ≡ Some id)
 
 -- whether the message is a Begin with a dialogue request
-abbrev pub asks : Message → Bool
-asks (Begin otid dialogue components) = is_request dialogue
-asks _ = false
+abbrev pub is_begin_with_request : Message → Bool
+is_begin_with_request (Begin otid dialogue components) = is_request dialogue
+is_begin_with_request _ = false
 
 -- If a half is in Received and its dialogue is requested, the peer sent a Begin with a dialogue request, whose
 -- originating ID is the half's peer ID.
 abbrev pub RequestWasSent : World → Side → KeptHalf → Type 0
 RequestWasSent w side f = f.half.phase ≡ phases.Received → f.half.standing ≡ standings.Asked
-    → (m : Message) × SentSince (other side) m w.sent × (asks m ≡ true) × (originating m ≡ f.half.peer)
+    → (m : Message) × SentSince (other side) m w.sent × (is_begin_with_request m ≡ true) × (originating m ≡ f.half.peer)
 
 -- The peer sent this component in a message whose originating ID is the half's peer ID.
 abbrev pub CameFromPeer : World → Side → KeptHalf → Component → Type 0

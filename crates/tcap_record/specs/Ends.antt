@@ -1,5 +1,5 @@
 -- The two ends of a record, and their letters.
-use Rattle.std.specs.Prelude.{ℕ, Bool, true, false, List, codes}
+use Rattle.std.specs.Prelude.{ℕ, Bool, true, false, List, Option, Some, None, codes}
 use Rattle.tcap_record.specs.declared.entry.End.{End}
 use Rattle.tcap_record.specs.declared.entry.End.TheVariants as ends
 
@@ -13,6 +13,11 @@ abbrev pub is_side : End → End → Bool
 is_side ends.A ends.A = true
 is_side ends.B ends.B = true
 is_side _ _ = false
+
+-- whether an entry has a sender, and it is this end
+abbrev pub is_entry_of : End → Option End → Bool
+is_entry_of side None = false
+is_entry_of side (Some sender) = is_side side sender
 
 -- the letter of an end
 abbrev pub letter : End → List ℕ

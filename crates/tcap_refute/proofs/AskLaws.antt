@@ -18,7 +18,8 @@ use Rattle.tcap_refute.specs.declared.kind.Kind.TheVariants as kinds
 use Rattle.tcap_refute.specs.declared.sent_from_id.FromId.{FromId}
 use Rattle.tcap_refute.specs.declared.notes.Notes.{Notes}
 use Rattle.tcap_refute.specs.EarlierMessages.{asked, sent_by, since_quiet}
-use Rattle.tcap_refute.specs.Kind.{goes_elsewhere, is_after_end, is_begin_with_request, is_misplaced_dialogue, is_reused, is_unasked, is_unknown_transaction, is_wrong_operation, lowest_kind}
+use Rattle.tcap_refute.specs.Kind.{goes_elsewhere, is_after_end, is_misplaced_dialogue, is_reused, is_unasked, is_unknown_transaction, is_wrong_operation, lowest_kind}
+use Rattle.tcap_model.specs.SinceMark.{is_begin_with_request}
 use Rattle.tcap_refute.specs.FirstKinds.{first_kinds, is_of_first_kind}
 use Rattle.tcap_refute.specs.FirstComponent.{first_component}
 use Rattle.tcap_refute.specs.Facts.{FromFact, Spoke, Asked, WentElsewhere, From, Ended, shows_from, told_by_list}

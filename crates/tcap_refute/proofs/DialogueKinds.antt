@@ -20,10 +20,10 @@ use Rattle.tcap_end.specs.End.{with_own}
 use Rattle.tcap_end.proofs.AnsweringLaws.{needs_ok}
 use Rattle.tcap_model.specs.World.{World, end_at}
 use Rattle.tcap_model.specs.Run.{Event}
-use Rattle.tcap_model.specs.SinceMark.{asks}
+use Rattle.tcap_model.specs.SinceMark.{is_begin_with_request}
 use Rattle.tcap_model.proofs.PeerLaws.{knows}
 use Rattle.tcap_refute.specs.EarlierMessages.{asked, since_quiet}
-use Rattle.tcap_refute.specs.Kind.{is_begin_with_request, is_misplaced_aborting, is_misplaced_dialogue, is_misplaced_going_on}
+use Rattle.tcap_refute.specs.Kind.{is_misplaced_aborting, is_misplaced_dialogue, is_misplaced_going_on}
 use Rattle.tcap_refute.proofs.BeforeLaws.{asked_has, originating_is}
 use Rattle.tcap_refute.proofs.Members.{any_has}
 use Rattle.tcap_refute.proofs.OverLaws.{IsOver}
@@ -89,10 +89,6 @@ only_such o passes may is = grind (arith, may, is)
 
 -- ---- messages
 
--- A Begin asks for a dialogue if it has an AARQ.
-asks_is : (m : Message) → asks m ≡ is_begin_with_request m
-asks_is m = grind arith
-
 -- A message that an end sends over a half.
 module _ {table : Table} {events : List Event} {w : World} {side : Side} {message : Message} (id : List ℕ)
     (d : Option Dialogue) (it : IsSent table events w side message)
@@ -111,7 +107,7 @@ module _ {table : Table} {events : List Event} {w : World} {side : Side} {messag
   was_asked (received, asked_for) =
       let (m, since, so, from) = (knows table events w side half.kept it.runs half.had).request received asked_for in
       any_has is_begin_with_request (asked side id (since_quiet w.sent)) m
-      (asked_has side id m w.sent since (sym (originating_is m) ∙ from ∙ half.peer)) (sym (asks_is m) ∙ so)
+      (asked_has side id m w.sent since (sym (originating_is m) ∙ from ∙ half.peer)) so
 
   -- A Continue or an End has a portion that its half may carry.
   going_on : may_go_on phase standing d ≡ true → is_misplaced_going_on is_asked d ≡ true → ⊥

@@ -25,14 +25,14 @@ use Rattle.tcap_end.specs.Message.{send_begin, send_components}
 use Rattle.tcap_end.specs.ReachableEnd.{Rises}
 use Rattle.tcap_end.specs.Table.{Table, operation_of}
 use Rattle.tcap_end.proofs.AnsweringLaws.{needs_ok, ok_same, then_ok}
-use Rattle.tcap_end.proofs.ComponentLaws.{all_sends}
-use Rattle.tcap_end.proofs.HalfLaws.{Follows, IsListed, half_sent}
+use Rattle.tcap_end.proofs.HalfLaws.{IsListed, half_sent}
 use Rattle.tcap_model.specs.World.{World, end_at}
 use Rattle.tcap_model.specs.Run.{Event, Runs}
 use Rattle.tcap_model.specs.SinceMark.{CameFromPeer, IsAnswer}
 use Rattle.tcap_model.proofs.ListLaws.{all_weaker}
 use Rattle.tcap_model.proofs.PeerLaws.{Knows, knows}
 use Rattle.tcap_model.proofs.RunLaws.{sound}
+use Rattle.tcap_model.proofs.SentMoves.{one_follows}
 use Rattle.tcap_model.proofs.TurnLaws.{taken_loses}
 use Rattle.tcap_refute.specs.EarlierMessages.{asked, components_of, since_quiet}
 use Rattle.tcap_refute.proofs.BeforeLaws.{component_has, originating_is}
@@ -173,9 +173,6 @@ component_founded table cs h g (ReturnError id code parameter) inn grants came i
     answer_founded table cs h g false true id None inn came is
 component_founded table cs h g (Reject id problem) inn grants came is =
     reject_founded table cs h g id problem inn grants came is
-
-one_follows : (table : Table) (h g : Half) (c : Component) → send_component table h c ≡ Ok g → Follows h g
-one_follows table h g c is = (all_sends table (c ∷ []) h g (rw is refl)).follows
 
 -- All components of a sent message are founded; nothing is received in between.
 all_founded : (table : Table) (cs components : List Component) (h g : Half) → IsListed h.inn → IsListed h.grants

@@ -1,6 +1,5 @@
 -- What a step of one end changes in its halves, case by case: their phases, IDs and dialogues.
 use Rattle.std.proofs.Common.{◌≡◌, ◌≢◌, ◌⊎◌, inl, inr, true, false, ℕ, List, Option, Some, None, refl, sym, subst}
-use Rattle.std.proofs.lemmas.Map.Lookups.{exact_bytes}
 use Rattle.tcap_parts.specs.declared.component.Component.{Component}
 use Rattle.tcap_parts.specs.declared.dialogue.Dialogue.{Dialogue}
 use Rattle.tcap_msg.specs.declared.message.Message.{Message}
@@ -16,11 +15,9 @@ use Rattle.tcap_end.specs.End.{End, KeptHalf, put, with_own, with_peer}
 use Rattle.tcap_end.specs.HiddenSteps.{may_close}
 use Rattle.tcap_end.specs.ReachableEnd.{Has, halves_of}
 use Rattle.tcap_end.proofs.EndLaws.{IsThere, put_has, put_other}
-use Rattle.tcap_end.proofs.FoundLaws.{half_at, octets_total}
-use Rattle.tcap_end.proofs.MapLaws.{keys_eq}
-use Rattle.tcap_end.proofs.PlacedLaws.{slots_eq}
+use Rattle.tcap_end.proofs.FoundLaws.{half_at}
 use Rattle.tcap_model.specs.SinceMark.{ended_by}
-use Rattle.tcap_model.proofs.TurnLaws.{put_there}
+use Rattle.tcap_model.proofs.TurnLaws.{one_place, put_there}
 use Rattle.tcap_refute.specs.EarlierMessages.{ends_to}
 
 -- ---- one half
@@ -134,16 +131,6 @@ acts_nowhere table deed e = record {
   back = λ g had. inr (g.half, had, turned_self g.half);
   forth = λ f had. (f.half, had, turned_self f.half);
 }
-
--- Two places are equal or not.
-one_place : (f g : KeptHalf) → ((f.slot ≡ g.slot) × (f.key ≡ g.key)) ⊎ (f.slot ≡ g.slot → f.key ≢ g.key)
-one_place f g = by (slots_eq f.slot g.slot) (keys_eq octets_total exact_bytes f.key g.key)
-  where
-    by : (f.slot ≡ g.slot) ⊎ (f.slot ≢ g.slot) → (f.key ≡ g.key) ⊎ (f.key ≢ g.key)
-        → ((f.slot ≡ g.slot) × (f.key ≡ g.key)) ⊎ (f.slot ≡ g.slot → f.key ≢ g.key)
-    by (inl slots) (inl keys) = inl (slots, keys)
-    by (inl slots) (inr apart) = inr (λ _. apart)
-    by (inr apart) keys = inr (λ slots. absurd (apart slots))
 
 -- One half changes.
 pub put_acts : {table : Table} {deed : Deed} (e : End) (f : KeptHalf) (h : Half) → Has e f → Turned table deed f.half h

@@ -1,5 +1,5 @@
 -- A Continue, an End or an Abort without cause goes over an open half whose peer has the destination ID.
-use Rattle.std.proofs.Common.{◌≡◌, ◌⊎◌, inl, inr, Bool, true, false, cond, ℕ, List, [], ◌∷◌, Option, Some, None, Ok, is_none, not, refl, sym, ap, subst, ◌∙◌, arith}
+use Rattle.std.proofs.Common.{◌≡◌, ◌⊎◌, inl, inr, Bool, true, false, ℕ, List, Option, Some, None, Ok, is_none, not, refl, sym, ap, ◌∙◌}
 use Rattle.std.specs.Prelude.{ok_or}
 use Rattle.std.proofs.lemmas.Bool.{not-true}
 use Rattle.tcap_parts.specs.declared.component.Component.{Component}
@@ -11,13 +11,12 @@ use Rattle.tcap_msg.specs.Parts.{cause_in, components_in, dialogue_in, dtid_in, 
 use Rattle.tcap_end.specs.declared.fault.EndFault.TheVariants as faults
 use Rattle.tcap_end.specs.declared.half.Phase.{Phase}
 use Rattle.tcap_end.specs.declared.half.Phase.TheVariants as phases
-use Rattle.tcap_end.specs.declared.half.Slot.{Slot}
-use Rattle.tcap_end.specs.declared.half.Slot.TheVariants.{Begun, Accepted}
+use Rattle.tcap_end.specs.declared.half.Slot.TheVariants.{Accepted}
 use Rattle.tcap_end.specs.declared.half.Standing.{Standing}
 use Rattle.tcap_end.specs.Table.{Table}
 use Rattle.tcap_end.specs.Half.{Half, closed_half, is_closed}
 use Rattle.tcap_end.specs.Dialogue.{may_abort, may_go_on}
-use Rattle.tcap_end.specs.End.{End, KeptHalf, first_half, half_where, is_id, put, with_own, with_peer}
+use Rattle.tcap_end.specs.End.{End, KeptHalf, is_id, put, with_own, with_peer}
 use Rattle.tcap_end.specs.Message.{active_half, is_active, is_received, send, send_abort, send_components, send_continue, send_end, send_first_continue, send_next_continue}
 use Rattle.tcap_end.specs.ReachableEnd.{Has, IsEnd}
 use Rattle.tcap_end.proofs.AnsweringLaws.{needs_ok, some_ok, then_ok}
@@ -26,6 +25,7 @@ use Rattle.tcap_end.proofs.FoundLaws.{own_has, peer_has}
 use Rattle.tcap_end.proofs.HalfLaws.{Follows, active_is, received_is}
 use Rattle.tcap_end.proofs.StepLaws.{none_is}
 use Rattle.tcap_model.proofs.TurnLaws.{id_is}
+use Rattle.tcap_model.proofs.SentMoves.{own_is, peer_is}
 use Rattle.tcap_refute.proofs.HalfLawsTurns.{Answers, Deed, Said, Turned, answers, closes, stays}
 
 -- Whether a half in this phase may carry the message's dialogue portion.
@@ -66,37 +66,6 @@ pub record IsOver (table : Table) (e : End) (m : Message) (id : List ℕ) : Type
   pub turned : Turned table (Said m) kept.half now
   pub spoken : HasSpoken m now
   pub leads : send table e m ≡ Ok (put e kept.slot kept.key now)
-
--- ---- how halves are found
-
--- A half that a search finds passes.
-first_passes : (passes : Half → Bool) (slot : Slot) (es : List (List ℕ × Half)) (f : KeptHalf)
-    → first_half passes slot es ≡ Some f → passes f.half ≡ true
-first_passes passes slot [] f is = cc
-first_passes passes slot ((key, half) ∷ es) f is = by (passes half) refl is (first_passes passes slot es f)
-  where
-    first : KeptHalf
-    first = record { slot = slot; key = key; half = half }
-
-    by : (b : Bool) → passes half ≡ b → cond b (Some first) (first_half passes slot es) ≡ Some f
-        → (first_half passes slot es ≡ Some f → passes f.half ≡ true) → passes f.half ≡ true
-    by true so is rest = let same : first ≡ f = cc in subst (λ (g : KeptHalf). passes g.half ≡ true) same so
-    by false so is rest = rest is
-
--- A half of an end that a search finds passes.
-pub found_passes : (passes : Half → Bool) (e : End) (f : KeptHalf) → half_where passes e ≡ Some f → passes f.half ≡ true
-found_passes passes e f is = by (first_half passes Begun e.begun) refl
-  where
-    by : (o : Option KeptHalf) → first_half passes Begun e.begun ≡ o → passes f.half ≡ true
-    by None none = first_passes passes Accepted e.accepted f (rw none at is)
-    by (Some g) some = first_passes passes Begun e.begun f (let same = rw some at is in some ∙ same)
-
--- A half that is found by its peer's ID has it.
-pub peer_is : (e : End) (id : List ℕ) (f : KeptHalf) → with_peer e id ≡ Some f → f.half.peer ≡ Some id
-peer_is e id f is = id_is id f.half.peer (found_passes (λ h. is_id id h.peer) e f is)
-
-pub own_is : (e : End) (id : List ℕ) (f : KeptHalf) → with_own e id ≡ Some f → f.half.own ≡ Some id
-own_is e id f is = id_is id f.half.own (found_passes (λ h. is_id id h.own) e f is)
 
 -- Sending components leaves a half's phase, IDs and dialogue unchanged.
 pub follows_stays : {table : Table} {deed : Deed} (h g : Half) → Follows h g → Turned table deed h g

@@ -16,9 +16,9 @@ use Rattle.tcap_end.specs.Table.{Table}
 use Rattle.tcap_end.specs.Half.{Half, is_closed}
 use Rattle.tcap_end.specs.End.{End, KeptHalf, is_id, with_own}
 use Rattle.tcap_end.specs.Message.{send}
-use Rattle.tcap_end.specs.ReachableEnd.{Has, IsEnd, IsSame}
+use Rattle.tcap_end.specs.ReachableEnd.{Has, IsEnd}
 use Rattle.tcap_end.proofs.AnsweringLaws.{needs_ok}
-use Rattle.tcap_end.proofs.FoundLaws.{none_own}
+use Rattle.tcap_end.proofs.FoundLaws.{none_own, is_that_id}
 use Rattle.tcap_end.proofs.StepLaws.{none_is, sends}
 use Rattle.tcap_record.specs.Ends.{other}
 use Rattle.tcap_model.specs.World.{World, end_at}
@@ -29,10 +29,10 @@ use Rattle.tcap_model.proofs.RunLaws.{sound}
 use Rattle.tcap_model.proofs.SentMoves.{continue_uses, sent_moves}
 use Rattle.tcap_model.proofs.SinceLaws.{since_at}
 use Rattle.tcap_model.proofs.TurnLaws.{id_is}
-use Rattle.tcap_model.proofs.UsedLaws.{ended_closed, ids_used}
+use Rattle.tcap_model.proofs.UsedLaws.{ended_closed, ids_used, one_half}
 use Rattle.tcap_refute.specs.EarlierMessages.{asked, is_a, since_quiet, sent_by}
 use Rattle.tcap_refute.specs.Kind.{goes_elsewhere, is_after_end, is_cause_unfounded, is_reused, is_unasked, is_unknown_transaction}
-use Rattle.tcap_refute.proofs.BeforeLaws.{asked_has, found_since, is_that_id}
+use Rattle.tcap_refute.proofs.BeforeLaws.{asked_has, found_since}
 use Rattle.tcap_refute.proofs.Members.{any_has, has_not}
 use Rattle.tcap_refute.proofs.MomentLaws.{RepliesIt}
 use Rattle.tcap_refute.proofs.SentLaws.{IsSent, half_over, peer_spoke}
@@ -63,11 +63,6 @@ uses_own : (w : World) (side : Side) (otid : List ℕ) (m : Message) → HasUsed
 uses_own w side otid (Begin id dialogue components) (f, had, own) from = (f, had, own ∙ from)
 uses_own w side otid (Continue id dtid dialogue components) (f, had, own, peer) from = (f, had, own ∙ from)
 uses_own w side otid m used from = cc
-
--- At one place, an end has one half.
-pub one_half : (e : End) (f g : KeptHalf) → Has e f → Has e g → IsSame f g → g.half ≡ f.half
-one_half e f g in_f in_g same =
-    let here : Some g.half ≡ Some f.half = sym in_g ∙ (rw (← same.0, ← same.1) in_f) in cc
 
 -- Halves with one own ID have one peer's ID.
 one_peer : (e : End) (f g : KeptHalf) (otid dtid to : List ℕ) → IsEnd e → Has e f → Has e g → f.half.own ≡ Some otid

@@ -23,7 +23,7 @@ use Rattle.tcap_end.specs.Dialogue.{accepts_dialogue, is_request, is_uni, refuse
 use Rattle.tcap_end.specs.End.{is_id}
 use Rattle.tcap_end.specs.Table.{Table, class_of, operation_of}
 use Rattle.tcap_model.specs.World.{Item, Sent}
-use Rattle.tcap_model.specs.SinceMark.{ended_by}
+use Rattle.tcap_model.specs.SinceMark.{ended_by, is_begin_with_request}
 use Rattle.tcap_model.specs.declared.reason.Reason.{Reason}
 use Rattle.tcap_model.specs.declared.reason.Reason.TheVariants.{BadMessage}
 use Rattle.tcap_refute.specs.declared.kind.Kind.{Kind}
@@ -160,11 +160,6 @@ is_wrong_operation table side before message =
     by (Some id) = list_any (no_class_allows table (components_of (asked side id before))) (components_in message)
 
 -- ---- F7: a misplaced dialogue portion (Q.774 3.2, dialogues; Q.773 4.2.3)
-
--- A Begin with an AARQ.
-abbrev pub is_begin_with_request : Message → Bool
-is_begin_with_request (Begin otid dialogue components) = is_request dialogue
-is_begin_with_request _ = false
 
 -- A PDU that a Continue or an End may not have. Only an AARE that accepts the dialogue is allowed, if the peer asked
 -- for one (`is_asked`).

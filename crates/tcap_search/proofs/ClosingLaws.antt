@@ -4,10 +4,10 @@ use Rattle.std.specs.Prelude.{nat_lt, nat_le, option_map, slice_get}
 use Rattle.std.proofs.lemmas.List.{take_all, length-take-le, take_more, drop_more}
 use Rattle.tcap_record.specs.declared.entry.End.{End as Side}
 use Rattle.tcap_record.specs.declared.entry.Entry.{Entry}
-use Rattle.tcap_record.specs.Ends.{other}
+use Rattle.tcap_record.specs.Ends.{other, is_entry_of}
 use Rattle.tcap_search.specs.declared.leasts.Leasts.{Leasts}
 use Rattle.tcap_search.specs.LeastNumbers.{HasRoom, is_below, is_transaction, least_at, lesser, is_within}
-use Rattle.tcap_search.specs.SegmentEntries.{Line, is_end, is_of_peer, line_behind, lines_of, message_of, share_transaction, are_of_one_end}
+use Rattle.tcap_search.specs.SegmentEntries.{Line, is_of_peer, line_behind, lines_of, message_of, share_transaction, are_of_one_end}
 use Rattle.tcap_search.specs.ProposedCertificate.{ends, was_ended, Fated, fated, is_delivered_by, is_end_or_abort, was_told, closing_by, closings_from, closings_of, is_closing_of, is_continue, with_closing}
 use Rattle.tcap_search.specs.ClosedByTie.{KeepsEnded, KeepsTold, gap_told, KeepsListed, both_of, shown_by}
 use Rattle.tcap_search.proofs.LineLaws.{count_taken, lines_more, count_lines, entry_line, transaction_below, transaction_is}
@@ -68,7 +68,7 @@ module _ (entries : List Entry) (i : ℕ) (old : Leasts) (e : Entry) (below : i 
   pub ended_more : (new : Leasts) (transaction : Option ℕ) → transaction ≡ next.transaction → ends (message_of e) ≡ true
       → HasRoom (length entries) new
       → ((side : Side) (t : ℕ) → t < length entries → least_at side t new
-      ≡ cond (is_end side e.side && is_transaction t transaction) (lesser i (least_at side t old))
+      ≡ cond (is_entry_of side e.side && is_transaction t transaction) (lesser i (least_at side t old))
       (least_at side t old))
       → Ended entries (i + 1) new
   ended_more new transaction has is_ending room noted = record {
@@ -76,16 +76,16 @@ module _ (entries : List Entry) (i : ℕ) (old : Leasts) (e : Entry) (below : i 
     kept = λ x side t limit sent belongs within.
         let number : nat_lt next.number limit ≡ nat_lt i limit =
         ap (λ (n : ℕ). nat_lt n limit) (count_taken entries i (omega arith)) in
-        let first : is_of_peer x.entry e ≡ is_end (other side) e.side = of_peer x.entry e side sent in
+        let first : is_of_peer x.entry e ≡ is_entry_of (other side) e.side = of_peer x.entry e side sent in
         let second : share_transaction x next ≡ is_transaction t transaction =
         shares x next t belongs ∙ ap (is_transaction t) (sym has) in
-        let here : ends_it x limit ≡ (nat_lt i limit && is_end (other side) e.side && is_transaction t transaction) =
+        let here : ends_it x limit ≡ (nat_lt i limit && is_entry_of (other side) e.side && is_transaction t transaction) =
         same_tests (nat_lt next.number limit) (is_of_peer x.entry e) (share_transaction x next) (ends (message_of e))
-        (nat_lt i limit) (is_end (other side) e.side) (is_transaction t transaction) number first second is_ending in
-        test_noted (is_below limit) (is_end (other side) e.side) (is_transaction t transaction) (nat_lt i limit)
+        (nat_lt i limit) (is_entry_of (other side) e.side) (is_transaction t transaction) number first second is_ending in
+        test_noted (is_below limit) (is_entry_of (other side) e.side) (is_transaction t transaction) (nat_lt i limit)
         (least_at (other side) t new) (least_at (other side) t old) (lesser i (least_at (other side) t old))
         (below_lesser limit i (least_at (other side) t old)) (noted (other side) t within)
-        ∙ (ap (λ (b : Bool). b || (nat_lt i limit && is_end (other side) e.side && is_transaction t transaction))
+        ∙ (ap (λ (b : Bool). b || (nat_lt i limit && is_entry_of (other side) e.side && is_transaction t transaction))
         (so_far.kept x side t limit sent belongs within)
         ∙ sym (ended_next x limit ∙ ap (λ (b : Bool). was x limit || b) here));
   }
@@ -184,25 +184,25 @@ module _ (entries : List Entry) (fates : List Fate) (i : ℕ) (old : Leasts) (e 
   pub told_more : (new : Leasts) (transaction : Option ℕ) (gap : ℕ) → transaction ≡ next_line.transaction
       → gap_told (message_of e) fate ≡ Some gap → HasRoom (length entries) new
       → ((side : Side) (t : ℕ) → t < length entries → least_at side t new
-      ≡ cond (is_end side e.side && is_transaction t transaction) (lesser gap (least_at side t old))
+      ≡ cond (is_entry_of side e.side && is_transaction t transaction) (lesser gap (least_at side t old))
       (least_at side t old))
       → Told entries fates (i + 1) new
   told_more new transaction gap has is_told room noted = record {
     room = room;
     kept = λ x side t limit sent belongs within.
-        let first : are_of_one_end x.entry e ≡ is_end side e.side = one_end x.entry e side sent in
+        let first : are_of_one_end x.entry e ≡ is_entry_of side e.side = one_end x.entry e side sent in
         let second : share_transaction x next_line ≡ is_transaction t transaction =
         shares x next_line t belongs ∙ ap (is_transaction t) (sym has) in
         let parts = told_gap gap fate is_told in
         let delivered : is_delivered_by limit fate ≡ nat_le gap limit = ap (is_delivered_by limit) parts.1 in
-        let here : tells_it x limit ≡ (nat_le gap limit && is_end side e.side && is_transaction t transaction) =
+        let here : tells_it x limit ≡ (nat_le gap limit && is_entry_of side e.side && is_transaction t transaction) =
         turned_tests (are_of_one_end x.entry e) (share_transaction x next_line) (is_end_or_abort (message_of e))
-        (is_delivered_by limit fate) (is_end side e.side) (is_transaction t transaction) (nat_le gap limit)
+        (is_delivered_by limit fate) (is_entry_of side e.side) (is_transaction t transaction) (nat_le gap limit)
         first second parts.0 delivered in
-        test_noted (is_within limit) (is_end side e.side) (is_transaction t transaction) (nat_le gap limit)
+        test_noted (is_within limit) (is_entry_of side e.side) (is_transaction t transaction) (nat_le gap limit)
         (least_at side t new) (least_at side t old) (lesser gap (least_at side t old))
         (within_lesser limit gap (least_at side t old)) (noted side t within)
-        ∙ (ap (λ (b : Bool). b || (nat_le gap limit && is_end side e.side && is_transaction t transaction))
+        ∙ (ap (λ (b : Bool). b || (nat_le gap limit && is_entry_of side e.side && is_transaction t transaction))
         (so_far.kept x side t limit sent belongs within)
         ∙ sym (told_next x limit ∙ ap (λ (b : Bool). was_told fated_so_far x limit || b) here));
   }

@@ -29,7 +29,7 @@ use Rattle.tcap_search.specs.declared.sweep.Sweep.{Sweep}
 use Rattle.tcap_search.specs.DeliveryOrder.{AreInOrder}
 use Rattle.tcap_search.specs.SegmentLists.{AreTransactions}
 use Rattle.tcap_search.specs.InvocationMap.{kept_at}
-use Rattle.tcap_search.specs.GapDeliveries.{due_in}
+use Rattle.tcap_certificate.specs.Replay.{due_in}
 use Rattle.tcap_search.proofs.FateSteps.{lines_more}
 use Rattle.tcap_search.proofs.LossLaws.{entries_fated, fates_fated, lines_fated}
 use Rattle.tcap_search.specs.Rejections.{has_rejection, rejects}

@@ -9,14 +9,14 @@ use Rattle.tcap_msg.specs.declared.message.Message.TheVariants.{Unidirectional, 
 use Rattle.tcap_record.specs.declared.entry.Entry.{Entry}
 use Rattle.tcap_model.proofs.ListLaws.{all_more}
 use Rattle.tcap_search.specs.declared.tie.Tie.{Tie}
-use Rattle.tcap_search.specs.SegmentEntries.{Line, last, lines_of, message_of, is_end}
+use Rattle.tcap_search.specs.SegmentEntries.{Line, last, lines_of, message_of}
 use Rattle.tcap_search.specs.ProposedCertificate.{answered_line, gap_behind_reply, reply_of, ties_from, with_tie_by, Fated, fate_before, fate_of, fated, holds_back, with_losses}
 use Rattle.tcap_search.specs.SegmentLists.{AreTies, AreTransactions}
 use Rattle.tcap_search.proofs.LatestLaws.{last_among}
 use Rattle.tcap_search.proofs.LineLaws.{count_lines, count_transactions, AreNumbered, lines_numbered, entries_of_lines, line_at, line_more, transaction_within}
 use Rattle.std.proofs.lemmas.Option.{get_or_from_slice_get}
 use Rattle.tcap_record.specs.declared.entry.End.{End as Side}
-use Rattle.tcap_record.specs.Ends.{other}
+use Rattle.tcap_record.specs.Ends.{other, is_entry_of}
 use Rattle.tcap_certificate.specs.declared.certificate.Fate.{Fate}
 use Rattle.tcap_certificate.specs.declared.certificate.Fate.TheVariants.{Gap}
 use Rattle.tcap_certificate.specs.Replay.{time_of}
@@ -127,7 +127,7 @@ module _ (entries : List Entry) (transactions : List (Option ℕ)) (are : AreTra
       ∙ ap (gap_behind_last judged side t) (sym lines_more)
 
   pub highest_step : (ties : List Tie) (side : Side) (old : ℕ) → old ≡ highest side (take i (lines_of entries)) ties
-      → cond (is_end side e.side) (max old (gap_behind_reply (reply_of ties i))) old
+      → cond (is_entry_of side e.side) (max old (gap_behind_reply (reply_of ties i))) old
       ≡ highest side (take (i + 1) (lines_of entries)) ties
   highest_step ties side old is = rw is
       (sym (highest_more side (take i (lines_of entries)) (line_at i e (get_or transactions i None)) ties))
@@ -263,10 +263,10 @@ module _ (entries : List Entry) (old : List Fate) (same : length old ≡ length 
         ∙ ap (λ (xs : List Fated). take k old ++ map (λ x. x.fate) xs) (sym losses_here))
 
     pub least_step : (side : Side)
-        → cond (is_end side e.side) (sooner (time_of made) (at_end side least)) (at_end side least)
+        → cond (is_entry_of side e.side) (sooner (time_of made) (at_end side least)) (at_end side least)
         ≡ least_time side (with_losses (drop k all))
     least_step side = rw (times side, loss_is)
-        (ap (λ (x : Entry). cond (is_end side x.side)
+        (ap (λ (x : Entry). cond (is_entry_of side x.side)
         (sooner (time_of (fate_before later here)) (least_time side later))
         (least_time side later)) (sym entry_here)
         ∙ ap (least_time side) (sym losses_here))

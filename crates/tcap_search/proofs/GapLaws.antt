@@ -8,11 +8,11 @@ use Rattle.std.proofs.lemmas.Option.{none-some, same_Some}
 use Rattle.tcap_msg.specs.declared.message.Message.{Message}
 use Rattle.tcap_msg.specs.declared.message.Message.TheVariants.{Unidirectional, Begin, Continue, End, Abort}
 use Rattle.tcap_record.specs.declared.entry.End.{End as Side}
-use Rattle.tcap_record.specs.Ends.{other}
+use Rattle.tcap_record.specs.Ends.{other, is_entry_of}
 use Rattle.tcap_model.specs.Run.{where_so}
 use Rattle.tcap_certificate.specs.declared.certificate.Fate.TheVariants.{Gap}
 use Rattle.tcap_search.specs.declared.tie.Tie.{Tie}
-use Rattle.tcap_search.specs.SegmentEntries.{Line, is_end, is_of_peer, last, message_of, share_transaction}
+use Rattle.tcap_search.specs.SegmentEntries.{Line, is_of_peer, last, message_of, share_transaction}
 use Rattle.tcap_search.specs.ProposedCertificate.{fate_by, fate_of, first_gap, first_gap_by, gap_behind, gap_behind_reply, holds_back, last_of_receiver, raised, reply_of}
 use Rattle.tcap_search.specs.Fates.{earliest, fate_from, gap_behind_last, gap_behind_line, highest, holds_back_in, is_line_of, is_of, untied_fate}
 use Rattle.tcap_search.proofs.LatestLaws.{last_never, last_same}
@@ -23,12 +23,12 @@ use Rattle.tcap_search.proofs.TestLaws.{of_peer, of_peer_none, one_end, one_end_
 
 -- A line of this end in the transaction of x.
 pub of_both : (side : Side) (t : ℕ) (x y : Line) → x.transaction ≡ Some t
-    → (is_end side y.entry.side && share_transaction x y) ≡ is_line_of side t y
+    → (is_entry_of side y.entry.side && share_transaction x y) ≡ is_line_of side t y
 of_both side t x y is = by y.transaction refl
   where
     by : (o : Option ℕ) → y.transaction ≡ o
-        → (is_end side y.entry.side && share_transaction x y) ≡ is_of side t y.entry o
-    by None at = rw (is, at) (and_false (is_end side y.entry.side))
+        → (is_entry_of side y.entry.side && share_transaction x y) ≡ is_of side t y.entry o
+    by None at = rw (is, at) (and_false (is_entry_of side y.entry.side))
     by (Some u) at = rw (is, at) refl
 
 -- A line without transaction shares none.
@@ -170,8 +170,8 @@ raised_of side n (y ∷ lines) ties x (suc i) gap at are is =
     let before : nat_lt y.number x.number ≡ true = lt-ltb y.number x.number (omega (arith, are.0)) in
     let reply = gap_behind_reply (reply_of ties y.number) in
     rw (before, one_end x.entry y.entry side at)
-    (raised_of side (n + 1) lines ties x i (cond (is_end side y.entry.side) (max gap reply) gap) at are.1 (omega arith)
-    ∙ raise_step (is_end side y.entry.side) gap reply (highest side (take i lines) ties))
+    (raised_of side (n + 1) lines ties x i (cond (is_entry_of side y.entry.side) (max gap reply) gap) at are.1 (omega arith)
+    ∙ raise_step (is_entry_of side y.entry.side) gap reply (highest side (take i lines) ties))
 
 raised_none : (lines : List Line) (ties : List Tie) (x : Line) (gap : ℕ) → x.entry.side ≡ None
     → raised lines ties x gap ≡ gap
@@ -228,18 +228,18 @@ fate_is judged lines ties x are = by (reply_of ties x.number) (message_of x.entr
 -- the highest gap, with one more line
 pub highest_more : (side : Side) (lines : List Line) (x : Line) (ties : List Tie)
     → highest side (lines ++ x ∷ []) ties
-    ≡ cond (is_end side x.entry.side) (max (highest side lines ties) (gap_behind_reply (reply_of ties x.number)))
+    ≡ cond (is_entry_of side x.entry.side) (max (highest side lines ties) (gap_behind_reply (reply_of ties x.number)))
     (highest side lines ties)
-highest_more side [] x ties = by (is_end side x.entry.side)
+highest_more side [] x ties = by (is_entry_of side x.entry.side)
   where
     by : (b : Bool) → max (cond b (gap_behind_reply (reply_of ties x.number)) 0) 0
         ≡ cond b (max 0 (gap_behind_reply (reply_of ties x.number))) 0
     by true = omega arith
     by false = omega arith
 highest_more side (y ∷ lines) x ties =
-    ap (λ (n : ℕ). max (cond (is_end side y.entry.side) (gap_behind_reply (reply_of ties y.number)) 0) n)
+    ap (λ (n : ℕ). max (cond (is_entry_of side y.entry.side) (gap_behind_reply (reply_of ties y.number)) 0) n)
     (highest_more side lines x ties)
-    ∙ by (is_end side x.entry.side) (cond (is_end side y.entry.side) (gap_behind_reply (reply_of ties y.number)) 0)
+    ∙ by (is_entry_of side x.entry.side) (cond (is_entry_of side y.entry.side) (gap_behind_reply (reply_of ties y.number)) 0)
     (highest side lines ties) (gap_behind_reply (reply_of ties x.number))
   where
     by : (b : Bool) (first high reply : ℕ)

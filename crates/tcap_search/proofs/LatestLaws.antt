@@ -4,7 +4,7 @@ use Rattle.std.specs.Option.{option_or}
 use Rattle.std.specs.List.{AllByRecursion}
 use Rattle.std.proofs.lemmas.Option.{none-some, same_Some}
 use Rattle.tcap_model.specs.Run.{where_so, then_so}
-use Rattle.tcap_search.specs.SegmentEntries.{last, Line, is_end, is_from, line_behind, lines_of, message_of, transaction_by, transaction_from}
+use Rattle.tcap_search.specs.SegmentEntries.{last, Line, is_from, line_behind, lines_of, message_of, transaction_by, transaction_from}
 use Rattle.std.specs.Prelude.{◌&&◌, is_some, nat_lt}
 use Rattle.std.proofs.lemmas.Bool.{false≢true, le-ltb, lt-ltb}
 use Rattle.tcap_search.specs.Sweep.{last_given}
@@ -19,7 +19,7 @@ use Rattle.tcap_record.specs.declared.entry.End.{End as Side}
 use Rattle.tcap_record.specs.declared.entry.End.TheVariants as sides
 use Rattle.tcap_record.specs.declared.entry.Entry.{Entry}
 use Rattle.tcap_end.specs.Table.{octets_cmp}
-use Rattle.tcap_record.specs.Ends.{other}
+use Rattle.tcap_record.specs.Ends.{other, is_entry_of}
 use Rattle.tcap_model.specs.World.{is_side}
 use Rattle.tcap_search.specs.declared.lines.Latest.{Latest}
 use Rattle.tcap_search.specs.LastEntries.{belongs, belongs_by, latest_asked, latest_at, latest_of}
@@ -166,7 +166,7 @@ put_is sides.B id transaction old new put kept sides.B key =
 -- the transaction of the last of these lines that is from this end and ID
 abbrev last_from : List Line → Side → List ℕ → Option ℕ
 last_from lines side id =
-    then_so (last (λ f. is_end side f.entry.side && is_from id f.entry) lines) (λ f. f.transaction)
+    then_so (last (λ f. is_entry_of side f.entry.side && is_from id f.entry) lines) (λ f. f.transaction)
 
 -- The map is that of these lines.
 abbrev pub IsLatest : List Line → Latest → Type 0
@@ -207,10 +207,10 @@ chosen false x o = refl
 pub latest_more : (lines : List Line) (old new : Latest) (e : Entry) (transaction : Option ℕ) → IsLatest lines old
     → transaction ≡ (line_behind lines e).transaction
     → ((side : Side) (id : List ℕ) → latest_at side id new
-    ≡ cond (is_end side e.side && is_from id e) transaction (latest_at side id old))
+    ≡ cond (is_entry_of side e.side && is_from id e) transaction (latest_at side id old))
     → IsLatest (lines ++ line_behind lines e ∷ []) new
 latest_more lines old new e transaction is has noted side id =
-    let passes : Line → Bool = λ (f : Line). is_end side f.entry.side && is_from id f.entry in
+    let passes : Line → Bool = λ (f : Line). is_entry_of side f.entry.side && is_from id f.entry in
     let x : Line = line_behind lines e in
     noted side id
     ∙ (ap (λ (t : Option ℕ). cond (passes x) t (latest_at side id old)) has
@@ -234,7 +234,7 @@ pub noted_more : (entries : List Entry) (i : ℕ) (old new : Latest) (transactio
     (transaction : Option ℕ) → i < length entries → e ≡ get_or entries i e → Noted entries i old transactions
     → transaction ≡ belongs i e old
     → ((side : Side) (id : List ℕ) → latest_at side id new
-    ≡ cond (is_end side e.side && is_from id e) transaction (latest_at side id old))
+    ≡ cond (is_entry_of side e.side && is_from id e) transaction (latest_at side id old))
     → Noted entries (i + 1) new (transactions ++ transaction ∷ [])
 noted_more entries i old new transactions e transaction below is noted has says = record {
   latest = rw (lines_more entries i e below is)

@@ -9,7 +9,7 @@ use Rattle.tcap_msg.specs.declared.message.Message.{Message}
 use Rattle.tcap_msg.specs.declared.message.Message.TheVariants.{Unidirectional, Begin, Continue, End, Abort}
 use Rattle.tcap_record.specs.declared.entry.End.{End as Side}
 use Rattle.tcap_record.specs.declared.entry.Entry.{Entry}
-use Rattle.tcap_record.specs.Ends.{other}
+use Rattle.tcap_record.specs.Ends.{other, is_entry_of}
 use Rattle.tcap_model.specs.Run.{then_so, where_so}
 use Rattle.tcap_certificate.specs.declared.certificate.Closing.{Closing}
 use Rattle.tcap_certificate.specs.declared.certificate.Expiry.{Expiry}
@@ -19,7 +19,7 @@ use Rattle.tcap_certificate.specs.Certificate.{ClosingFits, ExpiryFits, FateFits
 use Rattle.tcap_model.proofs.ListLaws.{all_more, all_weaker}
 use Rattle.tcap_model.proofs.RunLaws.{map_some, then_some}
 use Rattle.tcap_search.specs.declared.tie.Tie.{Tie}
-use Rattle.tcap_search.specs.SegmentEntries.{Line, are_of_one_end, is_end, lines_of, message_of}
+use Rattle.tcap_search.specs.SegmentEntries.{Line, are_of_one_end, lines_of, message_of}
 use Rattle.tcap_search.specs.ProposedCertificate.{Fated, all_fated, closing_behind, closing_by, closings_from, expiries_by, expiries_from, expiry_behind, expiry_by, expiry_in, fate_before, fate_behind, fate_by, fate_of, fated, first_fates, first_gap, first_gap_by, gap_behind, gap_behind_reply, gap_in, invocation_at, is_closing_of, is_continue, is_expiry_of, is_gap, is_invoke_of, is_overtaken, is_unanswered, last_invocation, last_invoke, last_of_receiver, may_invoke, components_at, number_limit, of_stretch, raised, rejected_line, reply_of, ties_of, unrecognized, was_ended, was_told, with_closing, with_expiry, with_losses, without_unanswered}
 use Rattle.tcap_search.specs.SegmentLists.{AreFates}
 use Rattle.tcap_search.proofs.LatestLaws.{last_among}
@@ -119,7 +119,7 @@ unanswered_within n None marked lines all within = within
 unanswered_within n (Some side) false lines all within = within
 unanswered_within n (Some side) true lines [] within = tt
 unanswered_within n (Some side) true lines (x ∷ all) within = (
-  by (is_gap x.fate && is_end (other side) x.line.entry.side && is_unanswered side lines (message_of x.line.entry)),
+  by (is_gap x.fate && is_entry_of (other side) x.line.entry.side && is_unanswered side lines (message_of x.line.entry)),
   unanswered_within n (Some side) true lines all within.1,
 )
   where

@@ -9,7 +9,8 @@ use Rattle.tcap_record.specs.declared.entry.Entry.{Entry}
 use Rattle.tcap_certificate.specs.declared.certificate.Fate.{Fate}
 use Rattle.tcap_certificate.specs.declared.certificate.Fate.TheVariants.{Lost, Gap, By}
 use Rattle.tcap_certificate.specs.Replay.{is_later, time_of}
-use Rattle.tcap_search.specs.SegmentEntries.{Line, is_end, lines_of, message_of, are_of_one_end}
+use Rattle.tcap_search.specs.SegmentEntries.{Line, lines_of, message_of, are_of_one_end}
+use Rattle.tcap_record.specs.Ends.{is_entry_of}
 use Rattle.tcap_search.specs.ProposedCertificate.{Fated, all_fated, fate_before, fate_of, fated, first_fates, is_gap, is_overtaken, ties_of, with_losses, without_unanswered}
 use Rattle.tcap_search.specs.declared.tie.Tie.{Tie}
 use Rattle.tcap_search.specs.SegmentLists.{AreFates, AreTies}
@@ -36,7 +37,7 @@ overtaken_by : (x : Fated) (side : Side) (later : List Fated) → x.line.entry.s
     → list_any (is_overtaken x) later ≡ is_later (least_time side later) (time_of x.fate)
 overtaken_by x side [] at = refl
 overtaken_by x side (y ∷ later) at =
-    rw (one_end x.line.entry y.line.entry side at, overtaken_by x side later at) (by (is_end side y.line.entry.side))
+    rw (one_end x.line.entry y.line.entry side at, overtaken_by x side later at) (by (is_entry_of side y.line.entry.side))
   where
     by : (b : Bool) → ((b && is_later (time_of y.fate) (time_of x.fate))
         || is_later (least_time side later) (time_of x.fate))

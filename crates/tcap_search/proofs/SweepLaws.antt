@@ -8,7 +8,7 @@ use Rattle.tcap_record.specs.declared.entry.End.{End as Side}
 use Rattle.tcap_record.specs.declared.entry.Entry.{Entry}
 use Rattle.tcap_model.specs.World.{is_side}
 use Rattle.tcap_model.specs.Run.{where_so}
-use Rattle.tcap_search.specs.SegmentEntries.{message_of, Line, are_of_one_end, is_end}
+use Rattle.tcap_search.specs.SegmentEntries.{message_of, Line, are_of_one_end}
 use Rattle.tcap_search.specs.ProposedCertificate.{is_invoke_of, last_invoke, may_invoke, number_limit, Fated, components_at, invocation_at, is_answer_of, is_expiry_of, with_expiry}
 use Rattle.tcap_search.specs.Fates.{is_of, is_line_of}
 use Rattle.tcap_search.specs.Sweep.{components_of, invoked_by, answer_at, answers, answers_at, invoked_in, last_given, message_components}
@@ -19,10 +19,11 @@ use Rattle.std.proofs.lemmas.Bool.Decides.{nat_tests}
 use Rattle.std.proofs.lemmas.Option.{slice_get-map}
 use Rattle.tcap_msg.specs.declared.message.Message.{Message}
 use Rattle.tcap_record.specs.declared.entry.End.TheVariants as sides
-use Rattle.tcap_record.specs.Ends.{other}
+use Rattle.tcap_record.specs.Ends.{other, is_entry_of}
 use Rattle.tcap_certificate.specs.declared.certificate.Fate.{Fate}
 use Rattle.tcap_certificate.specs.declared.certificate.Fate.TheVariants.{Gap, Lost, By}
-use Rattle.tcap_search.specs.GapDeliveries.{due_in, due_at}
+use Rattle.tcap_search.specs.GapDeliveries.{due_at}
+use Rattle.tcap_certificate.specs.Replay.{due_in, is_gap}
 use Rattle.tcap_search.specs.declared.sweep.Answer.{Answer}
 use Rattle.tcap_search.specs.DeliveryOrder.{AreInOrder, ComesNoEarlier}
 use Rattle.tcap_search.proofs.LatestLaws.{given_more}
@@ -116,10 +117,6 @@ invoked_more lines x t s id =
 
 -- ---- answers, with one more gap
 
-abbrev pub is_in_gap : ℕ → Fate → Bool
-is_in_gap gap (Gap g) = g == gap
-is_in_gap gap _ = false
-
 abbrev pub is_in_gap_below : ℕ → Fate → Bool
 is_in_gap_below limit (Gap g) = nat_lt g limit
 is_in_gap_below limit _ = false
@@ -144,25 +141,25 @@ any_message : (test : Component → Bool) (m : Option Message) → list_any test
 any_message test None any = absurd (cc)
 any_message test (Some m) any = refl
 
-of_one_end : (e f : Entry) (s : Side) → is_end s e.side ≡ true → is_end s f.side ≡ true → are_of_one_end e f ≡ true
+of_one_end : (e f : Entry) (s : Side) → is_entry_of s e.side ≡ true → is_entry_of s f.side ≡ true → are_of_one_end e f ≡ true
 of_one_end e f s one two = by e.side refl one
   where
-    same : (r : Side) → is_side s r ≡ true → is_end r f.side ≡ true
+    same : (r : Side) → is_side s r ≡ true → is_entry_of r f.side ≡ true
     same r is = by s r is two
       where
-        by : (s r : Side) → is_side s r ≡ true → is_end s f.side ≡ true → is_end r f.side ≡ true
+        by : (s r : Side) → is_side s r ≡ true → is_entry_of s f.side ≡ true → is_entry_of r f.side ≡ true
         by sides.A sides.A is two = two
         by sides.B sides.B is two = two
         by sides.A sides.B is two = absurd (cc)
         by sides.B sides.A is two = absurd (cc)
 
-    by : (o : Option Side) → e.side ≡ o → is_end s o ≡ true → are_of_one_end e f ≡ true
+    by : (o : Option Side) → e.side ≡ o → is_entry_of s o ≡ true → are_of_one_end e f ≡ true
     by None at is = absurd (cc)
     by (Some r) at is = rw at (same r is)
 
-is_of_end : (s : Side) (t : ℕ) (e : Entry) (o : Option ℕ) → is_of s t e o ≡ true → is_end s e.side ≡ true
+is_of_end : (s : Side) (t : ℕ) (e : Entry) (o : Option ℕ) → is_of s t e o ≡ true → is_entry_of s e.side ≡ true
 is_of_end s t e None is = absurd (cc)
-is_of_end s t e (Some u) is = (and_parts (is_end s e.side) (t == u) is).0
+is_of_end s t e (Some u) is = (and_parts (is_entry_of s e.side) (t == u) is).0
 
 module _ (lines : List Line) (gap : ℕ) (is_result : Bool) (t : ℕ) (s : Side) (id : ℤ) where
   -- the answer delivered in a gap below this limit
@@ -172,7 +169,7 @@ module _ (lines : List Line) (gap : ℕ) (is_result : Bool) (t : ℕ) (s : Side)
 
   -- whether y is an answer delivered in this gap
   here : Fated → Bool
-  here y = is_in_gap gap y.fate && is_answering is_result t s id y
+  here y = is_gap gap y.fate && is_answering is_result t s id y
 
   answer : Answer
   answer = answer_at gap (invoked_in (take gap lines) t s id)
@@ -191,7 +188,7 @@ module _ (lines : List Line) (gap : ℕ) (is_result : Bool) (t : ℕ) (s : Side)
           ((and_parts (is_of (other s) t x.line.entry x.line.transaction)
           (list_any (is_answer_of is_result id) (components_of x.line.entry)) answers_x).1)
 
-      end_of : (z : Fated) → is_answering is_result t s id z ≡ true → is_end (other s) z.line.entry.side ≡ true
+      end_of : (z : Fated) → is_answering is_result t s id z ≡ true → is_entry_of (other s) z.line.entry.side ≡ true
       end_of z is = is_of_end (other s) t z.line.entry z.line.transaction
           ((and_parts (is_of (other s) t z.line.entry z.line.transaction)
           (list_any (is_answer_of is_result id) (components_of z.line.entry)) is).0)
@@ -222,7 +219,7 @@ module _ (lines : List Line) (gap : ℕ) (is_result : Bool) (t : ℕ) (s : Side)
   unfolding below here
   not_here x is = by x.fate (is_answering is_result t s id x) is
     where
-      by : (f : Fate) (b : Bool) → (is_in_gap gap f && b) ≡ false
+      by : (f : Fate) (b : Bool) → (is_gap gap f && b) ≡ false
           → where_so (is_in_gap_below (gap + 1) f && b) (answer_with lines t s id f)
           ≡ where_so (is_in_gap_below gap f && b) (answer_with lines t s id f)
       by Lost b is = refl
@@ -234,10 +231,10 @@ module _ (lines : List Line) (gap : ℕ) (is_result : Bool) (t : ℕ) (s : Side)
   is_here : (x : Fated) → here x ≡ true → (x.fate ≡ Gap gap) × (is_answering is_result t s id x ≡ true)
   unfolding here
   is_here x is =
-      let parts = and_parts (is_in_gap gap x.fate) (is_answering is_result t s id x) is in
+      let parts = and_parts (is_gap gap x.fate) (is_answering is_result t s id x) is in
       (by x.fate parts.0, parts.1)
     where
-      by : (f : Fate) → is_in_gap gap f ≡ true → f ≡ Gap gap
+      by : (f : Fate) → is_gap gap f ≡ true → f ≡ Gap gap
       by Lost in_gap = absurd (cc)
       by (By reply) in_gap = absurd (cc)
       by (Gap h) in_gap = ap Gap (eqb-true h gap in_gap)
@@ -269,7 +266,7 @@ module _ (lines : List Line) (gap : ℕ) (is_result : Bool) (t : ℕ) (s : Side)
 
 due_from : (F : ℕ → Bool) (G : Fated → Bool) (gap k : ℕ) (rest : List Fated)
     → ((j : ℕ) (y : Fated) → slice_get rest j ≡ Some y → F (k + j) ≡ G y)
-    → list_any F (due_in gap k (map (λ y. y.fate) rest)) ≡ list_any (λ y. is_in_gap gap y.fate && G y) rest
+    → list_any F (due_in gap k (map (λ y. y.fate) rest)) ≡ list_any (λ y. is_gap gap y.fate && G y) rest
 due_from F G gap k [] agree = refl
 due_from F G gap k (y ∷ rest) agree = by y.fate (due_from F G gap (k + 1) rest later)
   where
@@ -280,9 +277,9 @@ due_from F G gap k (y ∷ rest) agree = by y.fate (due_from F G gap (k + 1) rest
     later j z at = let e : (k + 1) + j ≡ k + suc j = omega arith in ap F e ∙ agree (suc j) z at
 
     by : (f : Fate)
-        → list_any F (due_in gap (k + 1) (map (λ y. y.fate) rest)) ≡ list_any (λ y. is_in_gap gap y.fate && G y) rest
+        → list_any F (due_in gap (k + 1) (map (λ y. y.fate) rest)) ≡ list_any (λ y. is_gap gap y.fate && G y) rest
         → list_any F (due_in gap k (f ∷ map (λ y. y.fate) rest))
-        ≡ ((is_in_gap gap f && G y) || list_any (λ y. is_in_gap gap y.fate && G y) rest)
+        ≡ ((is_gap gap f && G y) || list_any (λ y. is_gap gap y.fate && G y) rest)
     by Lost is = is
     by (By reply) is = is
     by (Gap g) is = in_gap (g == gap)
@@ -290,7 +287,7 @@ due_from F G gap k (y ∷ rest) agree = by y.fate (due_from F G gap (k + 1) rest
         in_gap : (b : Bool)
             → list_any F (cond b (k ∷ due_in gap (k + 1) (map (λ y. y.fate) rest))
             (due_in gap (k + 1) (map (λ y. y.fate) rest)))
-            ≡ ((b && G y) || list_any (λ y. is_in_gap gap y.fate && G y) rest)
+            ≡ ((b && G y) || list_any (λ y. is_gap gap y.fate && G y) rest)
         in_gap true = rw (first, is) refl
         in_gap false = is
 
@@ -298,7 +295,7 @@ due_from F G gap k (y ∷ rest) agree = by y.fate (due_from F G gap (k + 1) rest
 pub due_is : (gap : ℕ) (is_result : Bool) (t : ℕ) (s : Side) (id : ℤ) (all : List Fated)
     → list_any (answers_at (map (λ y. y.line.entry) all) (map (λ y. y.line.transaction) all) is_result t s id)
     (due_in gap 0 (map (λ y. y.fate) all))
-    ≡ list_any (λ y. is_in_gap gap y.fate && is_answering is_result t s id y) all
+    ≡ list_any (λ y. is_gap gap y.fate && is_answering is_result t s id y) all
 due_is gap is_result t s id all =
     due_from (answers_at (map (λ y. y.line.entry) all) (map (λ y. y.line.transaction) all) is_result t s id)
     (is_answering is_result t s id) gap 0 all agree

@@ -3,8 +3,8 @@ use Rattle.std.proofs.Common.{◌≡◌, Bool, true, false, refl, Some, None, �
 use Rattle.std.specs.Prelude.{◌&&◌, ◌||◌}
 use Rattle.tcap_record.specs.declared.entry.End.{End as Side}
 use Rattle.tcap_record.specs.declared.entry.Entry.{Entry}
-use Rattle.tcap_record.specs.Ends.{other}
-use Rattle.tcap_search.specs.SegmentEntries.{are_of_one_end, is_end, is_of_peer}
+use Rattle.tcap_record.specs.Ends.{other, is_entry_of}
+use Rattle.tcap_search.specs.SegmentEntries.{are_of_one_end, is_of_peer}
 use Rattle.std.specs.Ordering.{is_eq, nat_cmp, int_cmp, ordering_reverse, ordering_then}
 use Rattle.std.specs.Str.{bytes_eq}
 use Rattle.std.specs.Cmp.Lexicographic.{slice_cmp}
@@ -42,14 +42,14 @@ or_false false = refl
 -- ---- whether two entries are from one end, or from both
 
 -- from one end
-pub one_end : (e f : Entry) (side : Side) → e.side ≡ Some side → are_of_one_end e f ≡ is_end side f.side
+pub one_end : (e f : Entry) (side : Side) → e.side ≡ Some side → are_of_one_end e f ≡ is_entry_of side f.side
 one_end e f side is = rw is refl
 
 pub one_end_none : (e f : Entry) → e.side ≡ None → are_of_one_end e f ≡ false
 one_end_none e f is = rw is refl
 
 -- from both ends
-pub of_peer : (e f : Entry) (side : Side) → e.side ≡ Some side → is_of_peer e f ≡ is_end (other side) f.side
+pub of_peer : (e f : Entry) (side : Side) → e.side ≡ Some side → is_of_peer e f ≡ is_entry_of (other side) f.side
 of_peer e f side is = rw is refl
 
 pub of_peer_none : (e f : Entry) → e.side ≡ None → is_of_peer e f ≡ false

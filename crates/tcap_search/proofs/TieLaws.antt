@@ -13,19 +13,19 @@ use Rattle.tcap_record.specs.declared.entry.End.{End as Side}
 use Rattle.tcap_record.specs.declared.entry.End.TheVariants as sides
 use Rattle.tcap_record.specs.declared.entry.Entry.{Entry}
 use Rattle.tcap_end.specs.End.{is_id}
-use Rattle.tcap_record.specs.Ends.{other}
+use Rattle.tcap_record.specs.Ends.{other, is_entry_of}
 use Rattle.tcap_model.specs.World.{is_side}
 use Rattle.tcap_search.specs.declared.candidates.Candidates.{Candidates}
 use Rattle.tcap_search.specs.declared.tie.Tie.{Tie}
 use Rattle.tcap_search.specs.Candidates.{AreUntied, answered_by, answered_of, asks, asks_by, candidates_at, is_candidate, newest_of, top, under_top, untied, without}
-use Rattle.tcap_search.specs.SegmentEntries.{Line, is_end, is_from, line_behind, lines_of, message_of}
+use Rattle.tcap_search.specs.SegmentEntries.{Line, is_from, line_behind, lines_of, message_of}
 use Rattle.tcap_search.specs.ProposedCertificate.{answered_line, is_answered_by, is_tied, ties_from, ties_of, with_tie, with_tie_by}
 use Rattle.tcap_search.proofs.LineLaws.{count_taken, last_none, lines_more, reverse_push}
 use Rattle.tcap_search.proofs.UntiedLaws.{AreBelow, Falls, are_below, falls_of, first_holds, first_passes, is_left, last_reversed, left, left_others, left_popped, top_of}
 
 -- ---- keys distinguish candidates
 
-one_side : (a b : Side) (sender : Option Side) → is_end a sender ≡ true → is_end b sender ≡ true → a ≡ b
+one_side : (a b : Side) (sender : Option Side) → is_entry_of a sender ≡ true → is_entry_of b sender ≡ true → a ≡ b
 one_side a b None is is_too = cc
 one_side sides.A sides.A (Some s) is is_too = refl
 one_side sides.B sides.B (Some s) is is_too = refl
@@ -60,10 +60,10 @@ one_cause a b (Some (Abort dtid reason)) is is_too = cc
 one_key : (side asked : Side) (id dtid : List ℕ) (cause given : ℕ) (e : Entry) → is_candidate side id cause e ≡ true
     → is_candidate asked dtid given e ≡ true → (side ≡ asked) × (id ≡ dtid) × (cause ≡ given)
 one_key side asked id dtid cause given e is is_too =
-    let first = and_parts (is_end side e.side && is_from id e) (is_answered_by cause (message_of e)) is in
-    let second = and_parts (is_end asked e.side && is_from dtid e) (is_answered_by given (message_of e)) is_too in
-    let sent = and_parts (is_end side e.side) (is_from id e) first.0 in
-    let sent_too = and_parts (is_end asked e.side) (is_from dtid e) second.0 in (
+    let first = and_parts (is_entry_of side e.side && is_from id e) (is_answered_by cause (message_of e)) is in
+    let second = and_parts (is_entry_of asked e.side && is_from dtid e) (is_answered_by given (message_of e)) is_too in
+    let sent = and_parts (is_entry_of side e.side) (is_from id e) first.0 in
+    let sent_too = and_parts (is_entry_of asked e.side) (is_from dtid e) second.0 in (
       one_side side asked e.side sent.0 sent_too.0,
       one_from id dtid e sent.1 sent_too.1,
       one_cause cause given (message_of e) first.1 second.1,

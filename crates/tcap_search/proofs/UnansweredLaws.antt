@@ -14,11 +14,11 @@ use Rattle.tcap_record.specs.declared.entry.End.{End as Side}
 use Rattle.tcap_record.specs.declared.entry.Entry.{Entry}
 use Rattle.tcap_end.specs.End.{is_id}
 use Rattle.tcap_end.specs.Table.{octets_cmp}
-use Rattle.tcap_record.specs.Ends.{other}
+use Rattle.tcap_record.specs.Ends.{other, is_entry_of}
 use Rattle.tcap_certificate.specs.declared.certificate.Fate.{Fate}
 use Rattle.tcap_certificate.specs.declared.certificate.Fate.TheVariants.{Gap, Lost}
 use Rattle.tcap_search.specs.declared.unanswered.Spoken.{Spoken}
-use Rattle.tcap_search.specs.SegmentEntries.{Line, is_end, lines_of, message_of}
+use Rattle.tcap_search.specs.SegmentEntries.{Line, lines_of, message_of}
 use Rattle.tcap_search.specs.ProposedCertificate.{Fated, fate_unanswered, fated, goes_on_from, is_gap, is_unanswered, speaks_to, without_unanswered}
 use Rattle.tcap_search.specs.UnansweredIds.{IsSpoken, fate_heard, unanswered_by}
 use Rattle.tcap_search.proofs.FateSteps.{entry_here, fate_here}
@@ -92,7 +92,7 @@ module _ (side : Side) (entries : List Entry) (s : Spoken) (is : IsSpoken side e
   -- The fate found is that of the line.
   heard_is : (x : Fated) → fate_heard s side x.line.entry x.fate ≡ fate_unanswered side (lines_of entries) x
   heard_is x =
-      ap (λ (b : Bool). cond (is_gap x.fate && is_end (other side) x.line.entry.side && b) Lost x.fate)
+      ap (λ (b : Bool). cond (is_gap x.fate && is_entry_of (other side) x.line.entry.side && b) Lost x.fate)
       (unanswered_is (message_of x.line.entry))
 
   module _ (fates : List Fate) (counted : length fates ≡ length entries) where

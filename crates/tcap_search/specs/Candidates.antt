@@ -11,11 +11,11 @@ use Rattle.tcap_record.specs.declared.entry.End.{End as Side}
 use Rattle.tcap_record.specs.declared.entry.End.TheVariants as sides
 use Rattle.tcap_record.specs.declared.entry.Entry.{Entry}
 use Rattle.tcap_end.specs.Table.{octets_cmp}
-use Rattle.tcap_record.specs.Ends.{other}
+use Rattle.tcap_record.specs.Ends.{other, is_entry_of}
 use Rattle.tcap_search.specs.declared.stacks.Stacks.{Stacks}
 use Rattle.tcap_search.specs.declared.candidates.Candidates.{Candidates}
 use Rattle.tcap_search.specs.declared.tie.Tie.{Tie}
-use Rattle.tcap_search.specs.SegmentEntries.{Line, is_end, is_from, message_of}
+use Rattle.tcap_search.specs.SegmentEntries.{Line, is_from, message_of}
 use Rattle.tcap_search.specs.ProposedCertificate.{is_answered_by, is_tied}
 
 -- ---- stacks
@@ -62,12 +62,12 @@ candidates_at side id cause c =
 
 -- whether an entry is from this end and ID, and answered with this cause
 abbrev pub is_candidate : Side → List ℕ → ℕ → Entry → Bool
-is_candidate side id cause e = is_end side e.side && is_from id e && is_answered_by cause (message_of e)
+is_candidate side id cause e = is_entry_of side e.side && is_from id e && is_answered_by cause (message_of e)
 
 -- whether an entry is an Abort with this cause to this end and ID
 abbrev pub asks_by : Side → List ℕ → ℕ → Option Side → Option Message → Bool
 asks_by side id cause sender (Some (Abort dtid (Some (Cause given)))) =
-    is_end (other side) sender && bytes_eq id dtid && (cause == given)
+    is_entry_of (other side) sender && bytes_eq id dtid && (cause == given)
 asks_by side id cause sender _ = false
 
 -- whether an entry is an Abort with this cause to this end and ID

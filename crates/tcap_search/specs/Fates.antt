@@ -5,13 +5,13 @@ use Rattle.tcap_msg.specs.declared.message.Message.{Message}
 use Rattle.tcap_msg.specs.declared.message.Message.TheVariants.{End as EndMessage, Abort}
 use Rattle.tcap_record.specs.declared.entry.End.{End as Side}
 use Rattle.tcap_record.specs.declared.entry.Entry.{Entry}
-use Rattle.tcap_record.specs.Ends.{other}
+use Rattle.tcap_record.specs.Ends.{other, is_entry_of}
 use Rattle.tcap_certificate.specs.declared.certificate.Fate.{Fate}
 use Rattle.tcap_certificate.specs.declared.certificate.Fate.TheVariants.{Gap, Lost, By}
 use Rattle.tcap_certificate.specs.Replay.{is_later, time_of}
 use Rattle.tcap_search.specs.declared.end_values.PerEnd.{PerEnd}
 use Rattle.tcap_search.specs.declared.tie.Tie.{Tie}
-use Rattle.tcap_search.specs.SegmentEntries.{Line, is_end, last, message_of}
+use Rattle.tcap_search.specs.SegmentEntries.{Line, last, message_of}
 use Rattle.tcap_search.specs.ProposedCertificate.{Fated, gap_behind_reply, holds_back, is_gap, reply_of}
 use Rattle.tcap_search.specs.EndValues.{at_end}
 
@@ -20,7 +20,7 @@ use Rattle.tcap_search.specs.EndValues.{at_end}
 -- whether an entry is from this end and in this transaction
 abbrev pub is_of : Side → ℕ → Entry → Option ℕ → Bool
 is_of side transaction e None = false
-is_of side transaction e (Some t) = is_end side e.side && (transaction == t)
+is_of side transaction e (Some t) = is_entry_of side e.side && (transaction == t)
 
 -- whether a line is from this end and in this transaction
 abbrev pub is_line_of : Side → ℕ → Line → Bool
@@ -64,7 +64,7 @@ gap_raised raised (Some side) = at_end side raised
 abbrev pub highest : Side → List Line → List Tie → ℕ
 highest side [] ties = 0
 highest side (x ∷ lines) ties =
-    max (cond (is_end side x.entry.side) (gap_behind_reply (reply_of ties x.number)) 0) (highest side lines ties)
+    max (cond (is_entry_of side x.entry.side) (gap_behind_reply (reply_of ties x.number)) 0) (highest side lines ties)
 
 -- ---- first fates
 
@@ -97,7 +97,7 @@ sooner (Some time) (Some other) = Some (min time other)
 abbrev pub least_time : Side → List Fated → Option ℕ
 least_time side [] = None
 least_time side (x ∷ later) =
-    cond (is_end side x.line.entry.side) (sooner (time_of x.fate) (least_time side later)) (least_time side later)
+    cond (is_entry_of side x.line.entry.side) (sooner (time_of x.fate) (least_time side later)) (least_time side later)
 
 -- the least time kept for an end, if there is one
 abbrev pub time_kept : PerEnd (Option ℕ) → Option Side → Option ℕ

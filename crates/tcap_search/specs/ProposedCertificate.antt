@@ -20,7 +20,7 @@ use Rattle.tcap_record.specs.declared.entry.Body.TheVariants.{Quiet}
 use Rattle.tcap_record.specs.declared.entry.End.{End as Side}
 use Rattle.tcap_record.specs.declared.entry.Entry.{Entry}
 use Rattle.tcap_end.specs.End.{is_id}
-use Rattle.tcap_record.specs.Ends.{other}
+use Rattle.tcap_record.specs.Ends.{other, is_entry_of}
 use Rattle.tcap_model.specs.World.{is_side}
 use Rattle.tcap_model.specs.Run.{then_so, where_so}
 use Rattle.tcap_certificate.specs.Certificate.{Certificate}
@@ -30,7 +30,7 @@ use Rattle.tcap_certificate.specs.declared.certificate.Fate.{Fate}
 use Rattle.tcap_certificate.specs.declared.certificate.Fate.TheVariants.{Gap, Lost, By}
 use Rattle.tcap_certificate.specs.Replay.{is_later, time_of}
 use Rattle.tcap_search.specs.declared.tie.Tie.{Tie}
-use Rattle.tcap_search.specs.SegmentEntries.{Line, are_of_one_end, is_asked_from, is_end, is_from, is_of_peer, last, lines_of, message_of, share_transaction}
+use Rattle.tcap_search.specs.SegmentEntries.{Line, are_of_one_end, is_asked_from, is_from, is_of_peer, last, lines_of, message_of, share_transaction}
 
 -- ---- 1. Ties: the messages that providers' Aborts answer (Q.774 3.3)
 
@@ -174,11 +174,11 @@ is_to id e = by (message_of e)
 
 -- whether the entry is a message of this end to this ID
 abbrev pub speaks_to : Side → List ℕ → Entry → Bool
-speaks_to side id e = is_end side e.side && is_to id e
+speaks_to side id e = is_entry_of side e.side && is_to id e
 
 -- whether the entry is a Continue of this end from this ID
 abbrev pub goes_on_from : Side → List ℕ → Entry → Bool
-goes_on_from side id e = is_end side e.side && is_continue (message_of e) && is_from id e
+goes_on_from side id e = is_entry_of side e.side && is_continue (message_of e) && is_from id e
 
 -- Whether this end sent nothing to the message's originating ID and, if the message is a Continue, no Continue from its
 -- destination ID. Then this end did not close a half of this dialogue, so a half that received the message might still
@@ -193,7 +193,7 @@ is_unanswered side lines _ = false
 -- Such a message of the peer is lost, unless an Abort takes it.
 abbrev pub fate_unanswered : Side → List Line → Fated → Fate
 fate_unanswered side lines x =
-    cond (is_gap x.fate && is_end (other side) x.line.entry.side && is_unanswered side lines (message_of x.line.entry))
+    cond (is_gap x.fate && is_entry_of (other side) x.line.entry.side && is_unanswered side lines (message_of x.line.entry))
     Lost x.fate
 
 -- This rule applies if one end is judged alone and a mark follows the segment.

@@ -10,8 +10,7 @@ use Rattle.tcap_record.specs.declared.entry.Body.TheVariants.{Good}
 use Rattle.tcap_record.specs.declared.entry.End.{End as Side}
 use Rattle.tcap_record.specs.declared.entry.Entry.{Entry}
 use Rattle.tcap_end.specs.End.{is_id}
-use Rattle.tcap_record.specs.Ends.{other}
-use Rattle.tcap_model.specs.World.{is_side}
+use Rattle.tcap_record.specs.Ends.{is_entry_of, other}
 use Rattle.tcap_model.specs.Run.{then_so, where_so}
 
 -- the last element that passes a test
@@ -21,18 +20,13 @@ last passes (a ∷ more) = option_or (last passes more) (where_so (passes a) (So
 
 -- ---- entries
 
--- whether the sender, if there is one, is this end
-abbrev pub is_end : Side → Option Side → Bool
-is_end side None = false
-is_end side (Some sender) = is_side side sender
-
 -- whether both entries are from one end
 abbrev pub are_of_one_end : Entry → Entry → Bool
 are_of_one_end e f = by e.side
   where
     by : Option Side → Bool
     by None = false
-    by (Some side) = is_end side f.side
+    by (Some side) = is_entry_of side f.side
 
 -- whether the second entry is from the peer of the first one's sender
 abbrev pub is_of_peer : Entry → Entry → Bool
@@ -40,7 +34,7 @@ is_of_peer e f = by e.side
   where
     by : Option Side → Bool
     by None = false
-    by (Some side) = is_end (other side) f.side
+    by (Some side) = is_entry_of (other side) f.side
 
 -- the message of an entry, if it is one
 abbrev pub message_in : Body → Option Message

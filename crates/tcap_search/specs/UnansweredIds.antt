@@ -8,11 +8,11 @@ use Rattle.tcap_msg.specs.Parts.{otid_in}
 use Rattle.tcap_record.specs.declared.entry.End.{End as Side}
 use Rattle.tcap_record.specs.declared.entry.Entry.{Entry}
 use Rattle.tcap_end.specs.Table.{octets_cmp}
-use Rattle.tcap_record.specs.Ends.{other}
+use Rattle.tcap_record.specs.Ends.{other, is_entry_of}
 use Rattle.tcap_certificate.specs.declared.certificate.Fate.{Fate}
 use Rattle.tcap_certificate.specs.declared.certificate.Fate.TheVariants.{Lost}
 use Rattle.tcap_search.specs.declared.unanswered.Spoken.{Spoken}
-use Rattle.tcap_search.specs.SegmentEntries.{is_end, message_of}
+use Rattle.tcap_search.specs.SegmentEntries.{message_of}
 use Rattle.tcap_search.specs.ProposedCertificate.{goes_on_from, is_gap, speaks_to}
 
 -- the originating ID of a Continue
@@ -35,4 +35,4 @@ unanswered_by s _ = false
 -- the fate of an entry, by these sets of the judged end
 abbrev pub fate_heard : Spoken → Side → Entry → Fate → Fate
 fate_heard s side e fate =
-    cond (is_gap fate && is_end (other side) e.side && unanswered_by s (message_of e)) Lost fate
+    cond (is_gap fate && is_entry_of (other side) e.side && unanswered_by s (message_of e)) Lost fate

@@ -3,7 +3,8 @@
 ghost use Rattle.std.specs.Prelude.{◌≡◌, ◌≤◌, ◌<◌, ◌+◌, ◌^◌, ◌==◌, ◌&&◌, ℕ, max, cond, length, map, slice_get, Some, None, IfOk};
 ghost use Rattle.tcap_record.specs.declared.entry.End.{End as Side};
 ghost use Rattle.tcap_certificate.specs.Replay.{time_of};
-ghost use Rattle.tcap_search.specs.SegmentEntries.{is_end, lines_of, message_of};
+ghost use Rattle.tcap_search.specs.SegmentEntries.{lines_of, message_of};
+ghost use Rattle.tcap_record.specs.Ends.{is_entry_of};
 ghost use Rattle.tcap_search.specs.ProposedCertificate.{fated, first_fates, gap_behind_reply, holds_back, is_provider_abort, reply_of, with_losses};
 ghost use Rattle.tcap_search.specs.SegmentLists.{AreFates, AreTies, AreTransactions};
 ghost use Rattle.tcap_search.specs.EndValues.{at_end};
@@ -144,7 +145,7 @@ fn gap_raised(raised: &PerEnd<u32>, side: Option<End>) -> u32
 fn raise(raised: &mut PerEnd<u32>, side: Option<End>, reply: Option<u32>)
     requires { gap_behind_reply reply < 2 ^ 32 }
     ensures { (s : Side) → at_end s raised.new
-        ≡ cond (is_end s side) (max (at_end s raised.old) (gap_behind_reply reply)) (at_end s raised.old) }
+        ≡ cond (is_entry_of s side) (max (at_end s raised.old) (gap_behind_reply reply)) (at_end s raised.old) }
 {
     if let (Some(side), Some(reply)) = (side, reply) {
         let gap = raised.get(side).max(reply + 1);
@@ -218,7 +219,7 @@ fn time_kept(least: &PerEnd<Option<u64>>, side: Option<End>) -> Option<u64>
 /// Notes the time of an entry of an end.
 fn note_time(least: &mut PerEnd<Option<u64>>, side: Option<End>, fate: Fate)
     ensures { (s : Side) → at_end s least.new
-        ≡ cond (is_end s side) (sooner (time_of fate) (at_end s least.old)) (at_end s least.old) }
+        ≡ cond (is_entry_of s side) (sooner (time_of fate) (at_end s least.old)) (at_end s least.old) }
 {
     if let (Some(side), Some(time)) = (side, time_of(fate)) {
         let sooner = match least.get(side) {

@@ -4,7 +4,7 @@ ghost use Rattle.std.specs.Prelude.{◌≡◌, ◌<◌, ◌&&◌, ◌==◌, ℕ,
 ghost use Rattle.tcap_record.specs.declared.entry.End.{End as Side};
 ghost use Rattle.tcap_model.specs.Run.{then_so};
 ghost use Rattle.tcap_search.specs.LeastNumbers.{HasRoom, is_below, is_transaction, is_within, least_at, lesser};
-ghost use Rattle.tcap_search.specs.SegmentEntries.{is_end};
+ghost use Rattle.tcap_record.specs.Ends.{is_entry_of};
 
 use std::alloc::{AllocError, Global};
 use tcap_record::End;
@@ -89,7 +89,7 @@ impl Leasts {
     pub(crate) fn note(&mut self, side: Option<End>, transaction: Option<u32>, number: u32)
         ensures noted { (count : ℕ) (at : Side) (t : ℕ) → HasRoom count self.old → t < count
             → least_at at t self.new
-            ≡ cond (is_end at side && is_transaction t transaction) (lesser number (least_at at t self.old))
+            ≡ cond (is_entry_of at side && is_transaction t transaction) (lesser number (least_at at t self.old))
             (least_at at t self.old) }
         ensures room { (count : ℕ) → HasRoom count self.old → HasRoom count self.new }
     {

@@ -5,7 +5,8 @@ ghost use Rattle.std.specs.Str.{bytes_eq};
 ghost use Rattle.tcap_record.specs.declared.entry.End.{End as Side};
 ghost use Rattle.tcap_model.specs.World.{is_side};
 ghost use Rattle.tcap_search.specs.LastEntries.{belongs, latest_at};
-ghost use Rattle.tcap_search.specs.SegmentEntries.{is_end, is_from};
+ghost use Rattle.tcap_search.specs.SegmentEntries.{is_from};
+ghost use Rattle.tcap_record.specs.Ends.{is_entry_of};
 ghost use Rattle.tcap_search.specs.SegmentLists.{AreTransactions};
 
 use std::alloc::{AllocError, Global};
@@ -80,7 +81,7 @@ impl Latest {
     /// Notes an entry with its transaction. Fails if memory runs out.
     fn note(&mut self, entry: &Entry, transaction: Option<u32>) -> Result<(), AllocError>
         ensures { OnOk result ((at : Side) (key : List ℕ) → latest_at at key self.new
-            ≡ cond (is_end at entry.now.side && is_from key entry.now) transaction (latest_at at key self.old)) }
+            ≡ cond (is_entry_of at entry.now.side && is_from key entry.now) transaction (latest_at at key self.old)) }
     {
         let (Some(side), Body::Good(message)) = (entry.side, &entry.body) else {
             return Ok(());

@@ -6,7 +6,8 @@ ghost use Rattle.tcap_msg.specs.Meaning.{id_of};
 ghost use Rattle.tcap_record.specs.declared.entry.End.{End as Side};
 ghost use Rattle.tcap_end.specs.End.{is_id};
 ghost use Rattle.tcap_end.specs.Table.{octets_cmp};
-ghost use Rattle.tcap_search.specs.SegmentEntries.{is_end, lines_of, message_of};
+ghost use Rattle.tcap_search.specs.SegmentEntries.{lines_of, message_of};
+ghost use Rattle.tcap_record.specs.Ends.{is_entry_of};
 ghost use Rattle.tcap_search.specs.ProposedCertificate.{fated, goes_on_from, speaks_to, without_unanswered};
 ghost use Rattle.tcap_search.specs.UnansweredIds.{IsSpoken, continued_from, fate_heard, unanswered_by};
 
@@ -48,8 +49,8 @@ fn continued_from(message: &Message) -> Option<TransactionIdView<'_>>
 }
 
 /// Returns whether an entry is from this end.
-fn is_end(side: End, sender: Option<End>) -> bool
-    ensures { result ≡ is_end side sender }
+fn is_entry_of(side: End, sender: Option<End>) -> bool
+    ensures { result ≡ is_entry_of side sender }
 {
     match (side, sender) {
         (End::A, Some(End::A)) | (End::B, Some(End::B)) => true,
@@ -75,7 +76,7 @@ impl Spoken {
         ensures from { OnOk result ((id : List ℕ) → set.contains octets_cmp self.new.from id
             ≡ set.contains octets_cmp self.old.from id || goes_on_from side id entry.now) }
     {
-        if !is_end(side, entry.side) {
+        if !is_entry_of(side, entry.side) {
             return Ok(());
         }
         let Body::Good(message) = &entry.body else {
@@ -114,7 +115,7 @@ impl Spoken {
         ensures { result ≡ fate_heard self.now side entry.now fate }
     {
         match fate {
-            Fate::Gap(_) if is_end(side.other(), entry.side) && self.is_unanswered(entry) => {
+            Fate::Gap(_) if is_entry_of(side.other(), entry.side) && self.is_unanswered(entry) => {
                 Fate::Lost
             }
             _ => fate,

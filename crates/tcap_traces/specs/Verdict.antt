@@ -11,7 +11,7 @@ use Rattle.tcap_msg.specs.Parts.{components_in, dtid_in, otid_in}
 use Rattle.tcap_record.specs.declared.entry.End.{End as Side}
 use Rattle.tcap_record.specs.declared.entry.End.TheVariants as sides
 use Rattle.tcap_record.specs.declared.entry.Entry.{Entry}
-use Rattle.tcap_record.specs.Ends.{other}
+use Rattle.tcap_record.specs.Ends.{other, is_entry_of}
 use Rattle.tcap_end.specs.End.{is_id}
 use Rattle.tcap_end.specs.Table.{Table, operation_of}
 use Rattle.tcap_model.specs.declared.reason.Reason.{Reason}
@@ -23,7 +23,6 @@ use Rattle.tcap_refute.specs.declared.kind.Refutation.{Refutation}
 use Rattle.tcap_refute.specs.EarlierMessages.{is_a}
 use Rattle.tcap_refute.specs.Kind.{is_unknown_operation}
 use Rattle.tcap_faults.specs.Counts.{invokes_so}
-use Rattle.tcap_faults.specs.Fault.{is_entry_of}
 use Rattle.tcap_faults.specs.FaultSubject.{subject_of}
 use Rattle.tcap_evidence.specs.Evidence.{component_at}
 use Rattle.tcap_judge.specs.declared.findings.Finding.{Finding}

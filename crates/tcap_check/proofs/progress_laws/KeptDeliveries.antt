@@ -19,9 +19,9 @@ use Rattle.tcap_check.specs.declared.outline.Outline.{Outline}
 use Rattle.tcap_check.specs.declared.progress.Progress.{Progress}
 use Rattle.tcap_check.specs.declared.progress.Waiting.{Waiting}
 use Rattle.tcap_certificate.specs.Certificate.{Certificate}
-use Rattle.tcap_certificate.specs.Replay.{Replay, deliveries_by, delivery_by, fault_at, is_due, lost_from_front, lost_front, next_entry, received, refused, with_step}
+use Rattle.tcap_certificate.specs.Replay.{Replay, deliveries_by, delivery_by, fault_at, is_due, lost_from_front, lost_front, next_entry, received, refused, with_step, due_in}
 use Rattle.tcap_check.specs.EntryOutlines.{outlines_from}
-use Rattle.tcap_check.specs.Progress.{discard_told, due_in, lost_counted, map_ok, moved, seat_at, with_seat_end, with_waiting}
+use Rattle.tcap_check.specs.Progress.{discard_told, lost_counted, map_ok, moved, seat_at, with_seat_end, with_waiting}
 use Rattle.tcap_check.specs.ReplaySteps.{deliveries_kept, delivery_kept, first_received, is_heard, received_or_not}
 use Rattle.tcap_check.specs.CheckerMeaning.{fate_of, kept_by, progress_of, waiting_at}
 use Rattle.tcap_check.proofs.replay_laws.ReplaySteps.{head_stays, same_end, channel_with}

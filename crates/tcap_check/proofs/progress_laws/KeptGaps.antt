@@ -30,9 +30,9 @@ use Rattle.tcap_model.specs.declared.reason.Reason.TheVariants.{FateRange, Hidde
 use Rattle.tcap_check.specs.declared.outline.Outline.TheVariants as outlines
 use Rattle.tcap_model.specs.SinceMark.{originating}
 use Rattle.tcap_certificate.specs.DescribedRun.{closing_by, closing_event, expiry_by, expiry_event, invoke_id, named_entry}
-use Rattle.tcap_certificate.specs.Replay.{Replay, fault_at, happens, with_step, is_judged, deliveries_by, gap_by, next_entry}
+use Rattle.tcap_certificate.specs.Replay.{Replay, fault_at, happens, with_step, is_judged, deliveries_by, gap_by, next_entry, due_in}
 use Rattle.tcap_check.specs.EntryOutlines.{begins, half_closed, half_closed_by, invocation_ended, invocation_ended_by, is_named, outline_named, outline_of, outlines_from, since_from}
-use Rattle.tcap_check.specs.Progress.{end_moved, half_closes, invocation_ends, all_kept, listed_kept, due_in}
+use Rattle.tcap_check.specs.Progress.{end_moved, half_closes, invocation_ends, all_kept, listed_kept}
 use Rattle.tcap_check.specs.CheckerMeaning.{map_ok, progress_of}
 use Rattle.tcap_certificate.specs.LossCounts.{is_lost_from}
 use Rattle.tcap_check.proofs.progress_laws.KeptBasics.{end_kept, end_step_is, then_is}

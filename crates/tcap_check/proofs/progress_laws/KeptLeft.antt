@@ -5,8 +5,8 @@ use Rattle.tcap_certificate.specs.declared.fault.CheckFault.{CheckFault}
 use Rattle.tcap_check.specs.declared.progress.Progress.{Progress}
 use Rattle.tcap_end.specs.Table.{Table}
 use Rattle.tcap_check.specs.declared.outline.Outline.{Outline}
-use Rattle.tcap_certificate.specs.Replay.{is_judged, Replay, closed_at_mark, fault_at, gap_by, is_gap, is_heard, is_nothing, is_overtaking, lost_from_front, lost_last, next_entry, received, stepped, tied}
-use Rattle.tcap_check.specs.Progress.{HasNoMore, due_in, end_moved, front_lost, last_lost, overtakes, seat_at, all_kept, listed_kept}
+use Rattle.tcap_certificate.specs.Replay.{is_judged, Replay, closed_at_mark, fault_at, gap_by, is_gap, is_heard, is_nothing, is_overtaking, lost_from_front, lost_last, next_entry, received, stepped, tied, due_in}
+use Rattle.tcap_check.specs.Progress.{HasNoMore, end_moved, front_lost, last_lost, overtakes, seat_at, all_kept, listed_kept}
 use Rattle.tcap_check.specs.ReplaySteps.{deliveries_kept, delivery_kept, halves_shut}
 use Rattle.tcap_check.specs.PartialReplay.{behind_or, deliveries_so_far, fated_so_far, gap_so_far, halves_so_far, item_so_far, mark_so_far, message_so_far, next_so_far, quiet_so_far, sending_so_far, listed_so_far}
 use Rattle.tcap_check.specs.declared.listed_steps.Listed.{Listed}

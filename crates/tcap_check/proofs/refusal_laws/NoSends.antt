@@ -21,8 +21,8 @@ use Rattle.tcap_certificate.specs.Certificate.{Certificate}
 use Rattle.tcap_check.specs.CheckerMeaning.{taken}
 use Rattle.tcap_check.specs.ReplaySteps.{closed_or_not, deliveries_kept, delivery_kept, first_heard, gap_kept, halves_closed, halves_quieted, heard_from, mark_taken, message_heard, message_received, received_or_not}
 use Rattle.tcap_check.specs.EntryOutlines.{half_closed, invocation_ended}
-use Rattle.tcap_check.specs.Progress.{both_quiet, due_in, end_moved, first_answered, front_lost, is_empty, last_lost, map_ok, may_be_answered, quiet_kept, seat_at, sent_by, with_told, with_waiting, all_kept, listed_kept}
-use Rattle.tcap_certificate.specs.Replay.{fault_at, is_nothing}
+use Rattle.tcap_check.specs.Progress.{both_quiet, end_moved, first_answered, front_lost, is_empty, last_lost, map_ok, may_be_answered, quiet_kept, seat_at, sent_by, with_told, with_waiting, all_kept, listed_kept}
+use Rattle.tcap_certificate.specs.Replay.{fault_at, is_nothing, due_in}
 use Rattle.tcap_check.specs.RunSoFar.{refusal_to_send}
 use Rattle.tcap_check.proofs.refusal_laws.ReasonGaps.{needs_err, then_err}
 use Rattle.tcap_check.specs.declared.listed_steps.Listed.{Listed}

@@ -25,7 +25,7 @@ use Rattle.tcap_model.specs.World.{Item}
 use Rattle.tcap_model.specs.Run.{then_so}
 use Rattle.tcap_refute.specs.EarlierMessages.{asked, ends_to, has_a, is_a, message_of, sent_by}
 use Rattle.tcap_refute.specs.KeptFacts.{holds}
-use Rattle.tcap_refute.proofs.BeforeLaws.{is_that_id}
+use Rattle.tcap_end.proofs.FoundLaws.{is_that_id}
 use Rattle.tcap_refute.proofs.Members.{any_has, filter_has, has_first, has_not}
 use Rattle.tcap_refute.proofs.TestLaws.{and_false}
 use Rattle.tcap_faults.specs.ClosedHalves.{all_go_to_open, is_surely_open}

@@ -17,7 +17,7 @@ use Rattle.tcap_model.proofs.TurnLaws.{id_is}
 use Rattle.tcap_refute.specs.EarlierMessages.{asked, has_a, is_a, sent_by}
 use Rattle.tcap_faults.specs.SentToId.{began, begin_from, goes_on_to}
 use Rattle.tcap_faults.specs.Counts.{is_nothing}
-use Rattle.tcap_refute.proofs.BeforeLaws.{is_that_id}
+use Rattle.tcap_end.proofs.FoundLaws.{is_that_id}
 use Rattle.tcap_faults.proofs.list_laws.FindLaws.{filter_is, find_has, find_none}
 use Rattle.tcap_refute.proofs.Members.{filter_has, has_first, has_not}
 use Rattle.tcap_faults.specs.declared.transaction.sent_from_id.Came.{Came}

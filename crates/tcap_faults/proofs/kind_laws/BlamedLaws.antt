@@ -28,7 +28,8 @@ use Rattle.tcap_refute.specs.Kind.{kind_of_reason, refutation_at}
 use Rattle.tcap_refute.specs.FirstKinds.{first_kinds}
 use Rattle.tcap_refute.proofs.RefutedLaws.{bad_reason, found_so, oks}
 use Rattle.tcap_faults.specs.BlameMeaning.{HasNoMessage, IsAtFaultOf, IsBadEntryOf}
-use Rattle.tcap_faults.specs.Fault.{bad_entry_of, blamed, blamed_behind, fault_since, further_kinds, is_entry_of, is_fault, is_open_at_mark}
+use Rattle.tcap_faults.specs.Fault.{bad_entry_of, blamed, blamed_behind, fault_since, further_kinds, is_fault, is_open_at_mark}
+use Rattle.tcap_record.specs.Ends.{is_entry_of}
 use Rattle.tcap_faults.specs.UsedAgain.{has_used_again}
 use Rattle.tcap_faults.proofs.kind_laws.QuietMarkLaws.{no_open_mark}
 use Rattle.tcap_faults.proofs.kind_laws.FaultLaws.{none_at_fault}

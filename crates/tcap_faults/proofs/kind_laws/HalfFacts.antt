@@ -20,7 +20,7 @@ use Rattle.tcap_model.specs.World.{Item}
 use Rattle.tcap_model.proofs.TurnLaws.{id_is}
 use Rattle.tcap_refute.specs.EarlierMessages.{asked, has_a, is_a, sent_by}
 use Rattle.tcap_refute.proofs.Members.{any_has, has_not}
-use Rattle.tcap_refute.proofs.TransactionKinds.{one_half}
+use Rattle.tcap_model.proofs.UsedLaws.{one_half}
 use Rattle.tcap_faults.specs.Counts.{count, is_nothing}
 use Rattle.tcap_faults.specs.HalfByPeerId.{continued_to, heard_of}
 use Rattle.tcap_faults.specs.SentToId.{began, begin_from, is_abort_with, told, was_refused}

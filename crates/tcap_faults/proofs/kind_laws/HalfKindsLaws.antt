@@ -14,8 +14,8 @@ use Rattle.tcap_end.specs.ReachableEnd.{IsEnd}
 use Rattle.tcap_model.specs.World.{Item}
 use Rattle.tcap_model.proofs.TurnLaws.{id_is}
 use Rattle.tcap_refute.specs.EarlierMessages.{sent_by}
-use Rattle.tcap_refute.proofs.BeforeLaws.{is_that_id}
-use Rattle.tcap_refute.proofs.TransactionKinds.{one_half}
+use Rattle.tcap_end.proofs.FoundLaws.{is_that_id}
+use Rattle.tcap_model.proofs.UsedLaws.{one_half}
 use Rattle.tcap_refute.proofs.OverLaws.{IsOver, Speaks}
 use Rattle.tcap_faults.specs.ClosedHalves.{was_closed}
 use Rattle.tcap_faults.specs.SentToId.{began, begin_from, begins_from}

@@ -13,14 +13,13 @@ use Rattle.tcap_end.specs.Half.{is_closed}
 use Rattle.tcap_end.specs.End.{End, KeptHalf, is_id, with_own, with_peer}
 use Rattle.tcap_end.specs.Reply.{is_open}
 use Rattle.tcap_end.specs.ReachableEnd.{Has, IsEnd}
-use Rattle.tcap_end.proofs.FoundLaws.{none_own, none_peer, own_has}
+use Rattle.tcap_end.proofs.FoundLaws.{none_own, none_peer, own_has, is_that_id}
 use Rattle.tcap_record.specs.Ends.{other}
 use Rattle.tcap_model.specs.World.{Item}
 use Rattle.tcap_refute.specs.EarlierMessages.{asked, has_a, is_a, sent_by}
-use Rattle.tcap_refute.proofs.BeforeLaws.{is_that_id}
-use Rattle.tcap_refute.proofs.TransactionKinds.{one_half}
+use Rattle.tcap_model.proofs.UsedLaws.{one_half}
 use Rattle.tcap_refute.proofs.Members.{any_has, filter_has, has_first}
-use Rattle.tcap_refute.proofs.OverLaws.{own_is}
+use Rattle.tcap_model.proofs.SentMoves.{own_is}
 use Rattle.tcap_faults.specs.ClosedHalves.{all_go_to_open, is_surely_open}
 use Rattle.tcap_faults.specs.Counts.{count, is_nothing}
 use Rattle.tcap_faults.specs.SentToId.{is_abort_with, told, was_refused}

@@ -11,7 +11,7 @@ use Rattle.tcap_end.specs.Dialogue.{is_request}
 use Rattle.tcap_model.specs.World.{Item}
 use Rattle.tcap_model.proofs.ListLaws.{contains_first}
 use Rattle.tcap_refute.specs.EarlierMessages.{is_a}
-use Rattle.tcap_refute.specs.Kind.{is_begin_with_request}
+use Rattle.tcap_model.specs.SinceMark.{is_begin_with_request}
 use Rattle.tcap_refute.proofs.Members.{has_first, has_later, has_not}
 use Rattle.tcap_refute.proofs.TestLaws.{or_none}
 use Rattle.tcap_faults.specs.SentToId.{one_passes}

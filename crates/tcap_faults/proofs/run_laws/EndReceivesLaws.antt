@@ -28,7 +28,7 @@ use Rattle.tcap_end.proofs.FoundLaws.{named_has, own_has}
 use Rattle.tcap_end.proofs.StepLaws.{none_is}
 use Rattle.tcap_model.specs.World.{Item}
 use Rattle.tcap_model.proofs.TurnLaws.{id_is}
-use Rattle.tcap_refute.proofs.OverLaws.{own_is}
+use Rattle.tcap_model.proofs.SentMoves.{own_is}
 use Rattle.tcap_faults.specs.SentToId.{told}
 use Rattle.tcap_faults.proofs.run_laws.HalfReceivesLaws.{story_answered, story_goes_on, story_received}
 use Rattle.tcap_faults.proofs.run_laws.HalfGoesOnLaws.{Story, story_ends, story_still}

@@ -23,9 +23,9 @@ use Rattle.tcap_end.proofs.EndLaws.{IsThere, put_has}
 use Rattle.tcap_end.proofs.StepLaws.{none_is}
 use Rattle.tcap_model.specs.World.{Item, Sent}
 use Rattle.tcap_model.proofs.TurnLaws.{id_is, put_there}
-use Rattle.tcap_refute.proofs.BeforeLaws.{is_that_id}
+use Rattle.tcap_end.proofs.FoundLaws.{is_that_id}
 use Rattle.tcap_refute.proofs.OverLaws.{IsOver, over}
-use Rattle.tcap_refute.proofs.TransactionKinds.{one_half}
+use Rattle.tcap_model.proofs.UsedLaws.{one_half}
 use Rattle.tcap_refute.proofs.HalfLawsTurns.{Answers, Said, Turned, answers, closes, learns, stays}
 use Rattle.tcap_faults.specs.SentToId.{begin_from}
 use Rattle.tcap_faults.proofs.run_laws.MayHearLaws.{KeepsBegins}

@@ -21,7 +21,7 @@ use Rattle.tcap_end.specs.HiddenSteps.{may_expire, without_invocation}
 use Rattle.tcap_end.specs.Message.{receive_components, send_components}
 use Rattle.tcap_end.proofs.AnsweringLaws.{then_ok}
 use Rattle.tcap_model.specs.World.{Item}
-use Rattle.tcap_refute.specs.Kind.{is_begin_with_request}
+use Rattle.tcap_model.specs.SinceMark.{is_begin_with_request}
 use Rattle.tcap_faults.specs.Counts.{count}
 use Rattle.tcap_faults.specs.HalfByPeerId.{responds}
 use Rattle.tcap_faults.specs.SentToId.{begin_from, goes_on_to, told}

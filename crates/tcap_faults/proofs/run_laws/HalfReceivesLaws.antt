@@ -22,7 +22,7 @@ use Rattle.tcap_end.specs.ReachableEnd.{IsKept}
 use Rattle.tcap_end.proofs.ComponentLaws.{Receives, all_receives, all_sends}
 use Rattle.tcap_end.proofs.HalfLaws.{Follows}
 use Rattle.tcap_model.specs.World.{Item, Sent}
-use Rattle.tcap_refute.specs.Kind.{is_begin_with_request}
+use Rattle.tcap_model.specs.SinceMark.{is_begin_with_request}
 use Rattle.tcap_faults.specs.Counts.{count}
 use Rattle.tcap_faults.specs.HalfByPeerId.{responds}
 use Rattle.tcap_faults.specs.SentToId.{begin_from, told}

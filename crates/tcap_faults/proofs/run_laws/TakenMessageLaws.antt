@@ -15,8 +15,8 @@ use Rattle.tcap_end.specs.declared.half.Slot.TheVariants.{Begun, Accepted}
 use Rattle.tcap_end.specs.End.{is_id}
 use Rattle.tcap_model.specs.World.{Item}
 use Rattle.tcap_refute.specs.EarlierMessages.{is_a}
-use Rattle.tcap_refute.specs.Kind.{is_begin_with_request}
-use Rattle.tcap_refute.proofs.BeforeLaws.{is_that_id}
+use Rattle.tcap_model.specs.SinceMark.{is_begin_with_request}
+use Rattle.tcap_end.proofs.FoundLaws.{is_that_id}
 use Rattle.tcap_faults.specs.Counts.{count}
 use Rattle.tcap_faults.specs.HalfByPeerId.{from_first, responds}
 use Rattle.tcap_faults.specs.SentToId.{begin_from, goes_on_to}

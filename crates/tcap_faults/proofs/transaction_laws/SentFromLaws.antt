@@ -18,7 +18,7 @@ use Rattle.tcap_end.specs.Table.{Table, octets_cmp}
 use Rattle.tcap_refute.specs.EarlierMessages.{components_of, is_a}
 use Rattle.tcap_refute.specs.Facts.{FromFact, shows_from}
 use Rattle.tcap_refute.specs.KeptFacts.{tells_from}
-use Rattle.tcap_refute.specs.Kind.{is_begin_with_request}
+use Rattle.tcap_model.specs.SinceMark.{is_begin_with_request}
 use Rattle.tcap_refute.specs.declared.sent_from_id.FromId.{FromId}
 use Rattle.tcap_refute.proofs.TestLaws.{or_none}
 use Rattle.tcap_faults.specs.Counts.{count}

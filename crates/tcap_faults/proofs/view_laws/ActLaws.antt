@@ -23,13 +23,13 @@ use Rattle.tcap_end.specs.Message.{active_half, receive, receive_components, rec
 use Rattle.tcap_end.specs.ReachableEnd.{Has, IsEnd}
 use Rattle.tcap_end.proofs.AnsweringLaws.{needs_ok, ok_same, some_ok, then_ok}
 use Rattle.tcap_end.proofs.ComponentLaws.{all_receives, all_sends}
-use Rattle.tcap_end.proofs.FoundLaws.{named_has, none_own, none_peer, own_has}
+use Rattle.tcap_end.proofs.FoundLaws.{named_has, none_own, none_peer, own_has, is_that_id}
 use Rattle.tcap_end.proofs.StepLaws.{none_is}
 use Rattle.tcap_model.proofs.TurnLaws.{put_there}
 use Rattle.tcap_refute.specs.EarlierMessages.{ends_to}
-use Rattle.tcap_refute.proofs.BeforeLaws.{is_that_id}
 use Rattle.tcap_refute.proofs.HalfLawsTurns.{Accepts, Acts, Deed, Heard, Said, Starts, Turned, Unseen, acts_nowhere, answers, closes, learns, stays, new_acts, put_acts}
-use Rattle.tcap_refute.proofs.OverLaws.{IsOver, follows_stays, over, own_is}
+use Rattle.tcap_refute.proofs.OverLaws.{IsOver, follows_stays, over}
+use Rattle.tcap_model.proofs.SentMoves.{own_is}
 
 -- The end acts so if the step was Ok with it.
 acts_this : {table : Table} {deed : Deed} (e x next : End) → Acts table deed e x

@@ -20,7 +20,7 @@ use Rattle.tcap_model.specs.World.{Item}
 use Rattle.tcap_model.specs.SinceMark.{ended_by}
 use Rattle.tcap_model.proofs.TurnLaws.{id_is}
 use Rattle.tcap_refute.specs.EarlierMessages.{ends_to, is_a, sent_by}
-use Rattle.tcap_refute.proofs.BeforeLaws.{is_that_id}
+use Rattle.tcap_end.proofs.FoundLaws.{is_that_id}
 use Rattle.tcap_refute.proofs.Members.{any_has, has_first, has_not}
 use Rattle.tcap_refute.proofs.HalfLawsTurns.{Deed, Heard, IsEnded, Said, Turned, Unseen, answers, closes, learns, stays}
 use Rattle.tcap_faults.specs.ClosedHalves.{is_surely_open}

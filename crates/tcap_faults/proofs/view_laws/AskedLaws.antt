@@ -19,7 +19,7 @@ use Rattle.tcap_end.proofs.EndLaws.{no_half}
 use Rattle.tcap_record.specs.Ends.{other}
 use Rattle.tcap_model.specs.World.{Item, Sent}
 use Rattle.tcap_refute.specs.EarlierMessages.{asked, is_a, sent_by}
-use Rattle.tcap_refute.proofs.BeforeLaws.{is_that_id}
+use Rattle.tcap_end.proofs.FoundLaws.{is_that_id}
 use Rattle.tcap_refute.proofs.TestLaws.{and_false, and_true}
 use Rattle.tcap_refute.proofs.HalfLawsTurns.{Accepts, Acts, Deed, Heard, Said, Starts, Turned, Unseen, answers, closes, learns, stays}
 use Rattle.tcap_faults.specs.SentToId.{is_abort_with}

@@ -23,14 +23,13 @@ use Rattle.tcap_end.specs.Dialogue.{answers_request, confirm, first_standing, is
 use Rattle.tcap_end.specs.End.{End, KeptHalf, is_id, with_own}
 use Rattle.tcap_end.specs.ReachableEnd.{Has, IsEnd}
 use Rattle.tcap_end.proofs.EndLaws.{no_half}
-use Rattle.tcap_end.proofs.FoundLaws.{none_own}
+use Rattle.tcap_end.proofs.FoundLaws.{none_own, is_that_id}
 use Rattle.tcap_end.proofs.StepLaws.{none_is}
 use Rattle.tcap_record.specs.Ends.{other}
 use Rattle.tcap_model.specs.World.{Item}
 use Rattle.tcap_model.proofs.TurnLaws.{id_is}
 use Rattle.tcap_refute.specs.EarlierMessages.{asked, is_a, sent_by}
-use Rattle.tcap_refute.specs.Kind.{is_begin_with_request}
-use Rattle.tcap_refute.proofs.BeforeLaws.{is_that_id}
+use Rattle.tcap_model.specs.SinceMark.{is_begin_with_request}
 use Rattle.tcap_refute.proofs.Members.{filter_has, has_not}
 use Rattle.tcap_refute.proofs.HalfLawsTurns.{Accepts, Deed, Learns, Starts, Turned, answers, closes, learns, stays}
 use Rattle.tcap_faults.specs.HalfByPeerId.{responds}

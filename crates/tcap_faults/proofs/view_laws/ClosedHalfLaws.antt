@@ -16,15 +16,14 @@ use Rattle.tcap_end.specs.Half.{Half, is_closed}
 use Rattle.tcap_end.specs.End.{End, KeptHalf, is_id, with_own}
 use Rattle.tcap_end.specs.Reply.{is_open}
 use Rattle.tcap_end.specs.ReachableEnd.{Has, IsEnd}
-use Rattle.tcap_end.proofs.FoundLaws.{none_own, own_has}
+use Rattle.tcap_end.proofs.FoundLaws.{none_own, own_has, is_that_id}
 use Rattle.tcap_record.specs.Ends.{other}
 use Rattle.tcap_model.specs.World.{Item, Sent}
 use Rattle.tcap_model.proofs.TurnLaws.{id_is}
 use Rattle.tcap_refute.specs.EarlierMessages.{asked, has_a, is_a, sent_by}
 use Rattle.tcap_model.proofs.WorldLaws.{apart, itself}
-use Rattle.tcap_refute.proofs.BeforeLaws.{is_that_id}
 use Rattle.tcap_refute.proofs.Members.{any_has, filter_has}
-use Rattle.tcap_refute.proofs.OverLaws.{own_is}
+use Rattle.tcap_model.proofs.SentMoves.{own_is}
 use Rattle.tcap_refute.proofs.HalfLawsTurns.{Acts, Deed, Turned, Unseen, acts_nowhere, answers, closes, learns, stays}
 use Rattle.tcap_faults.specs.ClosedHalves.{all_go_on_to, shows_closed, was_closed}
 use Rattle.tcap_faults.specs.SentToId.{goes_on_to, has_used}

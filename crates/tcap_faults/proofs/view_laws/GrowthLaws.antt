@@ -13,7 +13,7 @@ use Rattle.tcap_record.specs.Ends.{other}
 use Rattle.tcap_model.specs.World.{Item, Sent, is_side}
 use Rattle.tcap_model.proofs.ListLaws.{contains_first}
 use Rattle.tcap_refute.specs.EarlierMessages.{asked, sent_by}
-use Rattle.tcap_refute.specs.Kind.{is_begin_with_request}
+use Rattle.tcap_model.specs.SinceMark.{is_begin_with_request}
 use Rattle.tcap_refute.proofs.Members.{filter_has, has_later, has_not}
 use Rattle.tcap_faults.specs.HalfByPeerId.{from_first, responds}
 use Rattle.tcap_faults.specs.SentToId.{begin_from, goes_on_to, told}

@@ -1,7 +1,7 @@
 -- The lists so far, and those of the fates that are left, are all lists.
 use Rattle.std.proofs.Common.{◌≡◌, ◌<◌, ◌++◌, ℕ, drop}
 use Rattle.tcap_check.specs.Buckets.{count_lists, list_at}
-use Rattle.tcap_check.specs.Progress.{due_in}
+use Rattle.tcap_certificate.specs.Replay.{due_in}
 use Rattle.tcap_check.proofs.plan.due_by_gap.Given as goal
 
 abbrev pub invariant-loop-number : goal.invariant-loop-number

@@ -1,6 +1,7 @@
 -- the numbers so far, and those of the rest
 use Rattle.std.proofs.Common.{◌≡◌, ◌<◌, ◌++◌, ℕ, drop, length}
-use Rattle.tcap_search.specs.GapDeliveries.{due_at, due_in}
+use Rattle.tcap_search.specs.GapDeliveries.{due_at}
+use Rattle.tcap_certificate.specs.Replay.{due_in}
 use Rattle.tcap_search.proofs.expiries.due_by_gap.Given as goal
 
 abbrev pub invariant-loop-number : goal.invariant-loop-number

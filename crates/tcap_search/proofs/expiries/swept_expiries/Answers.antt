@@ -4,7 +4,8 @@ use Rattle.tcap_record.specs.declared.entry.End.{End as Side}
 use Rattle.tcap_search.specs.SegmentEntries.{Line, lines_of}
 use Rattle.tcap_search.specs.ProposedCertificate.{expiries_from, fated}
 use Rattle.tcap_search.specs.InvocationMap.{kept_at}
-use Rattle.tcap_search.specs.GapDeliveries.{due_at, due_in}
+use Rattle.tcap_search.specs.GapDeliveries.{due_at}
+use Rattle.tcap_certificate.specs.Replay.{due_in}
 use Rattle.tcap_search.specs.Sweep.{answer_kept}
 use Rattle.tcap_search.proofs.ExpiryLaws.{answers_start, answers_stay, answers_step, invokes_step, listed_step}
 use Rattle.tcap_search.proofs.FateSteps.{all_lines}

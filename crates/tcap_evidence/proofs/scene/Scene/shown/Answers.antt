@@ -1,6 +1,6 @@
 use Rattle.tcap_evidence.proofs.Common.{◌&&◌, ap, ap₂, ◌∙◌, IfOk-weaker, otid_in, is_a, entries_where, numbered_of, is_that}
 use Rattle.tcap_msg.specs.declared.kind.Kind.TheVariants as forms
-use Rattle.tcap_refute.specs.Kind.{is_begin_with_request}
+use Rattle.tcap_model.specs.SinceMark.{is_begin_with_request}
 use Rattle.tcap_evidence.proofs.scene.Scene.shown.Goals as goal
 
 pub returns-in-Begun : goal.returns-in-Begun
