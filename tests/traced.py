@@ -167,11 +167,30 @@ def entries_in(text):
     return found
 
 
+def length_fault(digits):
+    """Returns the number and the place of the fault of octets that end within an element of definite length (1), or go on
+    after it (10), or None."""
+    octets = bytes.fromhex(digits)
+    if len(octets) < 2 or octets[1] > 0x7F:
+        return (1, len(octets)) if len(octets) < 2 else None
+    whole = 2 + octets[1]
+    return (1, len(octets)) if len(octets) < whole else (10, whole) if len(octets) > whole else None
+
+
+LENGTH_FAULTS = {1: "cut element", 10: "octets behind the last element"}
+
+
 def show(folder, entries):
-    """Returns the text of `show` for each of these entries, as one record."""
-    octets = b"".join(end.encode() + bytes.fromhex(digits) for end, digits, *_ in entries)
+    """Returns the text of `show` for each of these entries, as one record. It does not read octets that are not one
+    element: of these an entry has the number and the place of the fault."""
+    faults = [length_fault(digits) if end != "Q" else None for end, digits, *_ in entries]
+    octets = b"".join(end.encode() + bytes.fromhex(digits if fault is None else "6300") for (end, digits, *_), fault in zip(entries, faults))
     printed = run(["show", put(folder, "dialogue", octets)]).stdout.decode()
-    return re.findall(r"^\d.*\n(?:^ .*\n)*", printed, re.MULTILINE)
+    shown = re.findall(r"^\d.*\n(?:^ .*\n)*", printed, re.MULTILINE)
+    for number, fault in enumerate(faults):
+        if fault is not None:
+            shown[number] = f"{number} {entries[number][0]} FAULT {fault[0]} {fault[1]}\n"
+    return shown
 
 
 def message_of(number, entry, shown, has_lines):
@@ -212,7 +231,11 @@ def look_at_messages(checks, folder, it, text, has_lines=True):
 
 def look_at_why(checks, folder, end, said, entry):
     """Checks that the text for octets that are no message is that of `show --why`."""
-    octets = entry[0].encode() + bytes.fromhex(entry[1])
+    octets, fault = entry[0].encode() + bytes.fromhex(entry[1]), length_fault(entry[1])
+    if fault is not None:
+        why = [f"  why: {LENGTH_FAULTS[fault[0]]}, at octet {fault[1]} of it"]
+        checks.same("why it is none", said["text"].split("\n"), [f"  entry {said['entry']} of {end}: {WORDS['F1']}", *why, ""])
+        return
     why = [line for line in run(["show", "--why", put(folder, "one", octets)]).stdout.decode().split("\n") if "why: " in line]
     checks.same("why it is none", said["text"].split("\n"), [f"  entry {said['entry']} of {end}: {WORDS['F1']}", *why, ""])
 

@@ -29,8 +29,8 @@ ROWS = [
     Row(
         "a fault of a line: the dialogue that is over is judged, the one that is open is not",
         "",
-        lines(SHORT[0], WRONG_END, f"A {begin('02', INVOKE)}", "A 62"),
-        [Wanted([0, 1], "01", "", "pass", "fail 1 F5")], error=(4, "cut"),
+        lines(SHORT[0], WRONG_END, f"A {begin('02', INVOKE)}", "A 620"),
+        [Wanted([0, 1], "01", "", "pass", "fail 1 F5")], error=(4, "odd"),
     ),
     Row(
         "of those that are open one that fails is told, and no other",
@@ -41,27 +41,45 @@ ROWS = [
     Row(
         "so it is of an invocation that is answered twice",
         "",
-        lines(LONG[0], f"B {go_on('07', '01', RESULT, RESULT)}", "A 62"),
-        [Wanted([0, 1], "01", "07", "pass", "fail 1 F12", open=None)], error=(3, "cut"),
+        lines(LONG[0], f"B {go_on('07', '01', RESULT, RESULT)}", "A 620"),
+        [Wanted([0, 1], "01", "07", "pass", "fail 1 F12", open=None)], error=(3, "odd"),
     ),
     Row(
         "an end that is not asked does not fail",
         "--of A",
-        lines(LONG[0], f"B {go_on('07', '01', RESULT, RESULT)}", "A 62"),
-        [], error=(3, "cut"),
+        lines(LONG[0], f"B {go_on('07', '01', RESULT, RESULT)}", "A 620"),
+        [], error=(3, "odd"),
     ),
     Row(
         "what is over is told, whatever its verdict is, also where it lingers",
         "",
-        lines(*SHORT, SHORT[0], WRONG_END, f"A {begin('02')}", "A 62"),
+        lines(*SHORT, SHORT[0], WRONG_END, f"A {begin('02')}", "A 620"),
         [Wanted([0, 1], "01", ""), Wanted([2, 3], "01", "", "pass", f"inconc 1 F5 {CAME_AGAIN}", again=True)],
-        error=(6, "cut"),
+        error=(6, "odd"),
     ),
     Row(
         "with IDs that come once, too",
         "--ids once",
-        lines(*SHORT, f"A {begin('02', INVOKE)}", f"B {go_on('08', '02', RESULT, RESULT)}", f"A {begin('03')}", "A 62"),
-        [Wanted([0, 1], "01", ""), Wanted([2, 3], "02", "08", "pass", "fail 1 F12", open=None)], error=(6, "cut"),
+        lines(*SHORT, f"A {begin('02', INVOKE)}", f"B {go_on('08', '02', RESULT, RESULT)}", f"A {begin('03')}", "A 620"),
+        [Wanted([0, 1], "01", ""), Wanted([2, 3], "02", "08", "pass", "fail 1 F12", open=None)], error=(6, "odd"),
+    ),
+    Row(
+        "a last line without a line feed, whose message is cut, is such a line",
+        "",
+        lines(SHORT[0], WRONG_END, SHORT[0])[:-3],
+        [Wanted([0, 1], "01", "", "pass", "fail 1 F5")], error=(3, "cut"),
+    ),
+    Row(
+        "with a line feed it is an entry, which is no message",
+        "",
+        lines(SHORT[0], WRONG_END, SHORT[0][:-2]),
+        [Wanted([0, 1], "01", "", "pass", "fail 1 F5"), Wanted([2], "", "", "fail 0 F1", open=None)],
+    ),
+    Row(
+        "octets after a message make it none, also in a last line without a line feed",
+        "",
+        lines(*SHORT, f"A {begin('02')}00")[:-1],
+        [Wanted([0, 1], "01", ""), Wanted([2], "02", "", "fail 0 F1", open=True)],
     ),
     *(
         Row(

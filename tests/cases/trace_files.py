@@ -36,10 +36,10 @@ UNLIKE = re.compile(r"[^ -~]+")
 
 
 def bad_lines():
-    """The lines with a fault of words.py, behind a comment; and those that may be a first line too."""
+    """The lines with a fault of words.py, behind a comment; and those that may be a first line too. A trace may have any
+    count of lines, and an entry of it any octets."""
     for text, number, rule, column in words.LINES:
-        # A trace may have any count of lines.
-        if rule != "too many lines":
+        if not rule.startswith(("too many lines", "no element", "octets behind the element")):
             yield f"# one\n{text}", number + 1, f"{rule}; column {column}"
             if number == 1 and len(text) < 100:
                 yield text, number, f"{rule}; column {column}"
@@ -81,7 +81,7 @@ def hints(_, folder):
 def judged_before(_, folder):
     """What was judged before a line with a fault stands."""
     checks = Checks("a fault in the last line")
-    path = put(folder, "x.hex", lines(SHORT[0], WRONG_END, "Q", *SHORT, "Q", "A 62").encode())
+    path = put(folder, "x.hex", lines(SHORT[0], WRONG_END, "Q", *SHORT, "Q", "A 620").encode())
     report = Report(folder, [], [path])
     agree(checks, report)
     checks.same("dialogues", [it["verdict"] for it in report.dialogues[path]], ["fail", "pass"])

@@ -511,7 +511,7 @@ def sums(_, folder):
         lines(*SHORT),
         lines(*SHORT, "Q", *SHORT),
         lines(SHORT[0], trace_rows.WRONG_END, "Q", *SHORT),
-        lines(SHORT[0], SHORT[0], "Q", "A 62"),
+        lines(SHORT[0], SHORT[0], "Q", "A 620"),
         "",
     ]
     paths = [put(folder, f"x{number}.hex", text.encode()) for number, text in enumerate(texts)]

@@ -1,4 +1,2 @@
 pub mod CountsLaws
-pub mod MarksLaws
-pub mod DirectiveLaws
 pub mod TraceLaws

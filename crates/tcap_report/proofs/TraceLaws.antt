@@ -6,8 +6,6 @@ use Rattle.std.specs.List.{AllByRecursion}
 use Rattle.std.proofs.lemmas.List.{length_push, map-append}
 use Rattle.std.proofs.lemmas.List.Elements.{filter-append}
 use Rattle.std.proofs.lemmas.List.Sums.{sum_by_push}
-use Rattle.tcap_record.specs.declared.entry.End.{End as Side}
-use Rattle.tcap_traces.specs.declared.end_result.Circumstances.{Circumstances}
 use Rattle.tcap_traces.specs.declared.verdict.Verdict.{Verdict}
 use Rattle.tcap_traces.specs.Verdict.{trace_verdict}
 use Rattle.tcap_dialogues.specs.Course.{Heading, courses_of, courses_so_far, is_free}
@@ -16,16 +14,19 @@ use Rattle.tcap_dialogues.specs.CutState.{IsCut}
 use Rattle.tcap_dialogues.specs.declared.complete_dialogue.Gathered.{Gathered}
 use Rattle.tcap_dialogues.proofs.CutLists.{none_in}
 use Rattle.tcap_dialogues.proofs.WholeLaws.{all_gathered, next_gathered}
-use Rattle.tcap_report.specs.declared.case.Behind.{Behind}
-use Rattle.tcap_report.specs.declared.case.Behind.TheVariants as behinds
+use Rattle.tcap_traces.specs.declared.case.Behind.{Behind}
+use Rattle.tcap_traces.specs.declared.case.Case.{Case}
+use Rattle.tcap_traces.specs.Case.{after_of, dialogue_in, gathered_as, question_in}
+use Rattle.tcap_traces.specs.Dialogue.{More, Question}
+use Rattle.tcap_traces.specs.Dialogue.{verdict_on as verdict_by_tables}
+use Rattle.tcap_traces.specs.declared.case.Behind.TheVariants as behinds
 use Rattle.tcap_report.specs.declared.fault.Halt.{Halt}
 use Rattle.tcap_report.specs.declared.fault.Halt.TheVariants as halts
 use Rattle.tcap_report.specs.declared.sum.Sum.{Sum}
 use Rattle.tcap_report.specs.declared.trace.Asked.{Asked}
 use Rattle.tcap_report.specs.declared.trace.Trace.{Trace}
 use Rattle.tcap_report.specs.Counts.{more, with_each, with_one, with_read, with_verdict}
-use Rattle.tcap_report.specs.Dialogue.{Dialogue, IsNoted, IsNotedOf, verdict_on}
-use Rattle.tcap_report.specs.SegmentVerdicts.{Stretch, counts_in, is_fail, messages_in, readable_in, those_judged}
+use Rattle.tcap_report.specs.SegmentVerdicts.{Dialogue, IsNoted, Stretch, counts_in, is_fail, messages_in, question_of, readable_in, those_judged, verdict_on}
 use Rattle.tcap_report.specs.TraceVerdict.{IsJudged}
 use Rattle.tcap_report.proofs.CountsLaws.{each_append}
 use Rattle.tcap_report.specs.Progress.{HasRead, IsBetween, IsStopped, IsWithin, Judges, Reads, UnlessStopped, is_fault, is_told_if}
@@ -64,12 +65,6 @@ all_both : {A : Type 0} (P : A → Type 0) (xs ys : List A) → AllByRecursion P
 all_both P [] ys one two = two
 all_both P (x ∷ xs) ys one two = (one.0, all_both P xs ys one.1 two)
 
--- Equal options make equal demands on what is noted.
-noted_by : (one two : Asked) (judged : List Dialogue) → one ≡ two → AllByRecursion (IsNoted one.settled one.complete) judged
-    → AllByRecursion (IsNoted two.settled two.complete) judged
-noted_by one two judged same noted =
-    subst (λ (a : Asked). AllByRecursion (IsNoted a.settled a.complete) judged) same noted
-
 -- A property of all items holds for all items that a filter keeps.
 all_left : {A : Type 0} (P : A → Type 0) (p : A → Bool) (xs : List A) → AllByRecursion P xs → AllByRecursion P (filter p xs)
 all_left P p [] all = tt
@@ -85,14 +80,14 @@ none_left_out [] = refl
 none_left_out (x ∷ xs) = ap (λ l. x ∷ l) (none_left_out xs)
 
 -- the verdicts on the dialogues that are reported
-abbrev verdicts_told : Bool → Option Side → List Dialogue → List Verdict
-verdicts_told fault of judged = map (verdict_on of) (filter (is_told_if fault of) judged)
+abbrev verdicts_told : Bool → Asked → List Dialogue → List Verdict
+verdicts_told fault asked judged = map (verdict_on asked) (filter (is_told_if fault asked) judged)
 
-told_both : (fault : Bool) (of : Option Side) (xs ys : List Dialogue)
-    → verdicts_told fault of (xs ++ ys) ≡ verdicts_told fault of xs ++ verdicts_told fault of ys
-told_both fault of xs ys =
-    ap (map (verdict_on of)) (filter-append (is_told_if fault of) xs ys)
-    ∙ map-append (verdict_on of) (filter (is_told_if fault of) xs) (filter (is_told_if fault of) ys)
+told_both : (fault : Bool) (asked : Asked) (xs ys : List Dialogue)
+    → verdicts_told fault asked (xs ++ ys) ≡ verdicts_told fault asked xs ++ verdicts_told fault asked ys
+told_both fault asked xs ys =
+    ap (map (verdict_on asked)) (filter-append (is_told_if fault asked) xs ys)
+    ∙ map-append (verdict_on asked) (filter (is_told_if fault asked) xs) (filter (is_told_if fault asked) ys)
 
 pub more_judged : (fault : Bool) (xs ys : List Gathered) (a b c : Trace) → Judges fault xs a b → Judges fault ys b c
     → Judges fault (xs ++ ys) a c
@@ -100,12 +95,11 @@ more_judged fault xs ys a b c one two = record {
   judged = one.judged ++ two.judged;
   those = map-append (λ d. d.gathered) one.judged two.judged
       ∙ ap (λ l. l ++ map (λ d. d.gathered) two.judged) one.those ∙ ap (λ l. xs ++ l) two.those;
-  noted = all_both (IsNoted a.asked.settled a.asked.complete) one.judged two.judged one.noted
-      (noted_by b.asked a.asked two.judged one.asked two.noted);
-  counts = two.counts ∙ ap (λ k. with_each (verdicts_told fault k.of two.judged) b.dialogues) one.asked
-      ∙ ap (with_each (verdicts_told fault a.asked.of two.judged)) one.counts
-      ∙ sym (each_append (verdicts_told fault a.asked.of one.judged) (verdicts_told fault a.asked.of two.judged) a.dialogues)
-      ∙ ap (λ vs. with_each vs a.dialogues) (sym (told_both fault a.asked.of one.judged two.judged));
+  noted = all_both IsNoted one.judged two.judged one.noted two.noted;
+  counts = two.counts ∙ ap (λ k. with_each (verdicts_told fault k two.judged) b.dialogues) one.asked
+      ∙ ap (with_each (verdicts_told fault a.asked two.judged)) one.counts
+      ∙ sym (each_append (verdicts_told fault a.asked one.judged) (verdicts_told fault a.asked two.judged) a.dialogues)
+      ∙ ap (λ vs. with_each vs a.dialogues) (sym (told_both fault a.asked one.judged two.judged));
   asked = two.asked ∙ one.asked;
   cut = two.cut ∙ one.cut;
   messages = two.messages ∙ one.messages;
@@ -124,57 +118,61 @@ told_behind false fails behind = refl
 
 -- One dialogue is judged, and its verdict is counted if it is reported.
 pub one_judged : (fault : Bool) (d : Dialogue) (old new : Trace) → new.asked ≡ old.asked → new.cut ≡ old.cut
-    → new.messages ≡ old.messages → new.readable ≡ old.readable → IsNoted old.asked.settled old.asked.complete d
-    → new.dialogues ≡ cond (is_told_if fault old.asked.of d) (with_one (verdict_on old.asked.of d) old.dialogues) old.dialogues
+    → new.messages ≡ old.messages → new.readable ≡ old.readable → IsNoted d
+    → new.dialogues ≡ cond (is_told_if fault old.asked d) (with_one (verdict_on old.asked d) old.dialogues) old.dialogues
     → Judges fault (d.gathered ∷ []) old new
 one_judged fault d old new asked cut messages readable noted counted = record {
   judged = d ∷ [];
   those = refl;
   noted = (noted, tt);
-  counts = counted ∙ by (is_told_if fault old.asked.of d);
+  counts = counted ∙ by (is_told_if fault old.asked d);
   asked = asked;
   cut = cut;
   messages = messages;
   readable = readable;
 }
   where
-    by : (b : Bool) → cond b (with_one (verdict_on old.asked.of d) old.dialogues) old.dialogues
-        ≡ with_each (map (verdict_on old.asked.of) (cond b (d ∷ []) [])) old.dialogues
+    by : (b : Bool) → cond b (with_one (verdict_on old.asked d) old.dialogues) old.dialogues
+        ≡ with_each (map (verdict_on old.asked) (cond b (d ∷ []) [])) old.dialogues
     by true = refl
     by false = refl
 
+-- Other entries come after a case that is over.
+pub over_is_more : (over : Option ℕ) (behind case_behind : Behind) → case_behind ≡ cond (is_some over) behinds.More behind
+    → is_some over ≡ true → after_of case_behind ≡ More
+over_is_more over behind case_behind is so = ap after_of (is ∙ ap (λ b. cond b behinds.More behind) so)
+
+-- The verdict on a case is that on its dialogue.
+pub verdict_of_case : (asked now : Asked) (case : Case) (g : Gathered) (verdict : Verdict) → now ≡ asked → case.gathered ≡ g
+    → case.rules.of ≡ asked.of → case.rules.settled ≡ asked.settled → case.rules.complete ≡ asked.complete
+    → verdict ≡ verdict_by_tables now.book.now (question_in case) (dialogue_in case)
+    → verdict ≡ verdict_on asked (record {
+      gathered = g;
+      entries = case.entries.items;
+      after = after_of case.behind;
+      under_way = case.under_way;
+      in_use = is_some case.in_use;
+      unread = case.unread;
+    })
+verdict_of_case asked now case g verdict same those of settled complete is =
+    is ∙ ap (λ (a : Asked). verdict_by_tables a.book.now (question_in case) (dialogue_in case)) same
+    ∙ ap (λ x. by (record { of = x; settled = case.rules.settled; complete = case.rules.complete })) of
+    ∙ ap (λ x. by (record { of = asked.of; settled = x; complete = case.rules.complete })) settled
+    ∙ ap (λ x. by (record { of = asked.of; settled = asked.settled; complete = x })) complete
+    ∙ ap (λ x. verdict_by_tables asked.book.now (question_of asked)
+    (gathered_as x case.entries.items (after_of case.behind) case.under_way (is_some case.in_use) case.unread)) those
+  where
+    by : Question → Verdict
+    by q = verdict_by_tables asked.book.now q (dialogue_in case)
+
 -- The test in the code agrees with `is_told_if`.
-pub told_as : (behind case_behind : Behind) (of : Option Side) (d : Dialogue) (verdict : Verdict) (told : Bool)
-    → case_behind ≡ cond (is_some d.gathered.over) behinds.More behind → verdict ≡ verdict_on of d
-    → told ≡ not (is_fault case_behind) || is_fail verdict → told ≡ is_told_if (is_fault behind) of d
-told_as behind case_behind of d verdict told is_behind is_verdict is =
+pub told_as : (behind case_behind : Behind) (asked : Asked) (d : Dialogue) (verdict : Verdict) (told : Bool)
+    → case_behind ≡ cond (is_some d.gathered.over) behinds.More behind → verdict ≡ verdict_on asked d
+    → told ≡ not (is_fault case_behind) || is_fail verdict → told ≡ is_told_if (is_fault behind) asked d
+told_as behind case_behind asked d verdict told is_behind is_verdict is =
     is ∙ ap (λ b. not (is_fault b) || is_fail verdict) is_behind
     ∙ told_behind (is_some d.gathered.over) (is_fail verdict) behind
     ∙ ap (λ v. not (is_fault behind) || (is_some d.gathered.over || is_fail v)) is_verdict
-
--- Circumstances for m entries also fit n entries, if m ≤ n.
-grown : (settled complete is_earlier : Bool) (over : Option ℕ) (m n : ℕ) (c : Circumstances) → m ≤ n
-    → IsNotedOf settled complete is_earlier over m c → IsNotedOf settled complete is_earlier over n c
-grown settled complete is_earlier over m n c few noted = record {
-  again = noted.again;
-  unsettled = noted.unsettled;
-  under_way = noted.under_way;
-  early_mark = noted.early_mark;
-  began = noted.began;
-  is_open = noted.is_open;
-  is_cut = λ is. let many = noted.is_cut is in omega arith;
-}
-
--- Circumstances for one dialogue also fit one with equal options, equal gathering, and as many entries or more.
-pub noted_of : (settled other_settled complete other_complete : Bool) (g h : Gathered) (m n : ℕ) (c : Circumstances)
-    → settled ≡ other_settled → complete ≡ other_complete → g ≡ h → m ≤ n
-    → IsNotedOf settled complete (is_some g.earlier) g.over m c
-    → IsNotedOf other_settled other_complete (is_some h.earlier) h.over n c
-noted_of settled other_settled complete other_complete g h m n c same_settled same_complete same few noted =
-    subst (λ (x : Gathered). IsNotedOf other_settled other_complete (is_some x.earlier) x.over n c) same
-    (subst (λ k. IsNotedOf other_settled k (is_some g.earlier) g.over n c) same_complete
-    (subst (λ k. IsNotedOf k complete (is_some g.earlier) g.over n c) same_settled
-    (grown settled complete (is_some g.earlier) g.over m n c few noted)))
 
 nothing_gathered : AreGathered [] []
 nothing_gathered = record {
@@ -210,17 +208,17 @@ reads_fault asked (halts.Stop stop) t within = tt
 module _ (asked : Asked) where
   -- the further dialogues that are judged and reported, which belong to the segment
   abbrev told_in : (fault : Bool) {given : List Gathered} {one new : Trace} → Judges fault given one new → List Dialogue
-  told_in fault j = filter (is_told_if fault asked.of) j.judged
+  told_in fault j = filter (is_told_if fault asked) j.judged
 
   counts_more : (fault : Bool) (old one new : Trace) (s : Stretch) (before : List Stretch) (given : List Gathered)
       → HasRead asked (s ∷ before) old → one.asked ≡ old.asked → one.dialogues ≡ old.dialogues → (j : Judges fault given one new)
-      → new.dialogues ≡ with_each (map (verdict_on asked.of) (s.judged ++ told_in fault j)) (counts_in asked.of before)
+      → new.dialogues ≡ with_each (map (verdict_on asked) (s.judged ++ told_in fault j)) (counts_in asked before)
   counts_more fault old one new s before given has asks dialogues j =
-      let verdicts = verdict_on asked.of in
-      j.counts ∙ ap (λ k. with_each (verdicts_told fault k.of j.judged) one.dialogues) (asks ∙ has.asks)
-      ∙ ap (with_each (verdicts_told fault asked.of j.judged)) (dialogues ∙ has.counts)
-      ∙ sym (each_append (map verdicts s.judged) (verdicts_told fault asked.of j.judged) (counts_in asked.of before))
-      ∙ ap (λ vs. with_each vs (counts_in asked.of before)) (sym (map-append verdicts s.judged (told_in fault j)))
+      let verdicts = verdict_on asked in
+      j.counts ∙ ap (λ k. with_each (verdicts_told fault k j.judged) one.dialogues) (asks ∙ has.asks)
+      ∙ ap (with_each (verdicts_told fault asked j.judged)) (dialogues ∙ has.counts)
+      ∙ sym (each_append (map verdicts s.judged) (verdicts_told fault asked j.judged) (counts_in asked before))
+      ∙ ap (λ vs. with_each vs (counts_in asked before)) (sym (map-append verdicts s.judged (told_in fault j)))
 
   those_more : (s : Stretch) (given : List Gathered) (one new : Trace) (j : Judges false given one new)
       → map (λ d. d.gathered) (s.judged ++ told_in false j) ≡ those_judged s ++ given
@@ -230,11 +228,11 @@ module _ (asked : Asked) where
 
   noted_more : (fault : Bool) (old one new : Trace) (s : Stretch) (before : List Stretch) (given : List Gathered)
       → HasRead asked (s ∷ before) old → one.asked ≡ old.asked → (j : Judges fault given one new)
-      → AllByRecursion (IsNoted asked.settled asked.complete) (s.judged ++ told_in fault j)
+      → AllByRecursion IsNoted (s.judged ++ told_in fault j)
   noted_more fault old one new s before given has asks j =
-      all_both (IsNoted asked.settled asked.complete) s.judged (told_in fault j) has.noted.0
-      (all_left (IsNoted asked.settled asked.complete) (is_told_if fault asked.of) j.judged
-      (noted_by one.asked asked j.judged (asks ∙ has.asks) j.noted))
+      all_both IsNoted s.judged (told_in fault j) has.noted.0
+      (all_left IsNoted (is_told_if fault asked) j.judged
+      j.noted)
 
   -- The first entry of a segment may come.
   pub begins : (t : Trace) → IsBetween asked t → IsWithin asked t
@@ -346,7 +344,7 @@ module _ (asked : Asked) where
       live = j.judged;
       done_are = w.done;
       live_are = subst (AreGathered (courses_so_far asked.reuse w.stretch.headings).live) (sym j.those) are;
-      noted = noted_by one.asked asked j.judged (ap (λ t. t.asked) rest ∙ w.has.asks) j.noted;
+      noted = j.noted;
       judged = refl;
     };
     has = record {
@@ -362,17 +360,17 @@ module _ (asked : Asked) where
 
   verdict_is : (stretches : List Stretch) (t : Trace) (is_faulty : Bool) (verdict : Verdict) → HasRead asked stretches t
       → verdict ≡ trace_verdict is_faulty t.readable t.dialogues.worst
-      → verdict ≡ trace_verdict is_faulty (readable_in stretches) (counts_in asked.of stretches).worst
+      → verdict ≡ trace_verdict is_faulty (readable_in stretches) (counts_in asked stretches).worst
   verdict_is stretches t is_faulty verdict has is =
       is ∙ ap (λ n. trace_verdict is_faulty n t.dialogues.worst) has.readable
       ∙ ap (λ c. trace_verdict is_faulty (readable_in stretches) c.worst) has.counts
 
   sum_is : (stretches : List Stretch) (t : Trace) (verdict : Verdict) (old new : Sum) → HasRead asked stretches t
       → new ≡ with_verdict verdict (with_read t.dialogues t.messages t.unheard old)
-      → new ≡ with_verdict verdict (with_read (counts_in asked.of stretches) (messages_in stretches) t.unheard old)
+      → new ≡ with_verdict verdict (with_read (counts_in asked stretches) (messages_in stretches) t.unheard old)
   sum_is stretches t verdict old new has sum =
       sum ∙ ap (λ c. with_verdict verdict (with_read c t.messages t.unheard old)) has.counts
-      ∙ ap (λ n. with_verdict verdict (with_read (counts_in asked.of stretches) n t.unheard old)) has.messages
+      ∙ ap (λ n. with_verdict verdict (with_read (counts_in asked stretches) n t.unheard old)) has.messages
 
   pub whole_is_judged : (t : Trace) (is_broken_off : Bool) (verdict : Verdict) (old new : Sum) → IsBetween asked t
       → verdict ≡ trace_verdict is_broken_off t.readable t.dialogues.worst

@@ -1,8 +1,9 @@
--- What is the state of a trace before its first octet?
+-- What is the state of a trace without an octet?
 use Rattle.std.specs.Prelude.{◌≡◌, []}
-use Rattle.tcap_report.specs.declared.entries.Entries.{Entries}
-use Rattle.tcap_report.specs.declared.entries.Form.TheVariants as forms
+use Rattle.tcap_traces.specs.PieceReader.{pieces_left}
+use Rattle.tcap_traces.specs.Pieces.{no_more}
+use Rattle.tcap_report.specs.declared.trace_reader.TraceReader.{TraceReader}
 
--- No octet is held, and the form of the trace is not known yet.
-abbrev pub HasNothing : Entries → Type 0
-HasNothing entries = (entries.held.items ≡ []) × (entries.form ≡ forms.Unknown)
+-- If no octet follows, there is no piece.
+abbrev pub HasNothing : TraceReader → Type 0
+HasNothing reader = pieces_left reader.pieces [] ≡ no_more

@@ -1,10 +1,6 @@
-pub mod IdsBeforeMarks
 pub mod Counts
-pub mod Course
-pub mod Dialogue
-pub mod Directive
 pub mod TraceVerdict
 pub mod Progress
 pub mod SegmentVerdicts
 pub mod FreshTrace
-pub mod WorkedDirectives
+pub mod TraceReading

@@ -1,26 +1,24 @@
 -- What does the program keep of a trace while it reads the trace?
 use Rattle.std.specs.List.{AllByRecursion}
 use Rattle.std.specs.Prelude.{◌≡◌, Bool, true, false, not, ◌||◌, List, [], ◌∷◌, Option, Result, Ok, Err, filter, map}
-use Rattle.tcap_record.specs.declared.entry.End.{End as Side}
 use Rattle.tcap_dialogues.specs.Course.{courses_so_far}
 use Rattle.tcap_dialogues.specs.CutDialogues.{AreGathered}
 use Rattle.tcap_dialogues.specs.CutState.{IsCut}
 use Rattle.tcap_dialogues.specs.declared.complete_dialogue.Gathered.{Gathered}
-use Rattle.tcap_report.specs.declared.case.Behind.{Behind}
-use Rattle.tcap_report.specs.declared.case.Behind.TheVariants as behinds
+use Rattle.tcap_traces.specs.declared.case.Behind.{Behind}
+use Rattle.tcap_traces.specs.declared.case.Behind.TheVariants as behinds
 use Rattle.tcap_report.specs.declared.fault.Halt.{Halt}
 use Rattle.tcap_report.specs.declared.fault.Halt.TheVariants as halts
 use Rattle.tcap_report.specs.declared.trace.Asked.{Asked}
 use Rattle.tcap_report.specs.declared.trace.Trace.{Trace}
 use Rattle.tcap_report.specs.Counts.{with_each}
-use Rattle.tcap_report.specs.Dialogue.{Dialogue, IsNoted, verdict_on}
-use Rattle.tcap_report.specs.SegmentVerdicts.{AreNoted, AreWhole, IsBrokenOff, Stretch, counts_in, is_told, messages_in, readable_in, those_judged}
+use Rattle.tcap_report.specs.SegmentVerdicts.{AreNoted, AreWhole, Dialogue, IsBrokenOff, IsNoted, Stretch, counts_in, is_told, messages_in, readable_in, those_judged, verdict_on}
 
 -- The options, and what was noted and counted of these segments, the last one first.
 pub record HasRead (asked : Asked) (stretches : List Stretch) (trace : Trace) : Type 0 where
   pub asks : trace.asked ≡ asked
-  pub noted : AreNoted asked.settled asked.complete stretches
-  pub counts : trace.dialogues ≡ counts_in asked.of stretches
+  pub noted : AreNoted stretches
+  pub counts : trace.dialogues ≡ counts_in asked stretches
   pub messages : trace.messages ≡ messages_in stretches
   pub readable : trace.readable ≡ readable_in stretches
 
@@ -55,17 +53,17 @@ is_fault behind = false
 
 -- Whether a judged dialogue is reported. If a fault ends the trace before the dialogue's IDs are free, it is reported
 -- only if it is over or fails.
-abbrev pub is_told_if : Bool → Option Side → Dialogue → Bool
-is_told_if fault of d = not fault || is_told of d
+abbrev pub is_told_if : Bool → Asked → Dialogue → Bool
+is_told_if fault asked d = not fault || is_told asked d
 
 -- The `given` dialogues are judged in this order, by what is noted of them, and those reported are counted. No other
 -- count changes.
 pub record Judges (fault : Bool) (given : List Gathered) (old new : Trace) : Type 0 where
   pub judged : List Dialogue
   pub those : map (λ d. d.gathered) judged ≡ given
-  pub noted : AllByRecursion (IsNoted old.asked.settled old.asked.complete) judged
+  pub noted : AllByRecursion IsNoted judged
   pub counts : new.dialogues
-      ≡ with_each (map (verdict_on old.asked.of) (filter (is_told_if fault old.asked.of) judged)) old.dialogues
+      ≡ with_each (map (verdict_on old.asked) (filter (is_told_if fault old.asked) judged)) old.dialogues
   pub asked : new.asked ≡ old.asked
   pub cut : new.cut ≡ old.cut
   pub messages : new.messages ≡ old.messages

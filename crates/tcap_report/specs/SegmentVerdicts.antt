@@ -1,7 +1,6 @@
 -- Which dialogues of a segment (the entries between two quiet marks) are judged?
 use Rattle.std.specs.List.{AllByRecursion}
-use Rattle.std.specs.Prelude.{◌≡◌, ℕ, Bool, true, false, List, [], ◌∷◌, ◌++◌, Option, ⊤, ◌||◌, is_some, length, map, filter, count_by}
-use Rattle.tcap_record.specs.declared.entry.End.{End as Side}
+use Rattle.std.specs.Prelude.{◌≡◌, ◌≤◌, ℕ, Bool, true, false, List, [], ◌∷◌, ◌++◌, Option, ⊤, ◌||◌, is_some, length, map, filter, count_by}
 use Rattle.tcap_dialogues.specs.Course.{Heading, courses_of, courses_so_far}
 use Rattle.tcap_dialogues.specs.CutDialogues.{AreGathered}
 use Rattle.tcap_dialogues.specs.declared.complete_dialogue.Gathered.{Gathered}
@@ -11,7 +10,37 @@ use Rattle.tcap_traces.specs.declared.verdict.Verdict.TheVariants as verdicts
 use Rattle.tcap_report.specs.declared.sum.Counts.{Counts}
 use Rattle.tcap_report.specs.declared.trace.Asked.{Asked}
 use Rattle.tcap_report.specs.Counts.{more, no_counts, with_each}
-use Rattle.tcap_report.specs.Dialogue.{Dialogue, IsNoted, verdict_on}
+use Rattle.tcap_traces.specs.Pieces.{TraceEntry}
+use Rattle.tcap_traces.specs.Dialogue.{After, Dialogue as Facts, More, Question}
+use Rattle.tcap_traces.specs.Dialogue.{verdict_on as verdict_by_tables}
+use Rattle.tcap_traces.specs.Case.{gathered_as}
+
+-- A judged dialogue: its entry numbers in the segment, its IDs, and what is known of earlier dialogues with them; its
+-- entries; and what the trace says of it.
+pub record Dialogue : Type 0 where
+  pub gathered : Gathered
+  pub entries : List TraceEntry
+  pub after : After
+  pub under_way : Option ℕ
+  pub in_use : Bool
+  pub unread : Option ℕ
+
+-- the dialogue as `tcap_traces` defines its verdict
+abbrev pub facts : Dialogue → Facts
+facts d = gathered_as d.gathered d.entries d.after d.under_way d.in_use d.unread
+
+-- What the options ask of each dialogue.
+abbrev pub question_of : Asked → Question
+question_of asked = record { of = asked.of; settled = asked.settled; complete = asked.complete }
+
+-- the verdict on a dialogue, by the tables that are asked for
+abbrev pub verdict_on : Asked → Dialogue → Verdict
+verdict_on asked d = verdict_by_tables asked.book.now (question_of asked) (facts d)
+
+-- A dialogue has at most as many entries as numbers; and what follows it does not matter if it is over.
+pub record IsNoted (d : Dialogue) : Type 0 where
+  pub few : length d.entries ≤ length d.gathered.numbers.items
+  pub over : is_some d.gathered.over ≡ true → d.after ≡ More
 
 -- The headings of a segment's entries, in their order, and its judged dialogues, in the order in which they were
 -- judged.
@@ -33,8 +62,8 @@ is_fail verdicts.Fail = true
 is_fail verdict = false
 
 -- whether a dialogue that may lack later entries is reported: it is over, or it fails by the entries that it has
-abbrev pub is_told : Option Side → Dialogue → Bool
-is_told of d = is_some d.gathered.over || is_fail (verdict_on of d)
+abbrev pub is_told : Asked → Dialogue → Bool
+is_told asked d = is_some d.gathered.over || is_fail (verdict_on asked d)
 
 -- A fault breaks off the segment. Dialogues whose IDs were free before are judged; of the others, those that are over
 -- or fail are reported.
@@ -43,8 +72,8 @@ pub record IsBrokenOff (asked : Asked) (s : Stretch) : Type 0 where
   pub live : List Dialogue
   pub done_are : AreGathered (courses_so_far asked.reuse s.headings).done (map (λ d. d.gathered) done)
   pub live_are : AreGathered (courses_so_far asked.reuse s.headings).live (map (λ d. d.gathered) live)
-  pub noted : AllByRecursion (IsNoted asked.settled asked.complete) live
-  pub judged : s.judged ≡ done ++ filter (is_told asked.of) live
+  pub noted : AllByRecursion IsNoted live
+  pub judged : s.judged ≡ done ++ filter (is_told asked) live
 
 -- All these segments are whole.
 abbrev pub AreWhole : Reuse → List Stretch → Type 0
@@ -57,18 +86,17 @@ AreJudged asked false stretches = AreWhole asked.reuse stretches
 AreJudged asked true [] = Unit {0}
 AreJudged asked true (s ∷ before) = IsBrokenOff asked s × AreWhole asked.reuse before
 
--- The circumstances of each judged dialogue meet `IsNotedOf`.
-abbrev pub AreNoted : Bool → Bool → List Stretch → Type 0
-AreNoted settled complete [] = ⊤
-AreNoted settled complete (s ∷ before) =
-    AllByRecursion (IsNoted settled complete) s.judged × AreNoted settled complete before
+-- Each judged dialogue meets `IsNoted`.
+abbrev pub AreNoted : List Stretch → Type 0
+AreNoted [] = ⊤
+AreNoted (s ∷ before) = AllByRecursion IsNoted s.judged × AreNoted before
 
 -- ---- totals over segments
 
 -- the counts of the verdicts on their dialogues
-abbrev pub counts_in : Option Side → List Stretch → Counts
-counts_in of [] = no_counts
-counts_in of (s ∷ before) = with_each (map (verdict_on of) s.judged) (counts_in of before)
+abbrev pub counts_in : Asked → List Stretch → Counts
+counts_in asked [] = no_counts
+counts_in asked (s ∷ before) = with_each (map (verdict_on asked) s.judged) (counts_in asked before)
 
 -- the number of entries in these segments
 abbrev pub messages_in : List Stretch → ℕ

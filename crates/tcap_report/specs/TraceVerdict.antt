@@ -16,6 +16,6 @@ pub record IsJudged (asked : Asked) (verdict : Verdict) (before after : Sum) : T
   pub is_faulty : Bool
   pub is_broken_off : Bool
   pub judged : AreJudged asked is_faulty stretches
-  pub noted : AreNoted asked.settled asked.complete stretches
-  pub is : verdict ≡ trace_verdict (is_faulty || is_broken_off) (readable_in stretches) (counts_in asked.of stretches).worst
-  pub sum : after ≡ with_verdict verdict (with_read (counts_in asked.of stretches) (messages_in stretches) unheard before)
+  pub noted : AreNoted stretches
+  pub is : verdict ≡ trace_verdict (is_faulty || is_broken_off) (readable_in stretches) (counts_in asked stretches).worst
+  pub sum : after ≡ with_verdict verdict (with_read (counts_in asked stretches) (messages_in stretches) unheard before)

@@ -1,11 +1,11 @@
 //! The answers that an open dialogue waits for.
 
-use crate::case::Judged;
 use std::alloc::{AllocError, Global};
 use tcap_end::reports;
 use tcap_msg::{Kind as Form, Message, MessageParts};
 use tcap_parts::ComponentView;
 use tcap_record::{Body, End, Entry};
+use tcap_traces::Judged;
 
 /// The most answers that are listed.
 const MOST: usize = 8;

@@ -3,7 +3,6 @@
 //!
 //! Each function returns `AllocError` if memory runs out.
 
-use crate::case::Judged;
 use std::alloc::AllocError;
 use tcap_books::NamedTable;
 use tcap_end::reports;
@@ -12,6 +11,7 @@ use tcap_msg::{Kind as Form, Message, MessageParts};
 use tcap_parts::{CodeView, ComponentView, DialogueView};
 use tcap_record::{Body, Entry, Record, push_hex};
 use tcap_refute::{Kind, Refutation};
+use tcap_traces::Judged;
 
 /// The most invocations of an ID that are listed.
 const MOST: usize = 8;

@@ -1,13 +1,12 @@
 //! The evidence for the faults of a dialogue.
 
-use crate::case::Judged;
 use crate::listed_entries::blamed_by;
 use crate::order::{is_asked, later_end};
 use std::alloc::{AllocError, Global};
 use std::collections::BTreeSet;
 use tcap_evidence::{Evidence, find_evidence};
 use tcap_record::End;
-use tcap_traces::Said;
+use tcap_traces::{Judged, Said};
 
 /// The most entries of a ground, and the most invocations, that are named.
 const MOST: usize = 8;

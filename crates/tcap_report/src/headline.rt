@@ -3,7 +3,6 @@
 //! Each function returns `AllocError` if memory runs out.
 
 use crate::awaited_answers::push_first_wait;
-use crate::case::{Case, Judged};
 use crate::order::{in_order, is_asked};
 use crate::text::no_table_words;
 use crate::words::{line_of, push_doubt, push_said};
@@ -11,7 +10,7 @@ use std::alloc::{AllocError, Global};
 use tcap_evidence::push_sentence;
 use tcap_record::End;
 use tcap_refute::Refutation;
-use tcap_traces::Said;
+use tcap_traces::{Case, Judged, Said};
 
 /// Appends the line number of an entry, or the entry's number if the trace has no lines.
 fn push_line(text: &mut String, case: &Case, entry: u64) -> Result<(), AllocError> {

@@ -3,7 +3,6 @@
 //! Each function returns `AllocError` if memory runs out.
 
 use crate::awaited_answers::push_waiting;
-use crate::case::{Behind, Case, Judged, sent_by};
 use crate::fields::{push_some, push_sums, push_verdicts};
 use crate::grounds::Grounds;
 use crate::messages::push_messages;
@@ -18,7 +17,7 @@ use tcap_evidence::{Evidence, push_what};
 use tcap_page::{push_flag, push_named, push_numbers, push_octets, push_text};
 use tcap_record::{End, push_hex};
 use tcap_refute::Refutation;
-use tcap_traces::{Said, Verdict};
+use tcap_traces::{Behind, Case, Judged, Said, Verdict, sent_by};
 
 /// Appends the IDs of an end.
 fn push_ids(json: &mut String, case: &Case, end: End) -> Result<(), AllocError> {

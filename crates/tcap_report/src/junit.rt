@@ -1,12 +1,11 @@
 //! Reports as JUnit XML, with a testsuite for each trace.
 
-use crate::case::{Case, Judged};
 use crate::headline::push_headline;
 use crate::sum::{Counts, push_count};
 use crate::words::push_hint;
 use std::alloc::{AllocError, Global};
 use tcap_record::End;
-use tcap_traces::Verdict;
+use tcap_traces::{Case, Judged, Verdict};
 
 /// The number of testcases, and how many of them fail or have an error.
 #[derive(Clone, Copy, Debug)]

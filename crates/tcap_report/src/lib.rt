@@ -3,11 +3,7 @@
 #![tactic(auto)]
 
 mod awaited_answers;
-mod before_marks;
-mod case;
-mod directive;
 mod ending;
-mod entries;
 mod fault;
 mod fault_details;
 mod fields;
@@ -24,11 +20,10 @@ mod page;
 mod reason;
 mod sinks;
 mod sum;
-mod table_choice;
 mod text;
 mod trace;
+mod trace_reader;
 mod unheard;
-mod unreadable_entries;
 mod used_again;
 mod words;
 

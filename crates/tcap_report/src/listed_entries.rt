@@ -2,8 +2,7 @@
 
 ghost use Rattle.std.specs.Prelude.{◌<◌, ◌≤◌, ◌+◌, ◌⊎◌, ◌↔◌, IsTrue};
 
-use crate::case::Judged;
-use tcap_traces::Said;
+use tcap_traces::{Judged, Said};
 
 /// Returns the number of the entry at which an end is at fault.
 pub(crate) fn blamed_by(said: Said) -> Option<u64> {

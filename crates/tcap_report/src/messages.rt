@@ -1,6 +1,5 @@
 //! The messages of a dialogue, as JSON objects.
 
-use crate::case::{Case, Judged};
 use crate::grounds::Grounds;
 use crate::listed_entries::{is_near, last_listed};
 use crate::no_message::push_no_message;
@@ -8,18 +7,16 @@ use crate::words::{comment_of, line_of};
 use std::alloc::{AllocError, Global};
 use tcap_page::{push_entry, push_named, push_octets};
 use tcap_record::{Body, Entry};
+use tcap_traces::{Case, Judged};
 
 /// The number of entries listed at the beginning of a dialogue, and (`BEFORE`) before the last one at fault.
 const FIRST: usize = 16;
 
 const BEFORE: usize = 63;
 
-/// Returns the octets of an entry without the octet of its end. None for a quiet mark.
+/// Returns the octets of an entry. None for a quiet mark.
 fn octets_of(case: &Case, number: usize) -> Option<&[u8]> {
-    match case.entries.get(number)?.octets.as_slice() {
-        [_, octets @ ..] => Some(octets),
-        [] => None,
-    }
+    Some(case.entries.get(number)?.octets.as_slice())
 }
 
 /// Appends the object of an entry.
@@ -34,7 +31,7 @@ fn push_message(
     let comment = comment_of(alloc, case, number as u64)?;
     let mut fault = String::new(alloc);
     if let Body::Bad(found) = &entry.body {
-        push_no_message(&mut fault, entry.place, *found)?;
+        push_no_message(&mut fault, *found)?;
     }
     push_entry(alloc, json, number, entry, &fault, judged.table)?;
     let line = line_of(case, number as u64);

@@ -1,21 +1,18 @@
 //! The reasons why an entry is no message, in words.
 
-use crate::case::Case;
 use std::alloc::{AllocError, Global};
-use tcap_ber::{Counted, Fault};
+use tcap_ber::{Counted, Fault, Outer, Reason, outer};
 use tcap_diagnostics::{name_of, run_why};
+use tcap_record::End;
+use tcap_traces::Case;
 
 /// The beginning of the line in which `show --why` gives the reason.
 const WHY: &str = "  why: ";
 
-/// Appends the reason why an entry is no message, and the octet. `place` is the offset of the entry's element.
-pub(crate) fn push_no_message(
-    text: &mut String,
-    place: u64,
-    fault: Fault,
-) -> Result<(), AllocError> {
+/// Appends the reason why an entry is no message, and the offset of the fault in the entry.
+pub(crate) fn push_no_message(text: &mut String, fault: Fault) -> Result<(), AllocError> {
     text.push_str(name_of(fault.reason))?;
-    let place = fault.place.saturating_sub(place);
+    let place = fault.place;
     write!(text, ", at octet {place} of it")
 }
 
@@ -29,8 +26,24 @@ fn shown(alloc: Global, record: &[u8]) -> Result<String, AllocError> {
     String::from_utf8_lossy(alloc, &printed.into_inner())
 }
 
+/// Returns the fault of octets that end within an element, or go on after it. None for other octets.
+fn length_fault(octets: &[u8]) -> Option<Fault> {
+    match outer(octets) {
+        Ok(Outer::Whole(len)) if len < octets.len() => Some(Fault {
+            reason: Reason::Trailing,
+            place: len as u64,
+        }),
+        Ok(Outer::Need(_)) => Some(Fault {
+            reason: Reason::Cut,
+            place: octets.len() as u64,
+        }),
+        _ => None,
+    }
+}
+
 /// Appends the line in which `show --why` explains why an entry of a dialogue is no message. It has the reason, the
-/// offset, the path of parts to it, the octets around it, and what can be read of the kind and the IDs.
+/// offset, the path of parts to it, the octets around it, and what can be read of the kind and the IDs. If the octets are
+/// not one element, which `show` does not read, the line has the reason and the offset.
 pub(crate) fn push_why(
     alloc: Global,
     text: &mut String,
@@ -40,7 +53,18 @@ pub(crate) fn push_why(
     let Some(held) = case.entries.get(entry as usize) else {
         return Ok(());
     };
-    let printed = shown(alloc, &held.octets)?;
+    if let Some(fault) = length_fault(&held.octets) {
+        text.push_str(WHY)?;
+        push_no_message(text, fault)?;
+        return text.push_str("\n");
+    }
+    let mut record = Vec::new(alloc);
+    record.push(match held.sender {
+        End::A => b'A',
+        End::B => b'B',
+    })?;
+    record.extend_from_slice(&held.octets)?;
+    let printed = shown(alloc, &record)?;
     for line in printed.lines() {
         if line.starts_with(WHY) {
             text.push_str(line)?;

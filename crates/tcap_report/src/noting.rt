@@ -1,19 +1,18 @@
 //! What a trace notes of an entry and of a dialogue.
 
 ghost use Rattle.std.specs.Prelude.{◌≡◌, ◌≤◌, cond, is_some, length, IfOk};
-ghost use Rattle.tcap_report.specs.declared.case.Behind.TheVariants as behinds;
+ghost use Rattle.tcap_traces.specs.declared.case.Behind.TheVariants as behinds;
 
-use crate::before_marks::InUse;
-use crate::case::{Behind, Case, Held, Rules, begins, heading_of};
 use crate::trace::Trace;
 use std::alloc::AllocError;
 use tcap_dialogues::{Gathered, HeadingView, Reuse};
 use tcap_msg::Kind as Form;
+use tcap_traces::{Behind, Case, InUse, Rules, TraceEntry, begins};
 
 impl Trace<'_> {
     /// Returns the heading of an entry, with what the trace before it says.
-    pub(crate) fn heading_of<'o>(&self, octets: &'o [u8]) -> HeadingView<'o> {
-        let heading = heading_of(octets);
+    pub(crate) fn heading_of<'o>(&self, entry: &'o TraceEntry) -> HeadingView<'o> {
+        let heading = entry.heading();
         HeadingView {
             under_way: self.under_way.is_some(),
             known: heading.kind == Some(Form::Continue) && self.marks.sent_to(heading).is_some(),
@@ -23,18 +22,17 @@ impl Trace<'_> {
 
     /// Returns the ID that suggests that a dialogue with these entries continues one from before the last quiet mark. None
     /// if one of its IDs was used before in its segment.
-    fn in_use(&self, gathered: &Gathered, entries: &[Held]) -> Option<InUse> {
+    fn in_use(&self, gathered: &Gathered, entries: &[TraceEntry]) -> Option<InUse> {
         if gathered.earlier.is_some() {
             return None;
         }
-        self.marks
-            .in_use(heading_of(&entries.first()?.octets), gathered)
+        self.marks.in_use(entries.first()?.heading(), gathered)
     }
 
     /// Returns the number of the first unreadable entry that may belong to a dialogue with these entries. It is one
     /// after the dialogue's first entry, or any of the segment if the first entry is no Begin. None if no entry of the
     /// dialogue carries an ID.
-    fn unread_for(&self, gathered: &Gathered, entries: &[Held]) -> Option<u64> {
+    fn unread_for(&self, gathered: &Gathered, entries: &[TraceEntry]) -> Option<u64> {
         if gathered.a.is_empty() && gathered.b.is_empty() {
             return None;
         }

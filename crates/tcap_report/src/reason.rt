@@ -2,7 +2,6 @@
 //!
 //! Each function returns `AllocError` if memory runs out.
 
-use crate::case::{Case, Judged};
 use crate::fault_details::push_which;
 use crate::grounds::Grounds;
 use crate::no_message::push_why;
@@ -10,6 +9,7 @@ use std::alloc::{AllocError, Global};
 use tcap_evidence::push_fault;
 use tcap_record::End;
 use tcap_refute::{Kind, Refutation};
+use tcap_traces::{Case, Judged};
 
 /// Returns the first line of a text.
 fn first_line(text: &str) -> &str {

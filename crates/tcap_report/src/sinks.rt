@@ -2,7 +2,6 @@
 
 ghost use Rattle.std.specs.Prelude.{◌≡◌};
 
-use crate::case::{Case, Judged};
 use crate::fault::{FormFault, Stop};
 use crate::grounds::Grounds;
 use crate::junit::Junit;
@@ -13,7 +12,7 @@ use std::alloc::Global;
 use std::io;
 use tcap_ber::{Counted, Failed, Write};
 use tcap_record::End;
-use tcap_traces::Verdict;
+use tcap_traces::{Case, Judged, Verdict};
 
 /// A writer of lines that may keep some of them back for a while.
 pub trait Lines: Write {

@@ -3,7 +3,6 @@
 //! Each function returns `AllocError` if memory runs out.
 
 use crate::awaited_answers::push_waiting;
-use crate::case::{Case, Judged};
 use crate::grounds::Grounds;
 use crate::listed_entries::{is_near, last_listed};
 use crate::no_message::push_no_message;
@@ -16,7 +15,7 @@ use tcap_msg::MessageParts;
 use tcap_page::push_component;
 use tcap_record::{Body, End, Entry, push_head, push_hex};
 use tcap_refute::Refutation;
-use tcap_traces::{Said, Verdict};
+use tcap_traces::{Case, Judged, Said, Verdict};
 
 /// The number of entries listed at the beginning of a dialogue, and (`BEFORE`) before the last one at fault.
 const FIRST: usize = 8;
@@ -162,12 +161,7 @@ fn push_end(
 }
 
 /// Appends the contents of an entry.
-fn push_body(
-    text: &mut String,
-    table: Option<&NamedTable>,
-    place: u64,
-    body: &Body,
-) -> Result<(), AllocError> {
+fn push_body(text: &mut String, table: Option<&NamedTable>, body: &Body) -> Result<(), AllocError> {
     match body {
         Body::Good(message) => {
             push_head(text, message)?;
@@ -179,7 +173,7 @@ fn push_body(
         }
         Body::Bad(fault) => {
             text.push_str("no message: ")?;
-            push_no_message(text, place, *fault)
+            push_no_message(text, *fault)
         }
         Body::Quiet => text.push_str("quiet mark"),
     }
@@ -201,7 +195,7 @@ fn push_entry(
         text.push_str(end.letter())?;
         text.push_str(" ")?;
     }
-    push_body(text, judged.table, entry.place, &entry.body)?;
+    push_body(text, judged.table, &entry.body)?;
     text.push_str("\n")
 }
 

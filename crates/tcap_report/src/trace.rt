@@ -14,14 +14,11 @@ ghost use Rattle.tcap_report.specs.Progress.{IsBetween, IsStopped, IsWithin, Jud
 ghost use Rattle.tcap_report.specs.SegmentVerdicts.{is_fail};
 ghost use Rattle.tcap_report.specs.FreshTrace.{HasNothing};
 
-use crate::before_marks::BeforeMarks;
-use crate::case::{Behind, Case, Held, Judged, judge};
-use crate::entries::{Entries, Piece};
 use crate::fault::{FormFault, Halt, Stop};
 use crate::sinks::{Lines, Sinks};
 use crate::sum::{Counts, Sum};
+use crate::trace_reader::TraceReader;
 use crate::unheard::is_unheard;
-use crate::unreadable_entries::Unread;
 use std::alloc::{AllocError, Global};
 use std::collections::BTreeMap;
 use std::mem;
@@ -29,7 +26,7 @@ use tcap_ber::{Failed, Read, Write};
 use tcap_books::Book;
 use tcap_dialogues::{Cut, Gathered, HeadingView, Reuse};
 use tcap_record::{End, PIECE_LEN};
-use tcap_traces::Verdict;
+use tcap_traces::{BeforeMarks, Behind, Case, Judged, Piece, TraceEntry, Unread, Verdict, judge};
 
 /// The options for a trace.
 #[derive(Clone, Copy, Debug)]
@@ -61,7 +58,7 @@ pub(crate) struct Trace<'a> {
     pub(crate) asked: Asked<'a>,
     cut: Cut,
     // The entries of the segment that wait to be judged, by their numbers in the segment.
-    pub(crate) held: BTreeMap<u64, Held>,
+    pub(crate) held: BTreeMap<u64, TraceEntry>,
     // The number of entries of the segment and, in `before`, of the trace before the segment, quiet marks included.
     count: u64,
     pub(crate) before: u64,
@@ -106,31 +103,18 @@ impl<'a> Trace<'a> {
     /// Takes an entry, and judges the dialogues whose IDs are free after it.
     fn enter<W: Write, J: Lines, P: Watch>(
         &mut self,
-        octets: Vec<u8>,
-        line: u64,
-        comment: Vec<u8>,
+        entry: TraceEntry,
         sinks: &mut Sinks<W, J, P>,
     ) -> Result<(), Stop>
         ensures within { (asked : AskedOf) → IsWithin asked self.old → OnOk result (IsWithin asked self.new) }
         ensures same_sum { sinks.new.sum ≡ sinks.old.sum }
     {
         let mut done = Vec::new(self.alloc);
-        let heading = self.heading_of(&octets);
+        let heading = self.heading_of(&entry);
         self.note(heading);
         let begins = self.cut.take(heading, &mut done)?;
         self.unread.note(self.count, heading, begins)?;
-        if self
-            .held
-            .insert(
-                self.count,
-                Held {
-                    octets,
-                    line,
-                    comment,
-                },
-            )
-            .is_err()
-        {
+        if self.held.insert(self.count, entry).is_err() {
             return Err(Stop::Memory);
         }
         self.count = self.count.saturating_add(1);
@@ -240,7 +224,7 @@ impl<'a> Trace<'a> {
     }
 
     /// Takes the entries of a dialogue out of those that wait.
-    pub(crate) fn taken(&mut self, gathered: &Gathered) -> Result<Vec<Held>, AllocError>
+    pub(crate) fn taken(&mut self, gathered: &Gathered) -> Result<Vec<TraceEntry>, AllocError>
         ensures few { IfOk result (λ entries. length entries.items ≤ length gathered.now.numbers.items) }
         ensures rest { self.new ≡ record self.old { held = self.new.held } }
     {
@@ -305,15 +289,15 @@ impl<'a> Trace<'a> {
     /// Takes each piece in the octets read so far.
     fn read_on<W: Write, J: Lines, P: Watch>(
         &mut self,
-        entries: &mut Entries,
+        octets: &mut TraceReader,
         sinks: &mut Sinks<W, J, P>,
     ) -> Result<(), Halt>
         ensures within { (asked : AskedOf) → IsWithin asked self.old → UnlessStopped result (IsWithin asked self.new) }
-        ensures nothing { HasNothing entries.old → HasNothing entries.new × (self.new.readable ≡ self.old.readable) }
+        ensures nothing { HasNothing octets.old → OnOk result (HasNothing octets.new × (self.new.readable ≡ self.old.readable)) }
         ensures same_sum { sinks.new.sum ≡ sinks.old.sum }
     {
         for _ in 0..u64::MAX {
-            match entries.next()? {
+            match octets.next()? {
                 Some(piece) => if let Err(stop) = self.take_piece(piece, sinks) {
                     return Err(Halt::Stop(stop));
                 },
@@ -333,16 +317,16 @@ impl<'a> Trace<'a> {
         ensures same_sum { sinks.new.sum ≡ sinks.old.sum }
     {
         match piece {
-            Piece::Entry(octets, line, comment) => self.enter(octets, line, comment, sinks),
-            Piece::UnderWay => {
+            Piece::Entry(entry) => self.enter(entry, sinks),
+            Piece::UnderWay(_) => {
                 self.under_way = Some(self.under_way.unwrap_or(self.count));
                 Ok(())
             }
-            Piece::BrokenOff(text) => {
-                self.broken_off = Some(text);
+            Piece::BrokenOff(line, missing) => {
+                self.broken_off = Some(broken_off_text(self.alloc, line, &missing)?);
                 Ok(())
             }
-            Piece::About(_, _) => Ok(()),
+            Piece::About(_, _, _) => Ok(()),
             Piece::Mark(line) => self.pass_mark(line, sinks),
         }
     }
@@ -353,11 +337,11 @@ impl<'a> Trace<'a> {
     fn read_all<R: Read, W: Write, J: Lines, P: Watch>(
         &mut self,
         reader: &mut R,
-        entries: &mut Entries,
+        octets: &mut TraceReader,
         sinks: &mut Sinks<W, J, P>,
     ) -> Result<(), Halt>
         ensures reads { (asked : AskedOf) → IsWithin asked self.old → Reads asked result self.new }
-        ensures nothing { R.untold reader.old ≡ Some [] → HasNothing entries.old
+        ensures nothing { R.untold reader.old ≡ Some [] → HasNothing octets.old
             → OnOk result (self.new.readable ≡ self.old.readable) }
         ensures all { OnOk result (IsAtEnd (R.untold reader.new) × (R.failures reader.new ≡ R.failures reader.old)) }
         ensures same_sum { sinks.new.sum ≡ sinks.old.sum }
@@ -368,8 +352,8 @@ impl<'a> Trace<'a> {
                 Ok(told) => told,
                 Err(Failed) => return Err(self.unreadable()?),
             };
-            entries.feed(&piece[..told])?;
-            self.read_on(entries, sinks)?;
+            octets.feed(&piece[..told])?;
+            self.read_on(octets, sinks)?;
             sinks.flush()?;
             sinks.watch.look(&self.so_far(sinks.sum));
             if told == 0 {
@@ -388,6 +372,15 @@ impl<'a> Trace<'a> {
         text.push_str("it can't be read")?;
         Ok(Halt::Form(FormFault { line: None, text }))
     }
+}
+
+/// Returns the text to print for the directive `broken off` in this line, with its text on missing messages.
+fn broken_off_text(alloc: Global, line: u64, missing: &[u8]) -> Result<String, AllocError> {
+    let missing = String::from_utf8_lossy(alloc, missing)?;
+    let mut text = String::new(alloc);
+    write!(text, "line {line}: the trace was broken off")?;
+    text.push_str(&missing)?;
+    Ok(text)
 }
 
 /// Returns whether a judged dialogue is reported: always, unless a fault ends the trace before the dialogue is over and
@@ -424,12 +417,12 @@ pub fn run_trace<R: Read, W: Write, J: Lines, P: Watch>(
     ensures same_sum { sinks.new.sum.ghost_name ≡ sinks.old.sum.ghost_name }
 {
     let mut trace = Trace::new(alloc, asked);
-    let mut entries = Entries::new(alloc);
-    match trace.read_all(reader, &mut entries, sinks) {
+    let mut octets = TraceReader::new(alloc);
+    match trace.read_all(reader, &mut octets, sinks) {
         Ok(()) => trace.end_whole(sinks),
         Err(Halt::Form(fault)) => {
             trace.judge_over(sinks)?;
-            trace.end(Some(fault), entries.hint(), sinks)
+            trace.end(Some(fault), octets.hint(), sinks)
         }
         Err(Halt::Stop(stop)) => Err(stop),
     }

@@ -1,9 +1,8 @@
 //! Dialogues that pass unheard or unanswered.
 
-use crate::case::{Judged, sent_by};
 use crate::order::is_asked;
 use tcap_record::End;
-use tcap_traces::Said;
+use tcap_traces::{Judged, Said, sent_by};
 
 /// Returns whether an end passes but missed a message of its peer, or sent nothing.
 fn is_silent(judged: &Judged, end: End, said: Said) -> bool {

@@ -1,12 +1,12 @@
 //! IDs that are used again under `--ids once`, which never frees an ID before a quiet mark.
 
-use crate::case::{Case, heading_of};
 use crate::words::line_of;
 use std::alloc::{AllocError, Global};
 use std::collections::BTreeSet;
 use tcap_dialogues::HeadingView;
 use tcap_msg::{Kind as Form, TransactionId};
 use tcap_record::{End, push_hex};
+use tcap_traces::Case;
 
 /// The IDs of an end in the entries of a dialogue so far.
 #[derive(Drop)]
@@ -54,7 +54,7 @@ fn used_again(alloc: Global, case: &Case) -> Result<Option<u64>, AllocError> {
     let mut is_over = false;
     let mut number = 0;
     for held in &case.entries {
-        let heading = heading_of(&held.octets);
+        let heading = held.heading();
         let again = match heading.sender {
             End::A => a.note(&mut b, heading)?,
             End::B => b.note(&mut a, heading)?,
@@ -83,7 +83,7 @@ pub(crate) fn push_used_again(
     let Some(held) = case.entries.get(number as usize) else {
         return Ok(());
     };
-    let heading = heading_of(&held.octets);
+    let heading = held.heading();
     let Some(otid) = heading.otid else {
         return Ok(());
     };

@@ -2,29 +2,12 @@
 //!
 //! Each function that returns `AllocError` does so if memory runs out.
 
-use crate::case::{Behind, Case};
 use crate::used_again::push_used_again;
 use std::alloc::{AllocError, Global};
 use std::collections::BTreeSet;
-use tcap_msg::{Message, MessageParts, TransactionId};
-use tcap_parts::DialogueView;
+use tcap_msg::TransactionId;
 use tcap_record::{End, push_hex};
-use tcap_traces::{Doubt, Said};
-
-/// Returns the application context name in a message's dialogue portion, if it has one.
-pub(crate) fn context_in(alloc: Global, message: &Message) -> Result<Option<Vec<u8>>, AllocError> {
-    let found = match message.dialogue() {
-        Some(
-            DialogueView::Request { context, .. }
-            | DialogueView::Response { context, .. }
-            | DialogueView::Uni { context, .. },
-        ) => context,
-        _ => return Ok(None),
-    };
-    let mut octets = Vec::new(alloc);
-    octets.extend_from_slice(found.octets)?;
-    Ok(Some(octets))
-}
+use tcap_traces::{Behind, Case, Doubt, Said};
 
 /// The words for a dialogue that may have begun before its trace.
 const UNDER_WAY: &str =

@@ -2,3 +2,14 @@ pub mod Verdict
 pub mod ResultOfEnd
 pub mod ResultMeaning
 pub mod WorkedVerdicts
+pub mod IdsBeforeMarks
+pub mod Directive
+pub mod Pieces
+pub mod PieceReader
+pub mod TableChoice
+pub mod Dialogue
+pub mod Case
+pub mod UnreadableEntries
+pub mod Segments
+pub mod JudgedTrace
+pub mod WorkedTraces

@@ -8,6 +8,6 @@ use Rattle.tcap_report.proofs.trace.Trace.read_on.Given as goal
 abbrev pub invariant-loop : goal.invariant-loop
 invariant-loop g l = record {
   within : (asked : Asked) → IsWithin asked l.fn.self → IsWithin asked l.self;
-  nothing : HasNothing l.fn.entries → HasNothing l.entries × (l.self.readable ≡ l.fn.self.readable);
+  nothing : HasNothing l.fn.octets → HasNothing l.octets × (l.self.readable ≡ l.fn.self.readable);
   same_sum : l.sinks.sum ≡ l.fn.sinks.sum;
 }
