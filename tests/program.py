@@ -58,7 +58,7 @@ FILES = {
 def version():
     """Returns the required output of `--version`: the kit that proved the program, which must be the present one, or
     that it is not proved. If the present kit is another one, name it in VERSION of
-    crates/tcap_words/src/command_line.rt."""
+    crates/tcap_command_line/src/command_line.rt."""
     if os.path.basename(os.path.realpath(PROGRAM)) == "tcapjudge-unproved":
         return b"tcapjudge 0.1.0 (not proved)\n"
     kit = subprocess.run(["rt", "version"], stdout=subprocess.PIPE, check=True).stdout.strip()

@@ -24,7 +24,7 @@ use Rattle.tcap_judge.specs.Outcome.{outcome_status}
 use Rattle.tcap_judge.specs.LawfulOutcome.{AreLawful, AreLawfulUnheard, IsShown, replayed_by}
 use Rattle.tcap_judge.specs.CheckOutcome.{JudgesWith, ReadsRecord, ReadsTable}
 use Rattle.tcap_judge.specs.LawfulRecord.{SpellsRecord}
-use Rattle.tcap_judge.specs.Verdict.{GivesVerdictWith, IsAtFaultBy, certificate_line, named_by, proposed_by, record_verdict, verdict}
+use Rattle.tcap_judge.specs.Verdict.{GivesVerdictWith, IsAtFaultBy, certificate_line, refutation_by, proposed_by, record_verdict, verdict}
 use Rattle.tcap_judge.specs.BlameOutcome.{AreFound, GivesBlame, GivesBlameWith, IsFound, ends_of, finding, finding_by, is_lawful, items_before, joint_record_verdict, record_ends}
 use Rattle.tcap_judge.proofs.BlamedLaws.{are_lawful, without_unheard}
 use Rattle.tcap_judge.proofs.LawfulLaws.{IsFoundBy, by_certificate, fine_fault, no_fault, spells_items, table_fault, table_text}
@@ -33,8 +33,8 @@ use Rattle.tcap_c.specs.declared.answer.Answer.{Answer}
 use Rattle.tcap_c.specs.InMemory.{AreRight, IsAtFaultIn, IsRight, MayBeSentBy, SaysBlamed, SaysChecked, SaysJudged, blame_answers, finding_answer, in_memory, no_answer, outcome_answer, refutation_answer}
 
 -- The octets read from a reader in memory up to its end are all its octets.
-told_all : (octets left told : List ℕ) → Consumes (Some octets) (Some left) told → IsAtEnd (Some left) → told ≡ octets
-told_all octets left told consumes at = sym (consumes ∙ ap (λ (x : List ℕ). told ++ x) at ∙ append-nil told)
+told_all : (octets left returned : List ℕ) → Consumes (Some octets) (Some left) returned → IsAtEnd (Some left) → returned ≡ octets
+told_all octets left returned consumes at = sym (consumes ∙ ap (λ (x : List ℕ). returned ++ x) at ∙ append-nil returned)
 
 -- The text is that of the table that was read.
 text_is : (text left : List ℕ) (operations : Table) → ReadsTable (in_memory text left) (Ok operations)
@@ -58,14 +58,14 @@ may_be_sent judged octets text left left_of_text operations outcome reads found 
 entries_may_be_sent : (judged : Option Side) (octets text left left_of_text : List ℕ) (operations : Table) (entries : List Entry)
     (end : Unit {0}) → ReadsTable (in_memory text left_of_text) (Ok operations)
     → ReadsRecord (in_memory octets left) entries (Ok end) → AreLawful judged operations entries → MayBeSentBy judged octets text
-entries_may_be_sent judged octets text left left_of_text operations entries end reads told (items, are, sent) =
-    let framed = subst (FramedFrom 0 entries told.told) told.is_read.ends told.is_read.framed in
+entries_may_be_sent judged octets text left left_of_text operations entries end reads returned (items, are, sent) =
+    let framed = subst (FramedFrom 0 entries returned.returned) returned.is_read.ends returned.is_read.framed in
     record {
       operations = operations;
       items = items;
       is_table = text_is text left_of_text operations reads;
-      spells = subst (SpellsRecord items) (told_all octets left told.told told.tells told.ended)
-          (spells_items 0 entries items told.told framed are);
+      spells = subst (SpellsRecord items) (told_all octets left returned.returned returned.tells returned.ended)
+          (spells_items 0 entries items returned.returned framed are);
       lawful = sent;
     }
 
@@ -73,14 +73,14 @@ is_at_fault : (judged : Option Side) (octets text left left_of_text : List ℕ) 
     (end : Unit {0}) (r : Refutation) (given : Answer) → ReadsTable (in_memory text left_of_text) (Ok operations)
     → ReadsRecord (in_memory octets left) entries (Ok end) → IsAtFaultBy judged operations entries r
     → given.entry ≡ r.entry → given.reason ≡ kind_number r.kind → IsAtFaultIn judged octets text given
-is_at_fault judged octets text left left_of_text operations entries end r given reads told at_fault entry_is kind_is =
+is_at_fault judged octets text left left_of_text operations entries end r given reads returned at_fault entry_is kind_is =
     record {
       operations = operations;
       read = entries;
       refutation = r;
       is_table = text_is text left_of_text operations reads;
-      is_read = subst (λ (o : List ℕ). IsReadAs entries (Ok end) o) (told_all octets left told.told told.tells told.ended)
-          told.is_read;
+      is_read = subst (λ (o : List ℕ). IsReadAs entries (Ok end) o) (told_all octets left returned.returned returned.tells returned.ended)
+          returned.is_read;
       at_fault = at_fault;
       entry_is = entry_is;
       kind_is = kind_is;
@@ -229,9 +229,9 @@ both_right rightly octets text outcome ends says = by says.given.0 says.given.1 
       behind = [];
       given = (Ok operations, reads, inl (is, refl));
     })
-    by (Ok operations) reads (inr told) =
-        told_right rightly octets text says.left says.left_of_text operations told.entries told.end outcome reads told.reads
-        told.says told.shown
+    by (Ok operations) reads (inr returned) =
+        told_right rightly octets text says.left says.left_of_text operations returned.entries returned.end outcome reads returned.reads
+        returned.says returned.shown
 
 -- If the finding is right, so is the answer on the end.
 end_right_of : (side : Side) (octets text : List ℕ) (said : Finding)
@@ -263,18 +263,18 @@ end_right : (side : Side) (octets text left left_of_text : List ℕ) (operations
     (end : Unit {0}) (said : Finding) → ReadsTable (in_memory text left_of_text) (Ok operations)
     → ReadsRecord (in_memory octets left) entries (Ok end) → said ≡ finding operations entries side
     → IsFound side operations entries said
-    → ((r : Refutation) → named_by (Some side) operations entries ≡ Some r → IsAtFaultBy (Some side) operations entries r)
+    → ((r : Refutation) → refutation_by (Some side) operations entries ≡ Some r → IsAtFaultBy (Some side) operations entries r)
     → IsRight (Some side) octets text (finding_answer said)
-end_right side octets text left left_of_text operations entries end said reads told is found rightly =
+end_right side octets text left left_of_text operations entries end said reads returned is found rightly =
     end_right_of side octets text said
     (λ count unheard lawful.
     let are : AreLawfulUnheard (Some side) operations entries unheard = subst (IsFound side operations entries) lawful found in
-    entries_may_be_sent (Some side) octets text left left_of_text operations entries end reads told
+    entries_may_be_sent (Some side) octets text left left_of_text operations entries end reads returned
     (are_lawful (Some side) operations entries unheard are))
     (λ r blamed.
     let refuted = named_by_finding (items_before (map item_of entries)) _ r (sym is ∙ blamed) in
-    is_at_fault (Some side) octets text left left_of_text operations entries end r (refutation_answer 5 r) reads told
-    (rightly r (by_refutation (Some side) (length entries) (named_by (Some side) operations entries)
+    is_at_fault (Some side) octets text left left_of_text operations entries end r (refutation_answer 5 r) reads returned
+    (rightly r (by_refutation (Some side) (length entries) (refutation_by (Some side) operations entries)
     (replayed_by (Some side) operations (proposed_by (Some side) entries) entries) r (sym refuted))) refl refl)
 
 -- The answers on both ends are right, if there are findings.
@@ -283,21 +283,21 @@ ends_right : (octets text left left_of_text : List ℕ) (operations : Table) (ou
     → GivesBlame operations (in_memory octets left) outcome (Some ends)
     → IsRight (Some sides.A) octets text (finding_answer ends.a) × IsRight (Some sides.B) octets text (finding_answer ends.b)
 ends_right octets text left left_of_text operations outcome ends reads (inl (is, none)) = cc
-ends_right octets text left left_of_text operations outcome ends reads (inr told) =
-    by told.end told.reads told.ends_are
+ends_right octets text left left_of_text operations outcome ends reads (inr returned) =
+    by returned.end returned.reads returned.ends_are
   where
-    by : (end : Result (Unit {0}) FeedFault) → ReadsRecord (in_memory octets left) told.entries end
-        → Some ends ≡ record_ends operations told.entries end
+    by : (end : Result (Unit {0}) FeedFault) → ReadsRecord (in_memory octets left) returned.entries end
+        → Some ends ≡ record_ends operations returned.entries end
         → IsRight (Some sides.A) octets text (finding_answer ends.a)
         × IsRight (Some sides.B) octets text (finding_answer ends.b)
     by (Err fault) read are = cc
     by (Ok end) read are =
-        let same : ends ≡ ends_of operations told.entries = cc in
-        let found : AreFound operations told.entries ends = told.found ends refl in (
-          end_right sides.A octets text left left_of_text operations told.entries end ends.a reads read
-              (ap (λ (x : Ends). x.a) same) found.a (told.at_fault sides.A),
-          end_right sides.B octets text left left_of_text operations told.entries end ends.b reads read
-              (ap (λ (x : Ends). x.b) same) found.b (told.at_fault sides.B),
+        let same : ends ≡ ends_of operations returned.entries = cc in
+        let found : AreFound operations returned.entries ends = returned.found ends refl in (
+          end_right sides.A octets text left left_of_text operations returned.entries end ends.a reads read
+              (ap (λ (x : Ends). x.a) same) found.a (returned.at_fault sides.A),
+          end_right sides.B octets text left left_of_text operations returned.entries end ends.b reads read
+              (ap (λ (x : Ends). x.b) same) found.b (returned.at_fault sides.B),
         )
 
 pub blamed_right : NamesRightly None → (octets text : List ℕ) (outcome : Outcome) (ends : Option Ends)

@@ -8,7 +8,7 @@ use Rattle.tcap_books.specs.BookText.{IsBookOf}
 use Rattle.tcap_traces.specs.declared.verdict.Verdict.{Verdict}
 use Rattle.tcap_traces.specs.Verdict.{status_of}
 use Rattle.tcap_c.specs.InMemory.{judged_by}
-use Rattle.tcap_c.specs.declared.options.Asked.{Asked}
+use Rattle.tcap_c.specs.declared.options.TestOptions.{TestOptions}
 use Rattle.tcap_c.specs.declared.options.Rules.{Rules}
 
 -- ---- numbers
@@ -24,7 +24,7 @@ abbrev pub flag_of : ℕ → Option Bool
 flag_of number = cond (nat_eq number 0) (Some false) (cond (nat_eq number 1) (Some true) None)
 
 -- the meaning of the options, or None if a number is unknown
-abbrev pub rules_of : Asked → Option Rules
+abbrev pub rules_of : TestOptions → Option Rules
 rules_of asked =
     option_and_then (λ (of : Option Side).
     option_and_then (λ (again : Reuse × Bool).
@@ -35,20 +35,20 @@ rules_of asked =
 -- ---- the results of calls
 
 -- The room after `octets` were copied to its front, as many as fit. The rest of the room is unchanged.
-abbrev pub laid : List ℕ → List ℕ → List ℕ
-laid octets room = take (length room) octets ++ drop (length octets) room
+abbrev pub copied_to_front : List ℕ → List ℕ → List ℕ
+copied_to_front octets room = take (length room) octets ++ drop (length octets) room
 
 -- Octets were copied to the room, `len` is the number of all of them, and the status is that of a verdict.
-pub record Tells (old new : List ℕ) (len status : ℕ) : Type 0 where
+pub record WritesReport (old new : List ℕ) (len status : ℕ) : Type 0 where
   pub octets : List ℕ
   pub verdict : Verdict
-  pub laid_is : new ≡ laid octets old
+  pub laid_is : new ≡ copied_to_front octets old
   pub len_is : len ≡ length octets
   pub status_is : status ≡ status_of verdict
 
 -- A call with an unknown number writes nothing and returns 4.
-abbrev pub TellsNothing : List ℕ → List ℕ → ℕ → ℕ → Type 0
-TellsNothing old new len status = (new ≡ old) × (len ≡ 0) × (status ≡ 4)
+abbrev pub WritesNothing : List ℕ → List ℕ → ℕ → ℕ → Type 0
+WritesNothing old new len status = (new ≡ old) × (len ≡ 0) × (status ≡ 4)
 
 -- The text is a table set, and each dialogue has at most one table in it: at most one table has no contexts, and no two
 -- share one.

@@ -5,22 +5,22 @@
 #![tactic(auto)]
 
 mod answer;
+mod caller_buffer;
 mod octets;
 mod options;
 mod outcomes;
-mod room;
 mod traces;
 
 ghost use Rattle.std.specs.Prelude.{◌≡◌, ◌≢◌, ◌<◌, length, Option, None, Some};
 ghost use Rattle.tcap_record.specs.declared.entry.End.{End as Side};
 ghost use Rattle.tcap_c.specs.InMemory.{AreRight, Gives, GivesBlame, IsRight, IsWrongCall, MayBeSentBy, SaysChecked, SaysJudged, judged_by};
-ghost use Rattle.tcap_c.specs.Traces.{IsClearBook, Tells, TellsNothing, rules_of};
+ghost use Rattle.tcap_c.specs.Traces.{IsClearBook, WritesReport, WritesNothing, rules_of};
 
-use crate::options::who_is;
+use crate::options::end_of_number;
 use crate::outcomes::{blamed, checked, judged};
 use crate::traces::test;
 pub use answer::{Answer, Answers};
-pub use options::Asked;
+pub use options::TestOptions;
 use std::alloc::Global;
 use tcap_record::End;
 
@@ -78,7 +78,7 @@ pub extern "C" fn tcapjudge_judge(
     ensures right { (who : Option Side) → judged_by end ≡ Some who → IsRight who octets.now table.now answer.new }
     ensures wrong { judged_by end ≡ None → IsWrongCall answer.new result }
 {
-    match who_is(end) {
+    match end_of_number(end) {
         Some(who) => judge(alloc, octets, table, who, answer),
         None => refuse(answer),
     }
@@ -103,7 +103,7 @@ pub extern "C" fn tcapjudge_check(
         → MayBeSentBy who octets.now table.now }
     ensures wrong { judged_by end ≡ None → IsWrongCall answer.new result }
 {
-    match who_is(end) {
+    match end_of_number(end) {
         Some(who) => check(alloc, octets, table, certificate, who, answer),
         None => refuse(answer),
     }
@@ -141,13 +141,13 @@ pub extern "C" fn tcapjudge_test(
     alloc: Global,
     trace: &[u8],
     book: &[u8],
-    asked: &Asked,
+    asked: &TestOptions,
     lines: &mut [u8],
     len: &mut usize,
 ) -> u8
-    ensures tells { rules_of asked.now ≢ None → Tells lines.old lines.new len.new result }
+    ensures tells { rules_of asked.now ≢ None → WritesReport lines.old lines.new len.new result }
     ensures book { rules_of asked.now ≢ None → result ≢ 3 → 0 < length book.now → IsClearBook book.now }
-    ensures wrong { rules_of asked.now ≡ None → TellsNothing lines.old lines.new len.new result }
+    ensures wrong { rules_of asked.now ≡ None → WritesNothing lines.old lines.new len.new result }
 {
     match asked.rules() {
         Some(rules) => test(alloc, trace, book, rules, lines, len),

@@ -10,7 +10,7 @@ use tcap_record::End;
 /// The options for a trace, as numbers. The header `clib/tcapjudge.h` explains them.
 #[repr(C)]
 #[derive(Clone, Copy, Debug, PartialEq, Eq)]
-pub struct Asked {
+pub struct TestOptions {
     /// The number of entries after which a dialogue that is over is judged.
     pub linger: u64,
     /// The judged end: 0 for both ends, or the octet `A` or `B`.
@@ -36,7 +36,7 @@ pub(crate) struct Rules {
 }
 
 /// Returns the judged end for a number: 0 for both ends, or the octet of an end. None if the number is unknown.
-pub(crate) fn who_is(number: u8) -> Option<Option<End>>
+pub(crate) fn end_of_number(number: u8) -> Option<Option<End>>
     ensures { result ≡ judged_by number }
 {
     match number {
@@ -70,12 +70,12 @@ fn flag_of(number: u8) -> Option<bool>
     }
 }
 
-impl Asked {
+impl TestOptions {
     /// Returns the meaning of the numbers, or None if one of them is unknown.
     pub(crate) fn rules(self) -> Option<Rules>
         ensures { result ≡ rules_of self }
     {
-        let of = who_is(self.of)?;
+        let of = end_of_number(self.of)?;
         let (reuse, settled) = reuse_of(self.ids, self.linger)?;
         let complete = flag_of(self.complete)?;
         Some(Rules {

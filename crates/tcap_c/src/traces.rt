@@ -4,15 +4,15 @@ ghost use Rattle.std.specs.Prelude.{◌≡◌, ◌≢◌, ◌<◌, length, Some,
 ghost use Rattle.tcap_traces.specs.declared.verdict.Verdict.TheVariants as Verdict;
 ghost use Rattle.tcap_traces.specs.Verdict.{status_of};
 ghost use Rattle.tcap_ber.specs.Device.{CountsFailure, Takes};
-ghost use Rattle.tcap_c.specs.Traces.{IsClearBook, Tells};
+ghost use Rattle.tcap_c.specs.Traces.{IsClearBook, WritesReport};
 
+use crate::caller_buffer::copy_to_front;
 use crate::octets::Octets;
 use crate::options::Rules;
-use crate::room::lay;
 use std::alloc::{AllocError, Global};
 use tcap_ber::{Counted, Failed, Write};
 use tcap_books::{AMBIGUOUS, Book, BookFault, CARRIED_BOOK, CLASH};
-use tcap_report::{Asked, Sinks, Stop, Sum, Watch, run_trace, tell_unread};
+use tcap_report::{Sinks, Stop, Sum, TraceOptions, Watch, report_unread, run_trace};
 use tcap_traces::Verdict;
 
 /// The name of the trace in each line.
@@ -30,9 +30,9 @@ type Lines = Counted<Vec<u8>>;
 
 /// A writer that drops all octets, and an observer that does nothing.
 #[derive(Drop)]
-struct Nobody;
+struct NoWatch;
 
-impl Write for Nobody {
+impl Write for NoWatch {
     ghost taken = { λ _. None };
 
     ghost failures = { λ _. 0 };
@@ -42,7 +42,7 @@ impl Write for Nobody {
     }
 }
 
-impl Watch for Nobody {
+impl Watch for NoWatch {
     fn look(&mut self, _sum: &Sum) {}
 }
 
@@ -76,12 +76,12 @@ fn book_of(alloc: Global, text: &[u8]) -> Result<Result<Book, String>, AllocErro
 fn write_lines(
     alloc: Global,
     trace: Result<&[u8], &str>,
-    asked: Asked,
+    asked: TraceOptions,
     lines: &mut Lines,
 ) -> Result<Verdict, Stop>
     ensures { IsErr trace.entry → IfOk result (λ verdict. verdict ≡ Verdict.Error) }
 {
-    let (mut text, mut watch, mut sum) = (Nobody, Nobody, Sum::new());
+    let (mut text, mut watch, mut sum) = (NoWatch, NoWatch, Sum::new());
     let mut sinks = Sinks {
         text: &mut text,
         json: Some(lines),
@@ -93,21 +93,21 @@ fn write_lines(
     match trace {
         Ok(octets) => run_trace(alloc, &mut Octets::new(octets), asked, &mut sinks),
         Err(why) => {
-            tell_unread(alloc, asked, why, &mut sinks)?;
+            report_unread(alloc, asked, why, &mut sinks)?;
             Ok(Verdict::Error)
         }
     }
 }
 
 /// Returns the options for a trace, with the tables of `book`.
-fn asked_by(rules: Rules, book: &Book) -> Asked<'_>
+fn asked_by(rules: Rules, book: &Book) -> TraceOptions<'_>
     ensures of { result.of ≡ rules.of }
     ensures reuse { result.reuse ≡ rules.reuse }
     ensures settled { result.settled ≡ rules.settled }
     ensures complete { result.complete ≡ rules.complete }
     ensures book { result.book.now ≡ book.now }
 {
-    Asked {
+    TraceOptions {
         name: NAME,
         of: rules.of,
         reuse: rules.reuse,
@@ -149,16 +149,16 @@ pub(crate) fn test(
     room: &mut [u8],
     len: &mut usize,
 ) -> u8
-    ensures tells { Tells room.old room.new len.new result }
+    ensures tells { WritesReport room.old room.new len.new result }
     ensures book { result ≢ 3 → 0 < length book.now → IsClearBook book.now }
 {
     match lines_of(alloc, trace, book, rules) {
         Ok((lines, verdict)) => {
-            lay(&lines, room, len);
+            copy_to_front(&lines, room, len);
             verdict.status()
         }
         Err(_) => {
-            lay(NO_MEMORY.as_bytes(), room, len);
+            copy_to_front(NO_MEMORY.as_bytes(), room, len);
             Verdict::Error.status()
         }
     }

@@ -13,7 +13,7 @@ use Rattle.tcap_end.specs.declared.half.HalfName.TheVariants as names
 use Rattle.tcap_record.specs.Ends.{other}
 use Rattle.tcap_model.specs.World.{Item, Sent, has_quiet, is_side}
 use Rattle.tcap_model.specs.SinceMark.{originating}
-use Rattle.tcap_model.specs.Run.{Event, Sends, Receives, Replies, Loses, Expires, Closes, Quiet, Tells, then_so, where_so}
+use Rattle.tcap_model.specs.Run.{Event, Sends, Receives, Replies, Loses, Expires, Closes, Quiet, Tells, option_then, only_if}
 use Rattle.tcap_certificate.specs.declared.certificate.Closing.{Closing}
 use Rattle.tcap_certificate.specs.declared.certificate.Expiry.{Expiry}
 use Rattle.tcap_certificate.specs.declared.certificate.Fate.{Fate}
@@ -26,7 +26,7 @@ use Rattle.tcap_certificate.specs.Certificate.{Certificate}
 -- no quiet mark between
 abbrev pub named_entry : List Item → ℕ → ℕ → Option Item
 named_entry items gap entry = cond (has_quiet (drop entry (take gap items))) None
-    (where_so (nat_lt entry gap) (slice_get items entry))
+    (only_if (nat_lt entry gap) (slice_get items entry))
 
 -- The half that an end has in the transaction of a Begin with this originating ID. The sender of the Begin identifies
 -- it by its own ID, the other end by its peer's ID. A half that knows both IDs has two names (`HalfNames`); this name
@@ -41,7 +41,7 @@ closing_by c _ = None
 
 -- the event of a listed closing, or None
 abbrev pub closing_event : List Item → Closing → Option Event
-closing_event items c = then_so (named_entry items c.gap c.entry) (closing_by c)
+closing_event items c = option_then (named_entry items c.gap c.entry) (closing_by c)
 
 -- the invoke ID of an Invoke
 abbrev pub invoke_id : Component → Option ℤ
@@ -52,15 +52,15 @@ invoke_id _ = None
 -- component an Invoke
 abbrev pub expiry_by : Expiry → Item → Option Event
 expiry_by x (Sent sender message) =
-    where_so (is_side x.side sender)
-    (then_so (originating message)
-    (λ otid. then_so (then_so (slice_get (components_in message) x.component) invoke_id)
+    only_if (is_side x.side sender)
+    (option_then (originating message)
+    (λ otid. option_then (option_then (slice_get (components_in message) x.component) invoke_id)
     (λ id. Some (Expires x.side (names.Own otid) id))))
 expiry_by x Item.Quiet = None
 
 -- the event of a listed expiry, or None
 abbrev pub expiry_event : List Item → Expiry → Option Event
-expiry_event items x = then_so (named_entry items x.gap x.entry) (expiry_by x)
+expiry_event items x = option_then (named_entry items x.gap x.entry) (expiry_by x)
 
 -- ---- gaps
 
@@ -90,7 +90,7 @@ taken_by reply n (_ ∷ fates) = taken_by reply (n + 1) fates
 
 -- the quiet mark with this number, or None unless its fate is the next gap
 abbrev pub quiet_by : ℕ → Option Fate → Option Event
-quiet_by number (Some (Gap g)) = where_so (g == number + 1) (Some Quiet)
+quiet_by number (Some (Gap g)) = only_if (g == number + 1) (Some Quiet)
 quiet_by number _ = None
 
 -- The event that sends the item with this number, which takes these messages, or None. An Abort with a cause is a

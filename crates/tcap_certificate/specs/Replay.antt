@@ -26,7 +26,7 @@ use Rattle.tcap_certificate.specs.declared.fault.CheckFault.{CheckFault}
 use Rattle.tcap_model.specs.declared.reason.Reason.{Reason}
 use Rattle.tcap_model.specs.declared.reason.Reason.TheVariants.{FateCount, FateRange, OutOfOrder, BadReply, SendRefused, HiddenRefused, NotQuiet}
 use Rattle.tcap_record.specs.Ends.{other}
-use Rattle.tcap_model.specs.World.{Item, OnItsWay, Sent, World, channel_from, empty, end_at, is_side, with_channel, with_end}
+use Rattle.tcap_model.specs.World.{Item, MessageInTransit, Sent, World, channel_from, empty, end_at, is_side, with_channel, with_end}
 use Rattle.tcap_model.specs.Run.{Event, Sends, Receives, Replies, Loses, Expires, Closes, Quiet, Tells, after, joined, numbers_of}
 use Rattle.tcap_certificate.specs.declared.certificate.Closing.{Closing}
 use Rattle.tcap_certificate.specs.declared.certificate.Expiry.{Expiry}
@@ -88,9 +88,9 @@ is_judged None side = true
 is_judged (Some judged) side = is_side judged side
 
 -- whether a judged end receives the messages of this sender
-abbrev pub is_heard : Option Side → Side → Bool
-is_heard None sender = true
-is_heard (Some judged) sender = is_side (other judged) sender
+abbrev pub is_received_from : Option Side → Side → Bool
+is_received_from None sender = true
+is_received_from (Some judged) sender = is_side (other judged) sender
 
 -- ---- steps
 
@@ -123,7 +123,7 @@ if_lost (Some Lost) numbers = numbers
 if_lost _ numbers = []
 
 -- the lost messages at the front of a channel
-abbrev pub lost_front : List Fate → List OnItsWay → List ℕ
+abbrev pub lost_front : List Fate → List MessageInTransit → List ℕ
 lost_front fates [] = []
 lost_front fates (first ∷ more) = if_lost (slice_get fates first.number) (first.number ∷ lost_front fates more)
 
@@ -152,8 +152,8 @@ lost_before c Quiet r = lost_from_both c r
 lost_before c _ r = r
 
 -- the replay after an event and the losses before it, or this reason at this entry if the event cannot happen
-abbrev pub happens : Table → Certificate → Event → Reason → ℕ → Replay → Result Replay CheckFault
-happens table c event reason entry r = ok_or (stepped table event (lost_before c event r)) (fault_at reason entry)
+abbrev pub after_event : Table → Certificate → Event → Reason → ℕ → Replay → Result Replay CheckFault
+after_event table c event reason entry r = ok_or (stepped table event (lost_before c event r)) (fault_at reason entry)
 
 -- ---- a gap
 
@@ -162,7 +162,7 @@ abbrev pub closings_replayed : Table → Certificate → List Closing → Replay
 closings_replayed table c [] r = Ok r
 closings_replayed table c (x ∷ more) r = do
   event ← ok_or (closing_event r.world.sent x) (fault_at FateRange x.entry)
-  next ← happens table c event (HiddenRefused faults.CannotClose) x.entry r
+  next ← after_event table c event (HiddenRefused faults.CannotClose) x.entry r
   closings_replayed table c more next
 
 -- the replay after these expiries, in order
@@ -170,18 +170,18 @@ abbrev pub expiries_replayed : Table → Certificate → List Expiry → Replay 
 expiries_replayed table c [] r = Ok r
 expiries_replayed table c (x ∷ more) r = do
   event ← ok_or (expiry_event r.world.sent x) (fault_at FateRange x.entry)
-  next ← happens table c event (HiddenRefused faults.CannotExpire) x.entry r
+  next ← after_event table c event (HiddenRefused faults.CannotExpire) x.entry r
   expiries_replayed table c more next
 
 -- the reason why an end cannot receive a message, if it cannot
-abbrev pub why_not : Result End EndFault → List EndFault
-why_not (Ok e) = []
-why_not (Err reason) = reason ∷ []
+abbrev pub receive_refusal : Result End EndFault → List EndFault
+receive_refusal (Ok e) = []
+receive_refusal (Err reason) = reason ∷ []
 
 -- the reason why an end cannot receive the first of these messages, if it cannot
-abbrev pub why_not_first : Table → End → List OnItsWay → List EndFault
-why_not_first table e [] = []
-why_not_first table e (first ∷ more) = why_not (receive table e first.message)
+abbrev pub first_receive_refusal : Table → End → List MessageInTransit → List EndFault
+first_receive_refusal table e [] = []
+first_receive_refusal table e (first ∷ more) = receive_refusal (receive table e first.message)
 
 -- the replay with more discards
 abbrev pub with_discards : List (ℕ × EndFault) → Replay → Replay
@@ -190,12 +190,13 @@ with_discards more r = record r { discards = r.discards ++ more }
 -- The replay after a discard: the end cannot receive the peer's message with this number, so the message is lost.
 abbrev pub discarded : Table → Side → ℕ → Replay → Option Replay
 discarded table side number r = option_map
-    (with_discards (map (λ reason. (number, reason)) (why_not_first table (end_at side r.world) (channel_from (other side) r.world))))
+    (with_discards (map (λ reason. (number, reason))
+    (first_receive_refusal table (end_at side r.world) (channel_from (other side) r.world))))
     (stepped table (Loses (other side) number) r)
 
 -- the replay after the end receives the message, or discards it if it cannot receive it
-abbrev pub heard : Table → Certificate → Side → ℕ → Replay → Result Replay CheckFault
-heard table c side number r = by (lost_from_front c (other side) r)
+abbrev pub delivered : Table → Certificate → Side → ℕ → Replay → Result Replay CheckFault
+delivered table c side number r = by (lost_from_front c (other side) r)
   where
     by : Replay → Result Replay CheckFault
     by before = ok_or
@@ -210,8 +211,8 @@ is_due (Some judged) gap g sender = (g == gap) && is_side (other judged) sender
 -- The replay after a delivery. An end that is judged alone discards a message that it cannot receive, since its peer
 -- may send anything. If both ends are judged, this is an error.
 abbrev pub received : Option Side → Table → Certificate → Side → ℕ → Replay → Result Replay CheckFault
-received None table c sender number r = happens table c (Receives (other sender) number) BadReply number r
-received (Some judged) table c sender number r = heard table c judged number r
+received None table c sender number r = after_event table c (Receives (other sender) number) BadReply number r
+received (Some judged) table c sender number r = delivered table c judged number r
 
 -- the replay after the message with this number is delivered, if its fate is this gap
 abbrev pub delivery_by : Option Side → Table → Certificate → ℕ → ℕ → Fate → Item → Replay → Result Replay CheckFault
@@ -298,7 +299,7 @@ is_abort abort _ = false
 -- answer is this Abort
 abbrev pub reply_replayed : Table → Certificate → Side → Message → ℕ → Replay → Result Replay CheckFault
 reply_replayed table c side abort number r = do
-  next ← happens table c (Replies side number) BadReply (next_entry r) r
+  next ← after_event table c (Replies side number) BadReply (next_entry r) r
   needs (is_abort abort (slice_get next.world.sent (next_entry r))) (fault_at BadReply (next_entry r))
   Ok next
 
@@ -348,9 +349,9 @@ abbrev pub all_lost_from : Side → Replay → Replay
 all_lost_from side r = losing side (numbers_of (channel_from side r.world)) r
 
 -- If one end is judged alone, the message that it just sent is lost at once.
-abbrev pub behind_sending : Option Side → Result Replay CheckFault → Result Replay CheckFault
-behind_sending None sent = sent
-behind_sending (Some judged) sent = sent >>= λ next. Ok (all_lost_from judged next)
+abbrev pub after_sending : Option Side → Result Replay CheckFault → Result Replay CheckFault
+after_sending None sent = sent
+after_sending (Some judged) sent = sent >>= λ next. Ok (all_lost_from judged next)
 
 -- the replay after a message from a judged end, or from its provider
 abbrev pub own_message : Option Side → Table → Certificate → Side → Message → Replay → Result Replay CheckFault
@@ -362,12 +363,12 @@ abbrev pub own_judged : Option Side → Table → Certificate → Fate → Side 
 own_judged judged table c fate side message r = do
   comes_in_order judged side fate c r
   behind ← gap_by judged table c r
-  behind_sending judged (own_message judged table c side message behind)
+  after_sending judged (own_message judged table c side message behind)
 
 -- The replay after a message from the peer of an end that is judged alone, and the gap before it. The message may not
 -- overtake an earlier one of the peer, and takes no message.
-abbrev pub told_replayed : Table → Certificate → Fate → Side → Message → Replay → Result Replay CheckFault
-told_replayed table c fate judged message r = do
+abbrev pub peer_replayed : Table → Certificate → Fate → Side → Message → Replay → Result Replay CheckFault
+peer_replayed table c fate judged message r = do
   needs (not (is_overtaking (other judged) fate c.fates r.world.sent)) (fault_at OutOfOrder (next_entry r))
   behind ← gap_by (Some judged) table c r
   needs (is_nothing (tied (Some judged) c r)) (fault_at BadReply (next_entry r))
@@ -378,7 +379,7 @@ told_replayed table c fate judged message r = do
 abbrev pub message_judged : Option Side → Table → Certificate → Fate → Side → Message → Replay → Result Replay CheckFault
 message_judged None table c fate sender message r = own_judged None table c fate sender message r
 message_judged (Some judged) table c fate sender message r = cond (is_side judged sender)
-    (own_judged (Some judged) table c fate judged message r) (told_replayed table c fate judged message r)
+    (own_judged (Some judged) table c fate judged message r) (peer_replayed table c fate judged message r)
 
 -- The replay after these halves close before a quiet mark. A half that may not close is still open at the mark.
 abbrev pub closed_at_mark : Table → Side → ℕ → List HalfName → Replay → Result Replay CheckFault

@@ -66,13 +66,13 @@ abbrev pub three_begins : List Item
 three_begins = Sent A (begin None None) ∷ Sent A (Begin (id 3) None None) ∷ Sent A (Begin (id 4) None None) ∷ []
 
 -- an active half closes, which is lawful only with prearranged end
-abbrev pub closed_unseen : List Item
-closed_unseen = Sent A (begin None None) ∷ Sent B (answer None None) ∷ Sent B (answer None None)
+abbrev pub closed_internal : List Item
+closed_internal = Sent A (begin None None) ∷ Sent B (answer None None) ∷ Sent B (answer None None)
     ∷ Sent A (provider_abort (id 2) 1) ∷ []
 
 -- a certificate in which A's active half closes
-abbrev pub closes_unseen : Certificate
-closes_unseen = closing 3 A 0 (by_fates (Gap 1 ∷ Gap 2 ∷ By 3 ∷ Gap 4 ∷ []))
+abbrev pub closes_internal : Certificate
+closes_internal = closing 3 A 0 (by_fates (Gap 1 ∷ Gap 2 ∷ By 3 ∷ Gap 4 ∷ []))
 
 -- two Continues cross an End, and there is one Abort in answer
 abbrev pub two_cross : List Item

@@ -13,7 +13,7 @@ ghost use Rattle.tcap_model.specs.declared.reason.Reason.TheVariants.{FateCount,
 ghost use Rattle.tcap_certificate.specs.declared.certificate.Fate.TheVariants.{Gap, Lost, By};
 ghost use Rattle.tcap_certificate.specs.WorkedRuns as worked;
 ghost use Rattle.tcap_certificate.specs.WorkedRuns.{by_fates};
-ghost use Rattle.tcap_certificate.specs.WorkedReplays.{Gives, IsReplayed, Refuses, RefusesEntry, bad_entry, by_two, closed_unseen, closes_unseen, closing, dialogue_and_mark, expires_one, expiring, fault, links_to, three_begins, two_cross, two_invocations};
+ghost use Rattle.tcap_certificate.specs.WorkedReplays.{Gives, IsReplayed, Refuses, RefusesEntry, bad_entry, by_two, closed_internal, closes_internal, closing, dialogue_and_mark, expires_one, expiring, fault, links_to, three_begins, two_cross, two_invocations};
 
 /// Shows that the certificates of the worked runs give these runs, step by step.
 pub fn worked_runs()
@@ -128,9 +128,9 @@ pub fn order()
     ensures closed { Refuses table (by_fates (Gap 1 ∷ Gap 2 ∷ Gap 4 ∷ Gap 4 ∷ Gap 5 ∷ [])) worked.crossing.items
         BadReply 3 }
     // An active half may not close without prearranged end.
-    ensures closes_without_leave { Refuses table closes_unseen closed_unseen (HiddenRefused faults.CannotClose) 0 }
+    ensures closes_without_leave { Refuses table closes_internal closed_internal (HiddenRefused faults.CannotClose) 0 }
     // An active half may close with prearranged end.
-    ensures closes_with_leave { Gives prearranged closes_unseen closed_unseen 8 }
+    ensures closes_with_leave { Gives prearranged closes_internal closed_internal 8 }
 {}
 
 /// Shows which messages a provider may answer, and how.

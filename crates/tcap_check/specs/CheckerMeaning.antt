@@ -19,15 +19,15 @@ use Rattle.tcap_check.specs.declared.progress.Waiting.{Waiting}
 use Rattle.tcap_check.specs.declared.checker.Report.{Report}
 use Rattle.tcap_record.specs.Ends.{other}
 use Rattle.tcap_model.specs.Run.{Event}
-use Rattle.tcap_model.specs.World.{Item, OnItsWay, Sent, channel_from, end_at, is_side}
+use Rattle.tcap_model.specs.World.{Item, MessageInTransit, Sent, channel_from, end_at, is_side}
 use Rattle.tcap_certificate.specs.Certificate.{Certificate}
 use Rattle.tcap_certificate.specs.DescribedRun.{taken_by}
-use Rattle.tcap_check.specs.ReplaySteps.{gap_kept, mark_taken, message_taken, told_among}
+use Rattle.tcap_check.specs.ReplaySteps.{gap_kept, mark_taken, message_taken, sent_among}
 use Rattle.tcap_check.specs.EntryOutlines.{is_named, outline_of, outlines_from, since_from}
 pub use Rattle.tcap_check.specs.Progress.{map_ok}
 use Rattle.tcap_check.specs.Progress.{count_kept, greater, last_lost, overtakes, seat_at, time_or_zero}
-use Rattle.tcap_certificate.specs.Replay.{Replay, certificate_fits, entry_by, fault_at, gap_by, is_gap, is_heard, next_entry, nothing_replayed, refused}
-use Rattle.tcap_check.specs.ReportedSteps.{told_if}
+use Rattle.tcap_certificate.specs.Replay.{Replay, certificate_fits, entry_by, fault_at, gap_by, is_gap, is_received_from, next_entry, nothing_replayed, refused}
+use Rattle.tcap_check.specs.ReportedSteps.{listed_run_if}
 use Rattle.tcap_certificate.specs.LossCounts.{steps_of, unheard_of}
 
 -- ---- the replay of entries, one by one
@@ -55,7 +55,7 @@ ended judged table c r =
 
 -- What a checker keeps: the progress of both ends, an outline of each entry, and the number of the entry after the last
 -- quiet mark.
-pub record Kept : Type 0 where
+pub record ReplayState : Type 0 where
   pub progress : Progress
   pub entries : List Outline
   pub since : ℕ
@@ -70,12 +70,12 @@ abbrev pub fate_of : Option Side → Side → Option Fate → Option Fate
 fate_of judged side fate = cond (is_alone judged side) (Some Lost) fate
 
 -- what is kept of a message on its way; of one that will be lost only its number
-abbrev pub kept_by : Option Fate → OnItsWay → Waiting
+abbrev pub kept_by : Option Fate → MessageInTransit → Waiting
 kept_by (Some Lost) m = record { number = m.number; message = None }
 kept_by fate m = record { number = m.number; message = Some m.message }
 
 -- what is kept of the messages on their way from an end, oldest first
-abbrev pub waiting_at : Option Side → Side → List Fate → List OnItsWay → List Waiting
+abbrev pub waiting_at : Option Side → Side → List Fate → List MessageInTransit → List Waiting
 waiting_at judged side fates channel = map (λ m. kept_by (fate_of judged side (slice_get fates m.number)) m) channel
 
 -- the latest time of a message from this end, or 0; the first of these fates is that of the first item
@@ -109,11 +109,11 @@ progress_of listed judged c r = record {
   b = seat_of judged c sides.B r;
   moves = (reported judged r.events).moves;
   unheard = (reported judged r.events).unheard;
-  steps = told_if listed r.events r.discards;
+  steps = listed_run_if listed r.events r.discards;
 }
 
 -- what is kept of a replay
-abbrev pub kept_of : Bool → Option Side → Certificate → Replay → Kept
+abbrev pub kept_of : Bool → Option Side → Certificate → Replay → ReplayState
 kept_of listed judged c r = record {
   progress = progress_of listed judged c r;
   entries = outlines_from c 0 r.world.sent;
@@ -124,14 +124,14 @@ kept_of listed judged c r = record {
 
 -- The judged ends, the table, the certificate, and what is kept of the replay, or the first fault: the reason for the
 -- refusal, or that memory ran out.
-pub record Checking : Type 0 where
+pub record CheckerState : Type 0 where
   pub judged : Option Side
   pub table : Table
   pub certificate : Certificate
-  pub so_far : Result Kept CheckFault
+  pub so_far : Result ReplayState CheckFault
 
 -- what is kept, or the fault if there is one
-abbrev pub so_far_of : Option CheckFault → Kept → Result Kept CheckFault
+abbrev pub so_far_of : Option CheckFault → ReplayState → Result ReplayState CheckFault
 so_far_of None k = Ok k
 so_far_of (Some fault) k = Err fault
 
@@ -146,18 +146,18 @@ reading side (Ok message) = Ok (Sent side message)
 reading side (Err fault) = Err (BadMessage fault)
 
 -- The checker took these entries: it implements their replay, and lists the steps if `listed` is true.
-abbrev pub TookListed : Bool → Checking → List (Result Item Reason) → Type 0
-TookListed listed checking entries = checking.so_far ≡ map_ok (kept_of listed checking.judged checking.certificate)
+abbrev pub HasTakenListing : Bool → CheckerState → List (Result Item Reason) → Type 0
+HasTakenListing listed checking entries = checking.so_far ≡ map_ok (kept_of listed checking.judged checking.certificate)
     (taken checking.judged checking.table checking.certificate entries)
 
 -- The checker took these entries and lists no steps.
-abbrev pub Took : Checking → List (Result Item Reason) → Type 0
-Took = TookListed false
+abbrev pub HasTaken : CheckerState → List (Result Item Reason) → Type 0
+HasTaken = HasTakenListing false
 
 -- ---- its steps, over what is kept
 
 -- what is kept after one more entry, with this progress
-abbrev pub kept_with : Certificate → Item → Kept → Progress → Kept
+abbrev pub kept_with : Certificate → Item → ReplayState → Progress → ReplayState
 kept_with c item k p = record {
   progress = p;
   entries = k.entries ++ outline_of (is_named c (length k.entries)) item ∷ [];
@@ -165,16 +165,16 @@ kept_with c item k p = record {
 }
 
 -- the progress after the gap before the next entry
-abbrev pub gap_before : Option Side → Table → Certificate → Kept → Result Progress CheckFault
+abbrev pub gap_before : Option Side → Table → Certificate → ReplayState → Result Progress CheckFault
 gap_before judged table c k = gap_kept judged table c k.entries k.since k.progress
 
 -- the messages that the next entry takes; if one end is judged alone, only its peer's messages count
-abbrev pub tied_now : Option Side → Certificate → Kept → List ℕ
+abbrev pub tied_now : Option Side → Certificate → ReplayState → List ℕ
 tied_now None c k = taken_by (length k.entries) 0 c.fates
-tied_now (Some judged) c k = told_among (other judged) k.entries (taken_by (length k.entries) 0 c.fates)
+tied_now (Some judged) c k = sent_among (other judged) k.entries (taken_by (length k.entries) 0 c.fates)
 
 -- the progress after the next entry, with this fate, and the gap before it
-abbrev pub item_kept : Option Side → Table → Certificate → Fate → Item → Kept → Result Progress CheckFault
+abbrev pub item_kept : Option Side → Table → Certificate → Fate → Item → ReplayState → Result Progress CheckFault
 item_kept judged table c fate (Sent side message) k =
     needs (is_alone judged side || not (overtakes fate (seat_at side k.progress))) (fault_at OutOfOrder (length k.entries))
     >> gap_before judged table c k
@@ -185,18 +185,20 @@ item_kept judged table c fate Item.Quiet k =
     >>= mark_taken judged table (length k.entries) (tied_now judged c k)
 
 -- what is kept after the next entry, with this fate, if the entry is an item
-abbrev pub entry_kept : Option Side → Table → Certificate → Fate → Result Item Reason → Kept → Result Kept CheckFault
+abbrev pub entry_kept : Option Side → Table → Certificate → Fate → Result Item Reason → ReplayState
+    → Result ReplayState CheckFault
 entry_kept judged table c fate (Ok item) k = map_ok (kept_with c item k) (item_kept judged table c fate item k)
 entry_kept judged table c fate (Err reason) k = refused reason (length k.entries)
 
 -- what is kept after the next entry
-abbrev pub kept_next : Option Side → Table → Certificate → Result Item Reason → Kept → Result Kept CheckFault
+abbrev pub kept_next : Option Side → Table → Certificate → Result Item Reason → ReplayState
+    → Result ReplayState CheckFault
 kept_next judged table c entry k =
     ok_or (slice_get c.fates (length k.entries)) (fault_at FateCount (length k.entries))
     >>= λ fate. entry_kept judged table c fate entry k
 
 -- the progress after the last gap, and after the losses of messages still on their way
-abbrev pub kept_ended : Option Side → Table → Certificate → Kept → Result Progress CheckFault
+abbrev pub kept_ended : Option Side → Table → Certificate → ReplayState → Result Progress CheckFault
 kept_ended judged table c k = do
   needs (length k.entries == length c.fates) (fault_at FateCount (length k.entries))
   behind ← gap_before judged table c k
@@ -223,6 +225,7 @@ is_ahead count Lost = false
 -- entries. The first of these fates is that of the first entry.
 abbrev pub count_ahead : Option Side → ℕ → List Fate → List (Result Item Reason) → ℕ
 count_ahead judged count (fate ∷ fates) (Ok (Sent side message) ∷ entries) =
-    cond (is_heard judged side && is_ahead count fate) (count_ahead judged count fates entries + 1) (count_ahead judged count fates entries)
+    cond (is_received_from judged side && is_ahead count fate) (count_ahead judged count fates entries + 1)
+    (count_ahead judged count fates entries)
 count_ahead judged count (fate ∷ fates) (entry ∷ entries) = count_ahead judged count fates entries
 count_ahead judged count _ _ = 0

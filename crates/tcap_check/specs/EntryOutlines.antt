@@ -8,8 +8,8 @@ use Rattle.tcap_msg.specs.Parts.{components_in}
 use Rattle.tcap_end.specs.declared.half.HalfName.{HalfName}
 use Rattle.tcap_end.specs.declared.half.HalfName.TheVariants as names
 use Rattle.tcap_model.specs.World.{Item, Sent, is_side}
-use Rattle.tcap_model.specs.Run.{then_so, where_so}
-use Rattle.tcap_check.specs.NamedMessage.{Noted}
+use Rattle.tcap_model.specs.Run.{option_then, only_if}
+use Rattle.tcap_check.specs.NamedMessage.{MessageNote}
 use Rattle.tcap_certificate.specs.declared.certificate.Closing.{Closing}
 use Rattle.tcap_certificate.specs.declared.certificate.Expiry.{Expiry}
 use Rattle.tcap_check.specs.declared.outline.Outline.{Outline}
@@ -24,7 +24,7 @@ begins (Begin otid dialogue components) = true
 begins _ = false
 
 -- what a listed event may name of a message that has an originating ID
-abbrev pub note_of : Message → Option Noted
+abbrev pub note_of : Message → Option MessageNote
 note_of message = option_map
     (λ otid. record { begins = begins message; otid = otid; invokes = map invoke_id (components_in message) })
     (originating message)
@@ -57,20 +57,20 @@ outline_named entries since entry = cond (nat_lt entry since) None (slice_get en
 
 -- the half that a closing closes, if the closing names this entry
 abbrev pub half_closed_by : Closing → Outline → Option HalfName
-half_closed_by x (outlines.Sent sender (Some note)) = where_so note.begins (Some (half_begun x.side sender note.otid))
+half_closed_by x (outlines.Sent sender (Some note)) = only_if note.begins (Some (half_begun x.side sender note.otid))
 half_closed_by x _ = None
 
 -- the half that a closing closes, found among the entries that were taken
 abbrev pub half_closed : List Outline → ℕ → Closing → Option HalfName
-half_closed entries since x = then_so (outline_named entries since x.entry) (half_closed_by x)
+half_closed entries since x = option_then (outline_named entries since x.entry) (half_closed_by x)
 
 -- the invocation that an expiry ends, if the expiry names this entry: its half, by its own ID, and its invoke ID
 abbrev pub invocation_ended_by : Expiry → Outline → Option (HalfName × ℤ)
 invocation_ended_by x (outlines.Sent sender (Some note)) =
-    where_so (is_side x.side sender)
-    (then_so (then_so (slice_get note.invokes x.component) (λ id. id)) (λ id. Some (names.Own note.otid, id)))
+    only_if (is_side x.side sender)
+    (option_then (option_then (slice_get note.invokes x.component) (λ id. id)) (λ id. Some (names.Own note.otid, id)))
 invocation_ended_by x _ = None
 
 -- the invocation that an expiry ends, found among the entries that were taken
 abbrev pub invocation_ended : List Outline → ℕ → Expiry → Option (HalfName × ℤ)
-invocation_ended entries since x = then_so (outline_named entries since x.entry) (invocation_ended_by x)
+invocation_ended entries since x = option_then (outline_named entries since x.entry) (invocation_ended_by x)

@@ -9,8 +9,8 @@ use Rattle.tcap_end.specs.declared.half.HalfName.{HalfName}
 use Rattle.tcap_end.specs.declared.own_invocations.OwnInvocation.{OwnInvocation}
 use Rattle.tcap_end.specs.Component.{own_invocation}
 use Rattle.tcap_end.specs.declared.fault.EndFault.{EndFault}
-use Rattle.tcap_end.specs.HiddenSteps.{quiet_unseen}
-use Rattle.tcap_end.specs.End.{End, KeptHalf, named, quiet}
+use Rattle.tcap_end.specs.HiddenSteps.{quiet_after_closings}
+use Rattle.tcap_end.specs.End.{End, KeyedHalf, named, quiet}
 use Rattle.tcap_end.specs.Table.{Table}
 use Rattle.tcap_certificate.specs.declared.certificate.Closing.{Closing}
 use Rattle.tcap_certificate.specs.declared.certificate.Expiry.{Expiry}
@@ -25,8 +25,8 @@ use Rattle.tcap_model.specs.Run.{BothKeepRules, Event, IsLawful, IsLawfulFor, Is
 use Rattle.tcap_certificate.specs.Certificate.{Certificate}
 use Rattle.tcap_model.specs.Entries.{AreItems, IsItem, count_components, item_of}
 use Rattle.tcap_certificate.specs.DescribedRun.{Follows, FollowsFrom, closing_event, expiry_event, without_losses}
-use Rattle.tcap_check.specs.CheckerMeaning.{Checking, Took, taken}
-use Rattle.tcap_certificate.specs.Replay.{Replay, fate_fits, fault_at, gap_by, is_heard, is_judged, is_later, replayed_by, time_of}
+use Rattle.tcap_check.specs.CheckerMeaning.{CheckerState, HasTaken, taken}
+use Rattle.tcap_certificate.specs.Replay.{Replay, fate_fits, fault_at, gap_by, is_received_from, is_judged, is_later, replayed_by, time_of}
 use Rattle.tcap_certificate.specs.LossCounts.{IsLawfulUnheard}
 
 -- ---- a run
@@ -60,19 +60,19 @@ DeliversAtOnce table events = (before behind : List Event) (w : World) → event
     → (w.from_a ≡ []) × (w.from_b ≡ [])
 
 -- The event is visible: no loss, expiry or closing, and no message of an end that keeps no rules.
-abbrev pub IsSeen : Event → Type 0
-IsSeen (Loses side number) = ⊥
-IsSeen (Expires side name id) = ⊥
-IsSeen (Closes side name) = ⊥
-IsSeen (Tells side message) = ⊥
-IsSeen _ = Unit {0}
+abbrev pub IsVisible : Event → Type 0
+IsVisible (Loses side number) = ⊥
+IsVisible (Expires side name id) = ⊥
+IsVisible (Closes side name) = ⊥
+IsVisible (Tells side message) = ⊥
+IsVisible _ = Unit {0}
 
 -- ---- implied expiries
 
 -- This invoke ID is in use by an own invocation on this half.
 abbrev pub IsInUse : End → HalfName → ℤ → Type 0
 IsInUse e name id =
-    (kept : KeptHalf) × (own : OwnInvocation) × (named e name ≡ Some kept) × (own_invocation kept.half id ≡ Some own)
+    (kept : KeyedHalf) × (own : OwnInvocation) × (named e name ≡ Some kept) × (own_invocation kept.half id ≡ Some own)
 
 -- ---- reasons
 
@@ -112,7 +112,8 @@ IsOutOfRange judged c entries number =
 -- receives its messages.
 abbrev pub IsBeforeEarlier : Option Side → Certificate → List Entry → ℕ → Type 0
 IsBeforeEarlier judged c entries number =
-    (side : Side) × (message before : Message) × (earlier : ℕ) × (fate later : Fate) × (is_heard judged side ≡ true)
+    (side : Side) × (message before : Message) × (earlier : ℕ) × (fate later : Fate)
+    × (is_received_from judged side ≡ true)
     × IsAt entries number (Sent side message) × IsAt entries earlier (Sent side before) × (earlier < number)
     × (slice_get c.fates number ≡ Some fate) × (slice_get c.fates earlier ≡ Some later)
     × (is_later (time_of fate) (time_of later) ≡ true)
@@ -121,7 +122,7 @@ IsBeforeEarlier judged c entries number =
 -- later one.
 abbrev pub IsPending : Option Side → Certificate → List Entry → ℕ → Type 0
 IsPending judged c entries number =
-    (side : Side) × (message : Message) × (earlier : ℕ) × (fate : Fate) × (is_heard judged side ≡ true)
+    (side : Side) × (message : Message) × (earlier : ℕ) × (fate : Fate) × (is_received_from judged side ≡ true)
     × IsAt entries earlier (Sent side message) × (earlier < number) × (slice_get c.fates earlier ≡ Some fate)
     × by_fate fate
   where
@@ -137,7 +138,7 @@ abbrev pub IsStillOpen : Option Side → Table → Certificate → List Entry �
 IsStillOpen (Some judged) table c entries number =
     (before behind : Replay) × (taken (Some judged) table c (map item_of (take number entries)) ≡ Ok before)
     × (gap_by (Some judged) table c before ≡ Ok behind)
-    × (reason : EndFault) × (quiet_unseen table (end_at judged behind.world) ≡ Err reason)
+    × (reason : EndFault) × (quiet_after_closings table (end_at judged behind.world) ≡ Err reason)
 IsStillOpen None table c entries number =
     (side : Side) × (events : List Event) × (w : World) × Runs table events w × AreItems (take number entries) w.sent
     × FollowsFrom c w.sent 0 w.sent (without_losses events)
@@ -177,8 +178,9 @@ IsRefused judged table c entries fault = (more : List Entry)
     → (replayed_by judged table c (entries ++ more) ≡ Err fault) × ShowsReason judged table c (entries ++ more) fault
 
 -- If a checker refuses the next entry, and memory did not run out, the entries are refused no matter which come after.
-abbrev pub RefusesForGood : Checking → Result Item Reason → Result (Unit {0}) CheckFault → Type 0
-RefusesForGood s next answer = (entries : List Entry) (entry : Entry) (fault : CheckFault) → Took s (map item_of entries)
+abbrev pub RefusesForGood : CheckerState → Result Item Reason → Result (Unit {0}) CheckFault → Type 0
+RefusesForGood s next answer =
+    (entries : List Entry) (entry : Entry) (fault : CheckFault) → HasTaken s (map item_of entries)
     → item_of entry ≡ next → answer ≡ Err fault → fault ≢ fault_at reasons.Memory 0
     → IsRefused s.judged s.table s.certificate (entries ++ entry ∷ []) fault
 

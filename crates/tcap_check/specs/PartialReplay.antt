@@ -16,7 +16,7 @@ use Rattle.tcap_certificate.specs.declared.certificate.Fate.TheVariants.{Gap}
 use Rattle.tcap_certificate.specs.Certificate.{Certificate}
 use Rattle.tcap_certificate.specs.DescribedRun.{invoking_half, sending_by}
 use Rattle.tcap_certificate.specs.Replay.{Replay, closed_at_mark, delivery_by, gap_by, implied_over, is_due, is_gap, is_judged, is_nothing, is_overtaking, lost_from_front, lost_last, next_entry, tied}
-use Rattle.tcap_check.specs.declared.listed_steps.Listed.{Listed}
+use Rattle.tcap_check.specs.declared.listed_steps.ListedStep.{ListedStep}
 use Rattle.tcap_check.specs.ListedSteps.{all_replayed, listed_for, listed_replayed}
 use Rattle.tcap_check.specs.CheckerMeaning.{is_alone}
 
@@ -45,13 +45,13 @@ deliveries_so_far judged table c gap number (fate ∷ fates) (item ∷ items) r 
 deliveries_so_far judged table c gap number _ _ r = r
 
 -- the replay after these listed events, up to the first that cannot happen
-abbrev pub listed_so_far : Table → Certificate → List Listed → Replay → Replay
+abbrev pub listed_so_far : Table → Certificate → List ListedStep → Replay → Replay
 listed_so_far table c = as_far (listed_replayed table c)
 
 -- the replay after the gap before the next entry: its closings, then its expiries, then its deliveries
 abbrev pub gap_so_far : Option Side → Table → Certificate → Replay → Replay
 gap_so_far judged table c r =
-    let listed : List Listed = listed_for judged c (next_entry r) in
+    let listed : List ListedStep = listed_for judged c (next_entry r) in
     behind_or (all_replayed table c listed r) (listed_so_far table c listed r)
     (deliveries_so_far judged table c (next_entry r) 0 c.fates r.world.sent)
 

@@ -21,22 +21,22 @@ use Rattle.tcap_certificate.specs.declared.certificate.Fate.{Fate}
 use Rattle.tcap_certificate.specs.declared.certificate.Fate.TheVariants.{Gap, Lost, By}
 use Rattle.tcap_certificate.specs.declared.fault.CheckFault.{CheckFault}
 use Rattle.tcap_model.specs.declared.reason.Reason.TheVariants.{FateRange, BadReply, SendRefused, HiddenRefused, NotQuiet, Memory}
-use Rattle.tcap_check.specs.declared.listed_steps.Listed.{Listed}
-use Rattle.tcap_check.specs.declared.listed_steps.Listed.TheVariants as listings
+use Rattle.tcap_check.specs.declared.listed_steps.ListedStep.{ListedStep}
+use Rattle.tcap_check.specs.declared.listed_steps.ListedStep.TheVariants as listings
 use Rattle.tcap_check.specs.declared.outline.Outline.{Outline}
 use Rattle.tcap_check.specs.declared.progress.Progress.{Progress}
 use Rattle.tcap_check.specs.declared.progress.Seat.{Seat}
 use Rattle.tcap_check.specs.declared.progress.Waiting.{Waiting}
 use Rattle.tcap_record.specs.Ends.{other}
 use Rattle.tcap_model.specs.Run.{Event, Closes, Expires, Loses, Quiet, Replies, Sends, Tells, may_refuse}
-use Rattle.tcap_check.specs.declared.sent_messages.Way.{Way}
-use Rattle.tcap_check.specs.declared.sent_messages.Way.TheVariants as ways
+use Rattle.tcap_check.specs.declared.sent_messages.SendKind.{SendKind}
+use Rattle.tcap_check.specs.declared.sent_messages.SendKind.TheVariants as ways
 use Rattle.tcap_model.specs.World.{is_side}
 use Rattle.tcap_certificate.specs.DescribedRun.{invoke_id, invoking_half}
 pub use Rattle.tcap_certificate.specs.Replay.{map_ok}
 use Rattle.tcap_certificate.specs.Replay.{fault_at, refused}
 use Rattle.tcap_check.specs.EntryOutlines.{half_closed, invocation_ended}
-use Rattle.tcap_check.specs.ReportedSteps.{Told, discard_more, more_told}
+use Rattle.tcap_check.specs.ReportedSteps.{ListedRun, with_one_discard, with_events}
 
 -- ---- answers
 
@@ -80,16 +80,16 @@ abbrev pub empty_seat : Seat
 empty_seat = record { end = nothing; waiting = []; latest = 0 }
 
 -- two ends before the first step, with this report of their steps
-abbrev pub nothing_kept : Option Told → Progress
+abbrev pub nothing_kept : Option ListedRun → Progress
 nothing_kept told = record { a = empty_seat; b = empty_seat; moves = 0; unheard = 0; steps = told }
 
 -- the progress with these further steps, if steps are listed
-abbrev pub with_told : List Event → Progress → Progress
-with_told events p = record p { steps = option_map (more_told events) p.steps }
+abbrev pub with_steps : List Event → Progress → Progress
+with_steps events p = record p { steps = option_map (with_events events) p.steps }
 
 -- the progress with one more step
 abbrev pub moved : Event → Progress → Progress
-moved event p = record (with_told (event ∷ []) p) { moves = p.moves + 1 }
+moved event p = record (with_steps (event ∷ []) p) { moves = p.moves + 1 }
 
 -- the progress after an end's step with this result, or this fault if the end refuses the step
 abbrev pub end_moved : {F : Type 0} → Side → Event → F → Progress → Result End EndFault → Result Progress F
@@ -106,13 +106,16 @@ lost_counted (Some judged) side p =
     cond (is_side judged side) p (record p { moves = p.moves + 1; unheard = p.unheard + 1 })
 
 -- the progress with this loss counted and, if steps are listed, listed
-abbrev pub lost_told : Option Side → Side → ℕ → Progress → Progress
-lost_told judged side number p = lost_counted judged side (with_told (Loses side number ∷ []) p)
+abbrev pub loss_listed : Option Side → Side → ℕ → Progress → Progress
+loss_listed judged side number p = lost_counted judged side (with_steps (Loses side number ∷ []) p)
 
 -- the progress with this loss listed as a discard, with its reason
-abbrev pub discard_told : Side → ℕ → EndFault → Progress → Progress
-discard_told side number reason p =
-    record p { steps = option_map (λ told. discard_more number reason (more_told (Loses side number ∷ []) told)) p.steps }
+abbrev pub discard_listed : Side → ℕ → EndFault → Progress → Progress
+discard_listed side number reason p =
+    record p {
+      steps = option_map (λ told. with_one_discard number reason
+          (with_events (Loses side number ∷ []) told)) p.steps;
+    }
 
 -- whether no message is kept, which means that the message will be lost
 abbrev pub is_none_kept : Option Message → Bool
@@ -128,7 +131,8 @@ first_lost (first ∷ more) = cond (is_none_kept first.message) (Some first.numb
 abbrev pub losing_kept : Option Side → Side → List Waiting → Progress → Progress
 losing_kept judged side [] p = p
 losing_kept judged side (first ∷ more) p =
-    cond (is_none_kept first.message) (losing_kept judged side more (lost_told judged side first.number (with_waiting side more p))) p
+    cond (is_none_kept first.message) (losing_kept judged side more
+    (loss_listed judged side first.number (with_waiting side more p))) p
 
 -- the progress after the messages that will be lost at the front of this end's channel are lost
 abbrev pub front_lost : Option Side → Side → Progress → Progress
@@ -193,12 +197,12 @@ expiry_kept table entries since x p =
     ok_or (invocation_ended entries since x) (fault_at FateRange x.entry) >>= λ invocation. invocation_ends table x invocation p
 
 -- the progress after a listed event
-abbrev pub listed_kept : Table → List Outline → ℕ → Listed → Progress → Result Progress CheckFault
+abbrev pub listed_kept : Table → List Outline → ℕ → ListedStep → Progress → Result Progress CheckFault
 listed_kept table entries since (listings.Closes x) p = closing_kept table entries since x p
 listed_kept table entries since (listings.Expires x) p = expiry_kept table entries since x p
 
 -- the progress after these listed events, in order
-abbrev pub all_kept : Table → List Outline → ℕ → List Listed → Progress → Result Progress CheckFault
+abbrev pub all_kept : Table → List Outline → ℕ → List ListedStep → Progress → Result Progress CheckFault
 all_kept table entries since [] p = Ok p
 all_kept table entries since (x ∷ more) p = listed_kept table entries since x p >>= all_kept table entries since more
 
@@ -232,7 +236,7 @@ seat_with fate number message seat = record seat {
 }
 
 -- the event by which a message is sent
-abbrev pub sending : Way → Side → Message → Event
+abbrev pub sending : SendKind → Side → Message → Event
 sending ways.Sends side message = Sends side message
 sending ways.Tells side message = Tells side message
 sending (ways.Replies number) side message = Replies side number

@@ -18,11 +18,11 @@ use Rattle.tcap_certificate.specs.declared.fault.CheckFault.{CheckFault}
 use Rattle.tcap_certificate.specs.Certificate.{Certificate}
 use Rattle.tcap_certificate.specs.DescribedRun.{invoke_id, invoking_half}
 use Rattle.tcap_certificate.specs.Replay.{fault_at, is_gap, is_judged, is_nothing, due_in}
-use Rattle.tcap_check.specs.declared.listed_steps.Listed.{Listed}
+use Rattle.tcap_check.specs.declared.listed_steps.ListedStep.{ListedStep}
 use Rattle.tcap_check.specs.declared.outline.Outline.{Outline}
 use Rattle.tcap_check.specs.declared.progress.Progress.{Progress}
-use Rattle.tcap_check.specs.CheckerMeaning.{Kept, gap_before, is_alone, tied_now}
-use Rattle.tcap_check.specs.ReplaySteps.{delivery_kept, halves_shut, heard_from}
+use Rattle.tcap_check.specs.CheckerMeaning.{ReplayState, gap_before, is_alone, tied_now}
+use Rattle.tcap_check.specs.ReplaySteps.{delivery_kept, halves_shut, received_sender}
 use Rattle.tcap_check.specs.ListedSteps.{listed_for}
 use Rattle.tcap_check.specs.Progress.{all_kept, end_moved, front_lost, ids_ended_over, last_lost, listed_kept, overtakes, seat_at}
 use Rattle.tcap_check.specs.PartialReplay.{as_far, behind_or}
@@ -35,7 +35,7 @@ Leaves this (Err fault) left = fault ≢ fault_at Memory 0 → left ≡ this
 -- ---- a gap
 
 -- the progress after these listed events, up to the first that cannot happen
-abbrev pub listed_left : Table → List Outline → ℕ → List Listed → Progress → Progress
+abbrev pub listed_left : Table → List Outline → ℕ → List ListedStep → Progress → Progress
 listed_left table entries since = as_far (listed_kept table entries since)
 
 -- the progress after the losses before a delivery, if there is one
@@ -47,13 +47,14 @@ delivery_left judged (Some sender) p = front_lost judged sender p
 abbrev pub deliveries_left : Option Side → Table → List Outline → List ℕ → Progress → Progress
 deliveries_left judged table entries [] p = p
 deliveries_left judged table entries (number ∷ numbers) p =
-    behind_or (delivery_kept judged table number (heard_from judged (slice_get entries number)) p)
-    (delivery_left judged (heard_from judged (slice_get entries number)) p) (deliveries_left judged table entries numbers)
+    behind_or (delivery_kept judged table number (received_sender judged (slice_get entries number)) p)
+    (delivery_left judged (received_sender judged (slice_get entries number)) p)
+    (deliveries_left judged table entries numbers)
 
 -- the progress after the gap before the next entry, up to the first step that cannot happen
 abbrev pub gap_left : Option Side → Table → Certificate → List Outline → ℕ → Progress → Progress
 gap_left judged table c entries since p =
-    let listed : List Listed = listed_for judged c (length entries) in
+    let listed : List ListedStep = listed_for judged c (length entries) in
     behind_or (all_kept table entries since listed p) (listed_left table entries since listed p)
     (deliveries_left judged table entries (due_in (length entries) 0 c.fates))
 
@@ -94,7 +95,7 @@ mark_left judged table number takes p = cond (is_nothing takes) (quiet_left judg
 
 -- the progress before the next entry is taken: nothing happens if its fate is not allowed; else its gap, then what
 -- comes before the entry
-abbrev pub item_left : Option Side → Table → Certificate → Fate → Item → Kept → Progress
+abbrev pub item_left : Option Side → Table → Certificate → Fate → Item → ReplayState → Progress
 item_left judged table c fate (Sent side message) k =
     cond (is_alone judged side || not (overtakes fate (seat_at side k.progress)))
     (behind_or (gap_before judged table c k) (gap_left judged table c k.entries k.since k.progress)
@@ -105,17 +106,17 @@ item_left judged table c fate Item.Quiet k =
     (mark_left judged table (length k.entries) (tied_now judged c k))) k.progress
 
 -- the progress before the next entry, if it has a fate
-abbrev pub fated_left : Option Side → Table → Certificate → Option Fate → Item → Kept → Progress
+abbrev pub fated_left : Option Side → Table → Certificate → Option Fate → Item → ReplayState → Progress
 fated_left judged table c None item k = k.progress
 fated_left judged table c (Some fate) item k = item_left judged table c fate item k
 
 -- the progress before the next entry; octets that are no message change nothing
-abbrev pub entry_left : Option Side → Table → Certificate → Result Item Reason → Kept → Progress
+abbrev pub entry_left : Option Side → Table → Certificate → Result Item Reason → ReplayState → Progress
 entry_left judged table c (Ok item) k = fated_left judged table c (slice_get c.fates (length k.entries)) item k
 entry_left judged table c (Err reason) k = k.progress
 
 -- the progress after the last gap and the losses after it, up to the first step that cannot happen
-abbrev pub end_left : Option Side → Table → Certificate → Kept → Progress
+abbrev pub end_left : Option Side → Table → Certificate → ReplayState → Progress
 end_left judged table c k = cond (length k.entries == length c.fates)
     (behind_or (gap_before judged table c k) (gap_left judged table c k.entries k.since k.progress) (last_lost judged)) k.progress
 

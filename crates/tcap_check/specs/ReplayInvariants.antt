@@ -1,16 +1,16 @@
 -- Which invariants does a `Replaying` keep between entries?
 use Rattle.std.specs.Prelude.{◌≡◌, ◌≤◌, ◌*◌, ◌^◌, length, Ok}
 use Rattle.tcap_check.specs.declared.replaying.Replaying.{Replaying}
-use Rattle.tcap_check.specs.CheckerMeaning.{Checking, Kept}
+use Rattle.tcap_check.specs.CheckerMeaning.{CheckerState, ReplayState}
 use Rattle.tcap_check.specs.Plan.{IsPlan}
 use Rattle.tcap_check.specs.Progress.{load, unheard_load}
 
 -- what this replay keeps
-abbrev pub kept_in : Replaying → Kept
+abbrev pub kept_in : Replaying → ReplayState
 kept_in x = record { progress = x.progress; entries = x.entries.items; since = x.since }
 
--- the `Checking` that this replay implements
-abbrev pub checking_of : Replaying → Checking
+-- the `CheckerState` that this replay implements
+abbrev pub checking_of : Replaying → CheckerState
 checking_of x = record { judged = x.judged; table = x.table.now; certificate = x.certificate.now; so_far = Ok (kept_in x) }
 
 -- The replay follows its certificate's plan. Each entry so far has a fate, and there are at most 100,000 fates. The

@@ -6,7 +6,7 @@ use Rattle.tcap_record.specs.Ends.{other}
 use Rattle.tcap_end.specs.declared.fault.EndFault.{EndFault}
 use Rattle.tcap_end.specs.Table.{Table}
 use Rattle.tcap_end.specs.Message.{receive}
-use Rattle.tcap_model.specs.World.{OnItsWay, World, channel_from, end_at}
+use Rattle.tcap_model.specs.World.{MessageInTransit, World, channel_from, end_at}
 use Rattle.tcap_model.specs.Run.{Event, Sends, Receives, Replies, Loses, Expires, Closes, Quiet, Tells, Runs}
 use Rattle.tcap_certificate.specs.declared.certificate.Fate.TheVariants.{Gap, Lost}
 use Rattle.tcap_check.specs.declared.step.Step.{Step}
@@ -39,30 +39,30 @@ abbrev pub discards_of : List Step → List (ℕ × EndFault)
 discards_of list = filter_map discard_of list
 
 -- The events of a run, and the number of each discarded message with the reason.
-pub record Told : Type 0 where
+pub record ListedRun : Type 0 where
   pub events : List Event
   pub discards : List (ℕ × EndFault)
 
 -- the report before the first step
-abbrev pub nothing_told : Told
-nothing_told = record { events = []; discards = [] }
+abbrev pub no_steps : ListedRun
+no_steps = record { events = []; discards = [] }
 
 -- the events and discards of a list of steps
-abbrev pub told_of : List Step → Told
-told_of list = record { events = events_of list; discards = discards_of list }
+abbrev pub listed_run_of : List Step → ListedRun
+listed_run_of list = record { events = events_of list; discards = discards_of list }
 
 -- the report with more events; none is a discard
-abbrev pub more_told : List Event → Told → Told
-more_told events told = record told { events = told.events ++ events }
+abbrev pub with_events : List Event → ListedRun → ListedRun
+with_events events told = record told { events = told.events ++ events }
 
 -- the report with its last event marked as the discard of this message, for this reason
-abbrev pub discard_more : ℕ → EndFault → Told → Told
-discard_more number reason told = record told { discards = told.discards ++ (number, reason) ∷ [] }
+abbrev pub with_one_discard : ℕ → EndFault → ListedRun → ListedRun
+with_one_discard number reason told = record told { discards = told.discards ++ (number, reason) ∷ [] }
 
 -- the report, if steps are listed
-abbrev pub told_if : Bool → List Event → List (ℕ × EndFault) → Option Told
-told_if true events discards = Some (record { events = events; discards = discards })
-told_if false events discards = None
+abbrev pub listed_run_if : Bool → List Event → List (ℕ × EndFault) → Option ListedRun
+listed_run_if true events discards = Some (record { events = events; discards = discards })
+listed_run_if false events discards = None
 
 -- ---- discards
 
@@ -82,8 +82,8 @@ pub record IsDiscarded (side : Side) (table : Table) (events : List Event) (numb
   pub before : List Event
   pub behind : List Event
   pub world : World
-  pub first : OnItsWay
-  pub left : List OnItsWay
+  pub first : MessageInTransit
+  pub left : List MessageInTransit
   pub events_are : events ≡ before ++ Loses (other side) number ∷ behind
   pub leads : Runs table before world
   pub channel : channel_from (other side) world ≡ first ∷ left
@@ -91,5 +91,6 @@ pub record IsDiscarded (side : Side) (table : Table) (events : List Event) (numb
   pub refused : receive table (end_at side world) first.message ≡ Err reason
 
 -- The fate of this message is a loss, or the message is among the discards.
-abbrev pub IsTold : Certificate → List (ℕ × EndFault) → ℕ → Type 0
-IsTold c discards number = (slice_get c.fates number ≡ Some Lost) ⊎ ((reason : EndFault) × Contains discards (number, reason))
+abbrev pub IsReportedLoss : Certificate → List (ℕ × EndFault) → ℕ → Type 0
+IsReportedLoss c discards number =
+    (slice_get c.fates number ≡ Some Lost) ⊎ ((reason : EndFault) × Contains discards (number, reason))

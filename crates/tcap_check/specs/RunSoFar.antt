@@ -26,8 +26,8 @@ use Rattle.tcap_check.specs.GivenRun.{IsAt}
 use Rattle.tcap_check.specs.ReplayInvariants.{kept_in}
 use Rattle.tcap_check.specs.PartialReplay.{next_so_far}
 use Rattle.tcap_check.specs.declared.replaying.Replaying.{Replaying}
-use Rattle.tcap_certificate.specs.Replay.{Replay, discards_by, fault_at, is_heard, replayed_by}
-use Rattle.tcap_check.specs.ReportedSteps.{IsDiscarded, IsTold, MayAllBeDiscarded, discards_of, events_of, told_of}
+use Rattle.tcap_certificate.specs.Replay.{Replay, discards_by, fault_at, is_received_from, replayed_by}
+use Rattle.tcap_check.specs.ReportedSteps.{IsDiscarded, IsReportedLoss, MayAllBeDiscarded, discards_of, events_of, listed_run_of}
 
 -- One end is judged alone and cannot receive the message with this number. These events discard the message for this
 -- reason, and its fate is not a loss.
@@ -38,13 +38,14 @@ IsDiscardOf (Some side) table c events number reason =
 
 -- The discards account for the losses in these events: each discard is one (`IsDiscardOf`), and every other loss of a
 -- message to a judged end has a fate that is a loss. If both ends are judged, nothing is discarded.
-abbrev pub DiscardsSo : Option Side → Table → Certificate → List Event → List (ℕ × EndFault) → Type 0
-DiscardsSo judged table c events discards = AllByRecursion (λ x. IsDiscardOf judged table c events x.0 x.1) discards
-    × ((sender : Side) (number : ℕ) → is_heard judged sender ≡ true → Contains events (Loses sender number) → IsTold c discards number)
+abbrev pub ExplainsLosses : Option Side → Table → Certificate → List Event → List (ℕ × EndFault) → Type 0
+ExplainsLosses judged table c events discards = AllByRecursion (λ x. IsDiscardOf judged table c events x.0 x.1) discards
+    × ((sender : Side) (number : ℕ) → is_received_from judged sender ≡ true → Contains events (Loses sender number)
+    → IsReportedLoss c discards number)
 
 -- The events of a replay are a run, and its discards account for its losses.
-abbrev pub TellsSo : Option Side → Table → Certificate → Replay → Type 0
-TellsSo judged table c r = Runs table r.events r.world × DiscardsSo judged table c r.events r.discards
+abbrev pub IsRunWithDiscards : Option Side → Table → Certificate → Replay → Type 0
+IsRunWithDiscards judged table c r = Runs table r.events r.world × ExplainsLosses judged table c r.events r.discards
 
 -- `x` keeps what is kept of some replay, with its steps listed.
 abbrev pub IsListed : Replaying → Type 0
@@ -79,7 +80,8 @@ UnlessMemory (Ok done) P = P
 UnlessMemory (Err fault) P = fault ≢ fault_at Memory 0 → P
 
 -- The replay takes this many of the entries, and refuses the next one, if there is one.
-pub record GoesTo (judged : Option Side) (table : Table) (c : Certificate) (entries : List Entry) (count : ℕ) : Type 0 where
+pub record TakesFirst (judged : Option Side) (table : Table) (c : Certificate) (entries : List Entry) (count : ℕ)
+    : Type 0 where
   pub within : count ≤ length entries
   pub front : Replay
   pub takes : taken judged table c (map item_of (take count entries)) ≡ Ok front
@@ -90,9 +92,10 @@ abbrev pub stopped_at : Option Side → Table → Certificate → List Entry →
 stopped_at judged table c entries count front = next_so_far judged table c (map item_of (drop count entries)) front
 
 -- The progress is what is kept of the replay of these entries, up to the first step that cannot happen.
-pub record StandsAmong (table : Table) (c : Certificate) (judged : Option Side) (entries : List Entry) (p : Progress) : Type 0 where
+pub record IsPartialReplay (table : Table) (c : Certificate) (judged : Option Side) (entries : List Entry)
+    (p : Progress) : Type 0 where
   pub count : ℕ
-  pub goes : GoesTo judged table c entries count
+  pub goes : TakesFirst judged table c entries count
   pub stands : p ≡ progress_of true judged c (stopped_at judged table c entries count goes.front)
 
 -- ---- what a caller gets
@@ -129,7 +132,7 @@ pub record IsAnswered (judged : Option Side) (table : Table) (c : Certificate) (
 -- If the replay of these entries ends with this result and lists these steps, then the answer is these steps, or the
 -- fault of the result.
 abbrev pub EndsListed : Option Side → Table → Certificate → List Entry → Result (Unit {0}) CheckFault → Progress → Type 0
-EndsListed judged table c entries result p = (steps : List Step) → p.steps ≡ Some (told_of steps)
+EndsListed judged table c entries result p = (steps : List Step) → p.steps ≡ Some (listed_run_of steps)
     → IsAnswered judged table c entries (map_ok (λ done. steps) result)
 
 -- The steps are a run from the empty world, up to the first step that cannot happen. They are the steps of the entries
@@ -138,14 +141,14 @@ EndsListed judged table c entries result p = (steps : List Step) → p.steps ≡
 -- these steps.
 pub record IsSoFar (judged : Option Side) (table : Table) (c : Certificate) (entries : List Entry) (steps : List Step) (a b : End) : Type 0 where
   pub count : ℕ
-  pub goes : GoesTo judged table c entries count
+  pub goes : TakesFirst judged table c entries count
   pub left : Replay
   pub left_is : left ≡ stopped_at judged table c entries count goes.front
-  pub told : told_of steps ≡ record { events = left.events; discards = left.discards }
+  pub told : listed_run_of steps ≡ record { events = left.events; discards = left.discards }
   pub more : List Event
   pub begins : left.events ≡ goes.front.events ++ more
   pub leads : Runs table left.events left.world
   pub sends : AreItems (take count entries) left.world.sent
-  pub discards : DiscardsSo judged table c left.events left.discards
+  pub discards : ExplainsLosses judged table c left.events left.discards
   pub a_is : left.world.a ≡ a
   pub b_is : left.world.b ≡ b

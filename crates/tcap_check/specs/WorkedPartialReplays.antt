@@ -18,7 +18,7 @@ use Rattle.tcap_certificate.specs.declared.certificate.Fate.TheVariants.{Gap, Lo
 use Rattle.tcap_certificate.specs.Certificate.{Certificate}
 use Rattle.tcap_certificate.specs.Replay.{Replay, refused, replayed_by}
 use Rattle.tcap_certificate.specs.WorkedRuns.{by_fates}
-use Rattle.tcap_check.specs.RunSoFar.{GoesTo, stopped_at}
+use Rattle.tcap_check.specs.RunSoFar.{TakesFirst, stopped_at}
 
 -- A record with a certificate that gives no run of it: who is judged, the count of entries that the replay takes, and
 -- the events and discards up to the first step that cannot happen.
@@ -35,7 +35,7 @@ pub record WorkedSoFar : Type 0 where
 abbrev pub StopsSoFar : WorkedSoFar → Reason → ℕ → Type 0
 StopsSoFar w reason entry =
     (replayed_by w.judged table w.certificate (map entry_of w.items) ≡ refused reason entry)
-    × (goes : GoesTo w.judged table w.certificate (map entry_of w.items) w.count)
+    × (goes : TakesFirst w.judged table w.certificate (map entry_of w.items) w.count)
     × (let left : Replay = stopped_at w.judged table w.certificate (map entry_of w.items) w.count goes.front in
     (left.events ≡ w.events) × (left.discards ≡ w.discards))
 

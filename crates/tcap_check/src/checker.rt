@@ -13,7 +13,7 @@ ghost use Rattle.tcap_check.specs.GivenRun.{IsBounded, RefusesForGood, SaysLawfu
 ghost use Rattle.tcap_certificate.specs.HalfNames.{IsDescribedBy};
 ghost use Rattle.tcap_check.specs.declared.checker.Report.{Report as Reported};
 ghost use Rattle.tcap_certificate.specs.Replay.{certificate_fits, fault_at, run_by};
-ghost use Rattle.tcap_check.specs.CheckerMeaning.{Kept, Took, answer_of, count_ahead, count_waiting, map_ok, reading, reported};
+ghost use Rattle.tcap_check.specs.CheckerMeaning.{ReplayState, HasTaken, answer_of, count_ahead, count_waiting, map_ok, reading, reported};
 
 use crate::replaying::Replaying;
 use std::alloc::Global;
@@ -54,10 +54,10 @@ pub struct Checker<'a> {
 
 impl<'a> Model for Checker<'a> {
     ghost use Rattle.std.specs.Prelude.{◌≡◌, None};
-    ghost use Rattle.tcap_check.specs.CheckerMeaning.{Checking, so_far_of};
+    ghost use Rattle.tcap_check.specs.CheckerMeaning.{CheckerState, so_far_of};
     ghost use Rattle.tcap_check.specs.ReplayInvariants.{IsReady, kept_in};
 
-    ghost Value = { Checking };
+    ghost Value = { CheckerState };
 
     ghost view = { λ a. record {
       judged = a.replaying.judged;
@@ -81,7 +81,8 @@ impl<'a> Checker<'a> {
         table: &'a Table,
         certificate: &'a Certificate,
     ) -> Result<Checker<'a>, CheckFault>
-        ensures took { IfOk result (λ checker. Took checker [] × (checker.judged ≡ None) × (checker.table ≡ table.entry.now)
+        ensures took { IfOk result (λ checker. HasTaken checker [] × (checker.judged ≡ None)
+            × (checker.table ≡ table.entry.now)
             × (checker.certificate ≡ certificate.entry.now)) }
         ensures fits { OnOk result (certificate_fits certificate.entry.now ≡ Ok tt) }
         ensures refused { (f : Refusal) → result ≡ Err f → f ≢ fault_at reasons.Memory 0
@@ -105,7 +106,8 @@ impl<'a> Checker<'a> {
         certificate: &'a Certificate,
         judged: Option<End>,
     ) -> Result<Checker<'a>, CheckFault>
-        ensures took { IfOk result (λ checker. Took checker [] × (checker.judged ≡ judged) × (checker.table ≡ table.entry.now)
+        ensures took { IfOk result (λ checker. HasTaken checker [] × (checker.judged ≡ judged)
+            × (checker.table ≡ table.entry.now)
             × (checker.certificate ≡ certificate.entry.now)) }
         ensures fits { OnOk result (certificate_fits certificate.entry.now ≡ Ok tt) }
         ensures refused { (f : Refusal) → result ≡ Err f → f ≢ fault_at reasons.Memory 0
@@ -135,8 +137,9 @@ impl<'a> Checker<'a> {
         side: End,
         body: Result<&M, Fault>,
     ) -> Result<(), CheckFault>
-        ensures took { (entries : List (Result Item Why)) → Took self.old entries → result ≢ Err (fault_at reasons.Memory 0)
-            → Took self.new (entries ++ reading side (map_ok (λ m. M.meaning m.now) body.entry) ∷ []) }
+        ensures took { (entries : List (Result Item Why)) → HasTaken self.old entries
+            → result ≢ Err (fault_at reasons.Memory 0)
+            → HasTaken self.new (entries ++ reading side (map_ok (λ m. M.meaning m.now) body.entry) ∷ []) }
         ensures refuses { RefusesForGood self.old (reading side (map_ok (λ m. M.meaning m.now) body.entry)) result }
         ensures answers { result ≡ answer_of self.new.so_far }
         ensures judged { self.new.judged ≡ self.old.judged }
@@ -163,8 +166,9 @@ impl<'a> Checker<'a> {
     /// `FateCount`, `FateRange`, `BadReply`, `HiddenRefused` or `NotQuiet` if the certificate gives no run of these
     /// entries, no matter which entries follow. `Memory` if memory runs out. Every later call returns the same fault.
     pub fn mark(&mut self) -> Result<(), CheckFault>
-        ensures took { (entries : List (Result Item Why)) → Took self.old entries → result ≢ Err (fault_at reasons.Memory 0)
-            → Took self.new (entries ++ Ok Item.Quiet ∷ []) }
+        ensures took { (entries : List (Result Item Why)) → HasTaken self.old entries
+            → result ≢ Err (fault_at reasons.Memory 0)
+            → HasTaken self.new (entries ++ Ok Item.Quiet ∷ []) }
         ensures refuses { RefusesForGood self.old (Ok Item.Quiet) result }
         ensures answers { result ≡ answer_of self.new.so_far }
         ensures judged { self.new.judged ≡ self.old.judged }
@@ -185,8 +189,8 @@ impl<'a> Checker<'a> {
     /// Refuses the next entry, which is neither a message nor a quiet mark: `NoItem`, or `FateCount` if it has no fate.
     /// Every later call returns the same fault.
     pub(crate) fn no_item(&mut self) -> Result<(), CheckFault>
-        ensures took { (entries : List (Result Item Why)) → Took self.old entries
-            → Took self.new (entries ++ Err reasons.NoItem ∷ []) }
+        ensures took { (entries : List (Result Item Why)) → HasTaken self.old entries
+            → HasTaken self.new (entries ++ Err reasons.NoItem ∷ []) }
         ensures refuses { RefusesForGood self.old (Err reasons.NoItem) result }
         ensures answers { result ≡ answer_of self.new.so_far }
         ensures judged { self.new.judged ≡ self.old.judged }
@@ -207,8 +211,8 @@ impl<'a> Checker<'a> {
     ///
     /// The call goes over all messages on their way. After a refusal the number has no meaning.
     pub fn pending(&self) -> usize
-        ensures kept { (k : Kept) → self.now.so_far ≡ Ok k → result ≡ count_waiting self.now.judged k.progress }
-        ensures ahead { (entries : List (Result Item Why)) → Took self.now entries → IsTrue (is_ok self.now.so_far)
+        ensures kept { (k : ReplayState) → self.now.so_far ≡ Ok k → result ≡ count_waiting self.now.judged k.progress }
+        ensures ahead { (entries : List (Result Item Why)) → HasTaken self.now entries → IsTrue (is_ok self.now.so_far)
             → result ≡ count_ahead self.now.judged (length entries) self.now.certificate.fates entries }
     {
         let progress = &self.replaying.progress;
@@ -229,17 +233,22 @@ impl<'a> Checker<'a> {
     /// no run of these entries. `Memory` if memory runs out.
     pub fn finish(self) -> Result<Report, CheckFault>
         ensures for_ever { (f : Refusal) → self.entry.so_far ≡ Err f → result ≡ Err f }
-        ensures finished { (entries : List (Result Item Why)) → Took self.entry entries → result ≢ Err (fault_at reasons.Memory 0)
+        ensures finished { (entries : List (Result Item Why)) → HasTaken self.entry entries
+            → result ≢ Err (fault_at reasons.Memory 0)
             → result ≡ map_ok (reported self.entry.judged) (run_by self.entry.judged self.entry.table self.entry.certificate entries) }
-        ensures lawful { (entries : List (Result Item Why)) (report : Reported) → Took self.entry entries → result ≡ Ok report
+        ensures lawful { (entries : List (Result Item Why)) (report : Reported) → HasTaken self.entry entries
+            → result ≡ Ok report
             → (items : List Item) × (map (λ item. Ok item) items ≡ entries)
             × SaysLawful self.entry.judged items self.entry.table report }
-        ensures described { (items : List Item) (events : List Event) → Took self.entry (map (λ item. Ok item) items)
+        ensures described { (items : List Item) (events : List Event)
+            → HasTaken self.entry (map (λ item. Ok item) items)
             → IsRunOf items self.entry.table events → IsDescribedBy self.entry.table self.entry.certificate items events
             → self.entry.judged ≡ None → result ≢ Err (fault_at reasons.Memory 0) → result ≡ Ok (reported None events) }
-        ensures refuses { (entries : List Recorded) (f : Refusal) → Took self.entry (map item_of entries) → result ≡ Err f
+        ensures refuses { (entries : List Recorded) (f : Refusal) → HasTaken self.entry (map item_of entries)
+            → result ≡ Err f
             → f ≢ fault_at reasons.Memory 0 → ShowsReason self.entry.judged self.entry.table self.entry.certificate entries f }
-        ensures bound { (items : List Item) (report : Reported) → Took self.entry (map (λ item. Ok item) items) → result ≡ Ok report
+        ensures bound { (items : List Item) (report : Reported) → HasTaken self.entry (map (λ item. Ok item) items)
+            → result ≡ Ok report
             → IsBounded self.entry.judged self.entry.certificate items report }
     {
         match self.fault {

@@ -2,8 +2,8 @@
 
 ghost use Rattle.std.specs.Prelude.{◌≡◌, ◌<◌, ◌≤◌, ◌+◌, ◌^◌, IfOk, OnErr, OnOk, Some, length, slice_get, true};
 ghost use Rattle.tcap_record.specs.Ends.{other};
-ghost use Rattle.tcap_check.specs.ReplaySteps.{Hears, deliveries_kept, first_heard, first_received, gap_kept, heard_from, is_heard, is_told, message_received};
-ghost use Rattle.tcap_check.specs.ReplaySteps.{told_among};
+ghost use Rattle.tcap_check.specs.ReplaySteps.{DeliversMessage, deliveries_kept, first_delivered, first_received, gap_kept, received_sender, is_received_from, is_sent_by_end, message_received};
+ghost use Rattle.tcap_check.specs.ReplaySteps.{sent_among};
 ghost use Rattle.tcap_check.specs.Plan.{IsPlan};
 ghost use Rattle.tcap_check.specs.RefusedReplay.{Leaves, deliveries_left, gap_left};
 ghost use Rattle.tcap_check.specs.Progress.{GrewBy, HasNoMore, YieldsInMemory, front_lost, load, seat_at, unheard_load};
@@ -20,8 +20,8 @@ use tcap_model::Reason;
 use tcap_record::End;
 
 /// Returns the sender of the entry with this number, if the entry is a message to a judged end.
-fn heard_from(entries: &[Outline], judged: Option<End>, number: u32) -> Option<End>
-    ensures { result ≡ heard_from judged (slice_get entries.now number) }
+fn received_sender(entries: &[Outline], judged: Option<End>, number: u32) -> Option<End>
+    ensures { result ≡ received_sender judged (slice_get entries.now number) }
 {
     let Some(Outline::Sent(sender, _)) = entries.get(number as usize) else {
         return None;
@@ -35,7 +35,7 @@ fn heard_from(entries: &[Outline], judged: Option<End>, number: u32) -> Option<E
 
 /// Returns whether this end sent the entry with this number.
 fn is_told(entries: &[Outline], side: End, number: u32) -> bool
-    ensures { result ≡ is_told side (slice_get entries.now number) }
+    ensures { result ≡ is_sent_by_end side (slice_get entries.now number) }
 {
     match entries.get(number as usize) {
         Some(Outline::Sent(sender, _)) => *sender == side,
@@ -44,13 +44,13 @@ fn is_told(entries: &[Outline], side: End, number: u32) -> bool
 }
 
 /// Returns the numbers, among these, of entries that this end sent. Fails if memory runs out.
-pub(crate) fn told_among(
+pub(crate) fn sent_among(
     alloc: Global,
     entries: &[Outline],
     side: End,
     numbers: &[u32],
 ) -> Result<Vec<u32>, AllocError>
-    ensures { IfOk result (λ told. told.items ≡ told_among side entries.now numbers.now) }
+    ensures { IfOk result (λ told. told.items ≡ sent_among side entries.now numbers.now) }
 {
     let mut told = Vec::new(alloc);
     for number in numbers {
@@ -63,13 +63,13 @@ pub(crate) fn told_among(
 
 /// Receives the first of these messages at an end. Returns the reason why the end cannot receive it, or `None`. Fails
 /// with `BadReply` if there is no first message with this number, or if it will be lost, or with `Memory`.
-fn hear(
+fn deliver_message(
     end: &mut EndState,
     table: &Table,
     waiting: &LinkedList<Waiting>,
     number: u32,
 ) -> Result<Option<EndFault>, CheckFault>
-    ensures heard { Hears end.old (first_heard table.now number waiting.now end.old) result end.new }
+    ensures heard { DeliversMessage end.old (first_delivered table.now number waiting.now end.old) result end.new }
     ensures kept { OnErr result (end.new ≡ end.old) }
 {
     let refused = CheckFault {
@@ -109,8 +109,8 @@ impl<'r> Progress<'r> {
         ensures left { Leaves self.old result self.new }
     {
         let refused = match sender {
-            End::A => hear(&mut self.b.end, table, &self.a.waiting, number)?,
-            End::B => hear(&mut self.a.end, table, &self.b.waiting, number)?,
+            End::A => deliver_message(&mut self.b.end, table, &self.a.waiting, number)?,
+            End::B => deliver_message(&mut self.a.end, table, &self.b.waiting, number)?,
         };
         if refused.is_some() && judged.is_none() {
             return Err(CheckFault {
@@ -137,7 +137,7 @@ impl<'r> Progress<'r> {
         sender: End,
         number: u32,
     ) -> Result<(), CheckFault>
-        requires heard { is_heard judged sender ≡ true }
+        requires heard { is_received_from judged sender ≡ true }
         requires room { load self.old + 1 < 2 ^ 128 }
         requires count { unheard_load self.old + 1 < 2 ^ 64 }
         ensures delivered { YieldsInMemory (message_received judged table.now sender number self.old) result self.new }
@@ -164,7 +164,7 @@ impl<'r> Progress<'r> {
         ensures grows { OnOk result (HasNoMore self.old self.new) }
     {
         for number in numbers {
-            if let Some(sender) = heard_from(entries, judged, *number) {
+            if let Some(sender) = received_sender(entries, judged, *number) {
                 self.deliver(table, judged, sender, *number)?;
             }
         }

@@ -3,11 +3,11 @@
 ghost use Rattle.std.specs.Prelude.{◌≡◌, ◌<◌, ◌^◌, IfSome, OnOk};
 ghost use Rattle.tcap_check.specs.RefusedReplay.{Leaves, message_left, taken_left};
 ghost use Rattle.tcap_check.specs.RunSoFar.{ShowsSend};
-ghost use Rattle.tcap_check.specs.ReplaySteps.{message_taken, told_taken};
+ghost use Rattle.tcap_check.specs.ReplaySteps.{message_taken, peer_message_taken};
 ghost use Rattle.tcap_check.specs.Progress.{GrewBy, YieldsInMemory, load, unheard_load};
 
 use crate::progress::{Progress, is_judged};
-use crate::sent_messages::Way;
+use crate::sent_messages::SendKind;
 use std::alloc::Global;
 use tcap_certificate::{CheckFault, Fate};
 use tcap_end::Table;
@@ -18,7 +18,7 @@ use tcap_record::End;
 impl<'r> Progress<'r> {
     /// Takes a message from the peer of the judged end. The message must take no other message. It is lent if it
     /// outlives the replay. Fails with `BadReply` or `Memory`.
-    fn take_told<M: MessageParts>(
+    fn take_peer_message<M: MessageParts>(
         &mut self,
         alloc: Global,
         side: End,
@@ -30,7 +30,8 @@ impl<'r> Progress<'r> {
     ) -> Result<(), CheckFault>
         requires room { self.old.moves < 2 ^ 127 }
         requires same { IfSome lent (λ lent. lent.now ≡ M.meaning message.now) }
-        ensures taken { YieldsInMemory (told_taken side fate number (M.meaning message.now) takes.now self.old) result self.new }
+        ensures taken { YieldsInMemory (peer_message_taken side fate number
+            (M.meaning message.now) takes.now self.old) result self.new }
         ensures left { Leaves self.old result self.new }
         ensures grows { OnOk result (GrewBy (2 ^ 65) 1 self.old self.new) }
     {
@@ -40,7 +41,7 @@ impl<'r> Progress<'r> {
                 entry: number,
             });
         }
-        self.join(alloc, Way::Tells, side, fate, number, message, lent)
+        self.join(alloc, SendKind::Tells, side, fate, number, message, lent)
     }
 
     /// Takes a message with this number and fate, which takes these messages. A judged end sends it, its provider
@@ -70,7 +71,7 @@ impl<'r> Progress<'r> {
         ensures grows { OnOk result (GrewBy (2 ^ 65) 1 self.old self.new) }
     {
         if !is_judged(judged, side) {
-            return self.take_told(alloc, side, fate, number, message, lent, takes);
+            return self.take_peer_message(alloc, side, fate, number, message, lent, takes);
         }
         let Some(alone) = judged else {
             return self.send_or_answer(

@@ -9,7 +9,7 @@ use tcap_msg::{Message, MessageParts, MessageView};
 
 /// The owner of a message.
 #[derive(Debug, Drop)]
-pub(crate) enum Keeping<'r> {
+pub(crate) enum MessageStorage<'r> {
     /// A copy that the replay owns.
     Own(Message),
     /// A message of a record that outlives the replay.
@@ -18,11 +18,11 @@ pub(crate) enum Keeping<'r> {
 
 /// A message that is kept until it is delivered.
 #[derive(Debug, Drop)]
-pub(crate) struct Held<'r> {
-    keeping: Keeping<'r>,
+pub(crate) struct WaitingMessage<'r> {
+    keeping: MessageStorage<'r>,
 }
 
-impl<'r> Model for Held<'r> {
+impl<'r> Model for WaitingMessage<'r> {
     ghost use Rattle.tcap_msg.specs.declared.message.Message.{Message as Meant};
     ghost use Rattle.tcap_check.specs.HeldMessage.{kept_message};
 
@@ -31,21 +31,21 @@ impl<'r> Model for Held<'r> {
     ghost view = { λ h. kept_message h.keeping };
 }
 
-impl<'r> Held<'r> {
+impl<'r> WaitingMessage<'r> {
     /// Keeps the lent message if there is one, else a copy of `message`. Fails if memory runs out.
     pub(crate) fn new<M: MessageParts>(
         alloc: Global,
         message: &M,
         lent: Option<&'r Message>,
-    ) -> Result<Held<'r>, AllocError>
+    ) -> Result<WaitingMessage<'r>, AllocError>
         requires same { IfSome lent (λ lent. lent.now ≡ M.meaning message.now) }
         ensures { IfOk result (λ held. held ≡ M.meaning message.now) }
     {
         let keeping = match lent {
-            Some(message) => Keeping::Lent(message),
-            None => Keeping::Own(message.to_message(alloc)?),
+            Some(message) => MessageStorage::Lent(message),
+            None => MessageStorage::Own(message.to_message(alloc)?),
         };
-        Ok(Held { keeping })
+        Ok(WaitingMessage { keeping })
     }
 
     /// Returns a view of the message.
@@ -53,8 +53,8 @@ impl<'r> Held<'r> {
         ensures { message_of result ≡ self.now }
     {
         match &self.keeping {
-            Keeping::Own(message) => message.view(),
-            Keeping::Lent(message) => message.view(),
+            MessageStorage::Own(message) => message.view(),
+            MessageStorage::Lent(message) => message.view(),
         }
     }
 }

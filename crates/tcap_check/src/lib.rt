@@ -2,16 +2,16 @@
 //! (Q.774 3.2 and 3.3).
 #![tactic(auto)]
 
-pub mod alone_laws;
 mod buckets;
 mod checker;
 mod deliveries;
 mod entries_taken;
-pub mod given;
+pub mod given_run_laws;
 mod held_message;
 mod listed_steps;
 mod losses;
 mod marks;
+pub mod one_end_laws;
 mod outline;
 mod plan;
 mod progress;
@@ -25,7 +25,7 @@ pub mod worked_partial_replays;
 
 pub use buckets::Buckets;
 pub use checker::{Checker, Report};
-pub use listed_steps::Listed;
+pub use listed_steps::ListedStep;
 pub use plan::Plan;
 pub use records::check;
 pub use runs::{Partial, run_of, run_until};

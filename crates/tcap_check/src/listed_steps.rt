@@ -8,21 +8,21 @@ use tcap_record::End;
 
 /// A closing or an expiry, which no entry shows.
 #[derive(Clone, Copy, Debug)]
-pub enum Listed {
+pub enum ListedStep {
     /// A half closes.
     Closes(Closing),
     /// An invocation expires.
     Expires(Expiry),
 }
 
-impl Listed {
+impl ListedStep {
     /// Returns the end at which the event happens.
     pub(crate) fn side(&self) -> End
         ensures { result ≡ side_of self.now }
     {
         match self {
-            Listed::Closes(x) => x.side,
-            Listed::Expires(x) => x.side,
+            ListedStep::Closes(x) => x.side,
+            ListedStep::Expires(x) => x.side,
         }
     }
 }

@@ -1,8 +1,8 @@
 //! Losses of messages in a replay.
 
 ghost use Rattle.std.specs.Prelude.{◌≡◌, ◌<◌, ◌+◌, ◌^◌, OnOk, drop};
-ghost use Rattle.tcap_check.specs.Progress.{HasNoMore, IsMemory, discard_told, first_lost, front_lost, last_lost, load, lost_counted};
-ghost use Rattle.tcap_check.specs.Progress.{lost_told, seat_at, unheard_load, with_waiting};
+ghost use Rattle.tcap_check.specs.Progress.{HasNoMore, IsMemory, discard_listed, first_lost, front_lost, last_lost, load, lost_counted};
+ghost use Rattle.tcap_check.specs.Progress.{loss_listed, seat_at, unheard_load, with_waiting};
 
 use crate::progress::Progress;
 use crate::step::Step;
@@ -44,7 +44,7 @@ impl Progress<'_> {
         requires room { self.old.moves + 1 < 2 ^ 128 }
         requires count { self.old.unheard + 1 < 2 ^ 64 }
         ensures lost { OnOk result (self.new
-            ≡ lost_told judged side number (with_waiting side (drop 1 (seat_at side self.old).waiting) self.old)) }
+            ≡ loss_listed judged side number (with_waiting side (drop 1 (seat_at side self.old).waiting) self.old)) }
         ensures memory { IsMemory result }
     {
         self.drop_first(side);
@@ -64,7 +64,8 @@ impl Progress<'_> {
     ) -> Result<(), CheckFault>
         requires room { self.old.moves + 1 < 2 ^ 128 }
         requires count { self.old.unheard + 1 < 2 ^ 64 }
-        ensures lost { OnOk result (self.new ≡ lost_counted judged sender (discard_told sender number reason self.old)) }
+        ensures lost { OnOk result (self.new
+            ≡ lost_counted judged sender (discard_listed sender number reason self.old)) }
         ensures memory { IsMemory result }
     {
         self.tell_discard(sender, number, reason)?;

@@ -36,8 +36,8 @@ impl Progress<'_> {
         ensures grows { OnOk result (GrewBy (2 ^ 65) 0 self.old self.new) }
     {
         let closed = match side {
-            End::A => self.a.end.quiet_unseen(table),
-            End::B => self.b.end.quiet_unseen(table),
+            End::A => self.a.end.quiet_after_closings(table),
+            End::B => self.b.end.quiet_after_closings(table),
         };
         let Ok(count) = closed else {
             return Err(not_quiet(number));

@@ -4,7 +4,7 @@ ghost use Rattle.std.specs.Prelude.{◌≡◌, map, slice_get, Some, None, IfOk,
 ghost use Rattle.tcap_parts.specs.Meaning.{components_left};
 ghost use Rattle.tcap_end.specs.declared.half.HalfName.TheVariants as names;
 ghost use Rattle.tcap_model.specs.World.{Sent};
-ghost use Rattle.tcap_model.specs.Run.{then_so, where_so};
+ghost use Rattle.tcap_model.specs.Run.{option_then, only_if};
 ghost use Rattle.tcap_certificate.specs.DescribedRun.{half_begun, invoke_id};
 ghost use Rattle.tcap_check.specs.EntryOutlines.{half_closed, invocation_ended, note_of, outline_named, outline_of};
 
@@ -26,9 +26,9 @@ pub(crate) struct Note {
 }
 
 impl Model for Note {
-    ghost use Rattle.tcap_check.specs.NamedMessage.{Noted};
+    ghost use Rattle.tcap_check.specs.NamedMessage.{MessageNote};
 
-    ghost Value = { Noted };
+    ghost Value = { MessageNote };
 
     ghost view = { λ n. record { begins = n.begins; otid = n.otid; invokes = n.invokes.items } };
 }
@@ -46,7 +46,7 @@ impl Note {
     /// Returns the name, at one end, of the half that this Begin began: by own ID at the sender, by the peer's ID at
     /// the other end. Returns `None` if the message is no Begin.
     fn half_begun(&self, at: End, sender: End) -> Option<HalfName>
-        ensures { result ≡ where_so self.now.begins (Some (half_begun at sender self.now.otid)) }
+        ensures { result ≡ only_if self.now.begins (Some (half_begun at sender self.now.otid)) }
     {
         if !self.begins {
             return None;
@@ -61,7 +61,7 @@ impl Note {
 
     /// Returns the invocation that the component at this place began: its half, by own ID, and its invoke ID.
     fn invocation(&self, component: u32) -> Option<(HalfName, i8)>
-        ensures { result ≡ then_so (then_so (slice_get self.now.invokes component) (λ id. id))
+        ensures { result ≡ option_then (option_then (slice_get self.now.invokes component) (λ id. id))
             (λ id. Some (names.Own self.now.otid, id)) }
     {
         match self.invokes.get(component as usize) {

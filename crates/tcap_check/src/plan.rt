@@ -10,7 +10,7 @@ ghost use Rattle.tcap_certificate.specs.DescribedRun.{taken_by};
 ghost use Rattle.tcap_certificate.specs.Replay.{all_fit, certificate_fits, fate_fits, fates_fit, fault_at, due_in};
 
 use crate::buckets::Buckets;
-use crate::listed_steps::Listed;
+use crate::listed_steps::ListedStep;
 use std::alloc::{AllocError, Global};
 use tcap_certificate::{Certificate, CheckFault, Closing, Expiry, Fate};
 use tcap_model::Reason;
@@ -19,7 +19,7 @@ use tcap_model::Reason;
 #[derive(Debug, Drop)]
 pub struct Plan {
     /// The events listed for each gap: its closings, then its expiries, each in listed order.
-    pub listed: Buckets<Listed>,
+    pub listed: Buckets<ListedStep>,
     /// The numbers of the entries that are delivered in each gap, in rising order.
     pub due: Buckets<u32>,
     /// The numbers of the entries that each entry answers as a provider's reply, in rising order.
@@ -109,7 +109,7 @@ fn listed_by_gap(
     alloc: Global,
     count: usize,
     certificate: &Certificate,
-) -> Result<Buckets<Listed>, AllocError>
+) -> Result<Buckets<ListedStep>, AllocError>
     ensures { IfOk result (λ made. (gap : ℕ) → gap < count → list_at gap made ≡ listed_in certificate.now gap) }
 {
     let (close, expire) = (certificate.closings(), certificate.expiries());
@@ -118,10 +118,10 @@ fn listed_by_gap(
     }
     let mut lists = Buckets::new(alloc, count)?;
     for x in close {
-        lists.push(x.gap as usize, Listed::Closes(*x))?;
+        lists.push(x.gap as usize, ListedStep::Closes(*x))?;
     }
     for x in expire {
-        lists.push(x.gap as usize, Listed::Expires(*x))?;
+        lists.push(x.gap as usize, ListedStep::Expires(*x))?;
     }
     Ok(lists)
 }

@@ -6,14 +6,14 @@ ghost use Rattle.tcap_end.specs.Step.{AnswersInMemory};
 ghost use Rattle.tcap_end.specs.Message.{receive};
 ghost use Rattle.tcap_check.specs.ReplaySteps.{is_judged};
 ghost use Rattle.tcap_check.specs.ListedSteps.{listed_judged};
-ghost use Rattle.tcap_check.specs.Progress.{IsMemory, YieldsInMemory, all_kept, count_kept, discard_told, empty_seat};
-ghost use Rattle.tcap_check.specs.Progress.{half_closes, invocation_ends, listed_kept, nothing_kept, seat_at, with_told};
+ghost use Rattle.tcap_check.specs.Progress.{IsMemory, YieldsInMemory, all_kept, count_kept, discard_listed, empty_seat};
+ghost use Rattle.tcap_check.specs.Progress.{half_closes, invocation_ends, listed_kept, nothing_kept, seat_at, with_steps};
 ghost use Rattle.tcap_record.specs.declared.entry.End.{End as Side};
 ghost use Rattle.tcap_check.specs.RefusedReplay.{Leaves, listed_left};
-ghost use Rattle.tcap_check.specs.ReportedSteps.{discard_of, event_of, told_if, told_of};
+ghost use Rattle.tcap_check.specs.ReportedSteps.{discard_of, event_of, listed_run_if, listed_run_of};
 
-use crate::held_message::Held;
-use crate::listed_steps::Listed;
+use crate::held_message::WaitingMessage;
+use crate::listed_steps::ListedStep;
 use crate::outline::{Outline, half_closed, invocation_ended};
 use crate::plan::out_of_range;
 use crate::step::Step;
@@ -29,7 +29,7 @@ use tcap_record::End;
 #[derive(Debug, Drop)]
 pub(crate) struct Waiting<'r> {
     pub(crate) number: u64,
-    pub(crate) message: Option<Held<'r>>,
+    pub(crate) message: Option<WaitingMessage<'r>>,
 }
 
 /// The state of one end, the messages on their way from it, and the latest time of a message from it.
@@ -108,7 +108,11 @@ pub(crate) fn copy_name(name: &HalfName) -> HalfName
 }
 
 /// Receives a message at an end. Fails with the end's reason, or if memory runs out.
-pub(crate) fn receive(end: &mut EndState, table: &Table, message: &Held) -> Result<(), EndFault>
+pub(crate) fn receive(
+    end: &mut EndState,
+    table: &Table,
+    message: &WaitingMessage,
+) -> Result<(), EndFault>
     ensures step { AnswersInMemory (receive table.now end.old message.now) result end.new }
     ensures kept { OnErr result (end.new ≡ end.old) }
     ensures only { OnErr result (IsSome (otid_in message.now)) }
@@ -120,7 +124,7 @@ pub(crate) fn receive(end: &mut EndState, table: &Table, message: &Held) -> Resu
 impl<'r> Progress<'r> {
     /// Creates two ends before the first step, with a list of steps if `listed`.
     pub(crate) fn new(alloc: Global, listed: bool) -> Progress<'r>
-        ensures { result ≡ nothing_kept (told_if listed [] []) }
+        ensures { result ≡ nothing_kept (listed_run_if listed [] []) }
     {
         let steps = if listed {
             Some(Steps::new(alloc))
@@ -140,7 +144,7 @@ impl<'r> Progress<'r> {
     #[inline(always)]
     pub(crate) fn tell(&mut self, step: Step) -> Result<(), CheckFault>
         requires plain { discard_of step ≡ None }
-        ensures told { OnOk result (self.new ≡ with_told (event_of step ∷ []) self.old) }
+        ensures told { OnOk result (self.new ≡ with_steps (event_of step ∷ []) self.old) }
         ensures memory { IsMemory result }
     {
         if let Some(steps) = &mut self.steps {
@@ -159,7 +163,7 @@ impl<'r> Progress<'r> {
         number: u64,
         reason: EndFault,
     ) -> Result<(), CheckFault>
-        ensures told { OnOk result (self.new ≡ discard_told sender number reason self.old) }
+        ensures told { OnOk result (self.new ≡ discard_listed sender number reason self.old) }
         ensures memory { IsMemory result }
     {
         if let Some(steps) = &mut self.steps {
@@ -235,7 +239,7 @@ impl<'r> Progress<'r> {
         table: &Table,
         entries: &[Outline],
         since: usize,
-        x: &Listed,
+        x: &ListedStep,
     ) -> Result<(), CheckFault>
         requires room { self.old.moves + 1 < 2 ^ 128 }
         ensures hidden { YieldsInMemory (listed_kept table.now entries.now since x.now self.old) result self.new }
@@ -243,11 +247,11 @@ impl<'r> Progress<'r> {
         ensures grows { OnOk result (self.new.moves ≡ self.old.moves + 1) }
     {
         match x {
-            Listed::Closes(x) => match half_closed(entries, since, x) {
+            ListedStep::Closes(x) => match half_closed(entries, since, x) {
                 Some(name) => self.close(table, x, name),
                 None => Err(out_of_range(x.entry)),
             },
-            Listed::Expires(x) => match invocation_ended(entries, since, x) {
+            ListedStep::Expires(x) => match invocation_ended(entries, since, x) {
                 Some((name, id)) => self.expire(table, x, name, id),
                 None => Err(out_of_range(x.entry)),
             },
@@ -262,7 +266,7 @@ impl<'r> Progress<'r> {
         judged: Option<End>,
         entries: &[Outline],
         since: usize,
-        listed: &[Listed],
+        listed: &[ListedStep],
     ) -> Result<(), CheckFault>
         requires room { self.old.moves + length listed.now < 2 ^ 128 }
         ensures hidden { YieldsInMemory (all_kept table.now entries.now since (listed_judged judged listed.now) self.old) result self.new }

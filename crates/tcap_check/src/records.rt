@@ -11,10 +11,10 @@ ghost use Rattle.tcap_model.specs.declared.reason.Reason.TheVariants as reasons;
 ghost use Rattle.tcap_model.specs.World.{Item};
 ghost use Rattle.tcap_model.specs.Entries.{AreItems, item_of};
 ghost use Rattle.tcap_certificate.specs.Replay.{fault_at, replay_by, replayed_by};
-ghost use Rattle.tcap_check.specs.CheckerMeaning.{Took, TookListed, answer_of, kept_next, map_ok, reported};
+ghost use Rattle.tcap_check.specs.CheckerMeaning.{HasTaken, HasTakenListing, answer_of, kept_next, map_ok, reported};
 ghost use Rattle.tcap_check.specs.Progress.{YieldsInMemory};
 ghost use Rattle.tcap_check.specs.ReplayInvariants.{IsReady, checking_of, kept_in};
-ghost use Rattle.tcap_check.specs.RunSoFar.{IfRefused, IsListed, ShowsAmong, ShowsItem, StandsAmong};
+ghost use Rattle.tcap_check.specs.RunSoFar.{IfRefused, IsListed, ShowsAmong, ShowsItem, IsPartialReplay};
 ghost use Rattle.tcap_check.specs.RefusedReplay.{Leaves, entry_left};
 ghost use Rattle.tcap_check.specs.declared.checker.Report.{Report as Reported};
 
@@ -34,8 +34,9 @@ impl<'a> Checker<'a> {
     ///
     /// `NoItem` if the entry has a message and no end, or a quiet mark and an end. Else as `step` and `mark`.
     pub fn take(&mut self, entry: &EntryView) -> Result<(), CheckFault>
-        ensures took { (entries : List (Result Item Why)) → Took self.old entries → result ≢ Err (fault_at reasons.Memory 0)
-            → Took self.new (entries ++ item_of (entry_read entry.now) ∷ []) }
+        ensures took { (entries : List (Result Item Why)) → HasTaken self.old entries
+            → result ≢ Err (fault_at reasons.Memory 0)
+            → HasTaken self.new (entries ++ item_of (entry_read entry.now) ∷ []) }
         ensures refuses { RefusesForGood self.old (item_of (entry_read entry.now)) result }
         ensures answers { result ≡ answer_of self.new.so_far }
         ensures judged { self.new.judged ≡ self.old.judged }
@@ -80,14 +81,17 @@ impl<'r> Replaying<'_, 'r> {
     /// refused, or with `Memory`.
     pub(crate) fn take_all(&mut self, record: &'r Record) -> Result<(), CheckFault>
         requires ready { IsReady self.old }
-        ensures took { (listed : Bool) → TookListed listed (checking_of self.old) []
-            → OnOk result (TookListed listed (checking_of self.new) (map item_of «record».now.entries.items)) }
-        ensures refused { (listed : Bool) (f : Refusal) → TookListed listed (checking_of self.old) [] → result ≡ Err f
+        ensures took { (listed : Bool) → HasTakenListing listed (checking_of self.old) []
+            → OnOk result (HasTakenListing listed (checking_of self.new) (map item_of «record».now.entries.items)) }
+        ensures refused { (listed : Bool) (f : Refusal) → HasTakenListing listed (checking_of self.old) []
+            → result ≡ Err f
             → f ≢ fault_at reasons.Memory 0 → replay_by self.old.judged self.old.table.now self.old.certificate.now
             (map item_of «record».now.entries.items) ≡ Err f }
-        ensures so_far { TookListed true (checking_of self.old) [] → IfRefused result (StandsAmong self.old.table.now self.old.certificate.now
+        ensures so_far { HasTakenListing true (checking_of self.old) []
+            → IfRefused result (IsPartialReplay self.old.table.now self.old.certificate.now
             self.old.judged «record».now.entries.items self.new.progress) }
-        ensures shows { TookListed true (checking_of self.old) [] → ShowsAmong self.old.table.now «record».now.entries.items result
+        ensures shows { HasTakenListing true (checking_of self.old) []
+            → ShowsAmong self.old.table.now «record».now.entries.items result
             self.new.progress }
         ensures ready { OnOk result (IsReady self.new) }
         ensures judged { self.new.judged ≡ self.old.judged }

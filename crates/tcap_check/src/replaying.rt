@@ -9,7 +9,7 @@ ghost use Rattle.tcap_check.specs.EntryOutlines.{outline_of};
 ghost use Rattle.tcap_check.specs.Progress.{GrewBy, YieldsInMemory, load, overtakes, seat_at, unheard_load};
 ghost use Rattle.tcap_certificate.specs.Replay.{certificate_fits, discards_by, fault_at, is_gap, run_by};
 ghost use Rattle.tcap_check.specs.ReportedSteps.{discards_of, events_of};
-ghost use Rattle.tcap_check.specs.CheckerMeaning.{TookListed, gap_before, is_alone, kept_ended, kept_next, map_ok, reading, reported, tied_now};
+ghost use Rattle.tcap_check.specs.CheckerMeaning.{HasTakenListing, gap_before, is_alone, kept_ended, kept_next, map_ok, reading, reported, tied_now};
 ghost use Rattle.tcap_check.specs.ReplaySteps.{mark_taken, message_taken};
 ghost use Rattle.tcap_check.specs.Plan.{IsPlan, flag_by};
 ghost use Rattle.tcap_check.specs.RefusedReplay.{IsListing, Leaves, end_left, entry_left, gap_left, mark_left, taken_left};
@@ -17,7 +17,7 @@ ghost use Rattle.tcap_check.specs.RunSoFar.{IsListed, ShowsSend, UnlessMemory};
 ghost use Rattle.tcap_check.specs.ReplayInvariants.{IsReady, IsSameBesideEntries, IsSameBesideProgress, checking_of, kept_in};
 
 use crate::checker::Report;
-use crate::deliveries::told_among;
+use crate::deliveries::sent_among;
 use crate::outline::Outline;
 use crate::plan::{Plan, check_ranges};
 use crate::progress::{OUT_OF_MEMORY, Progress};
@@ -56,7 +56,8 @@ impl<'a, 'r> Replaying<'a, 'r> {
         listed: bool,
     ) -> Result<Replaying<'a, 'r>, CheckFault>
         ensures ready { IfOk result (λ replaying. IsReady replaying) }
-        ensures took { IfOk result (λ replaying. TookListed listed (checking_of replaying) [] × (replaying.judged ≡ judged)
+        ensures took { IfOk result (λ replaying. HasTakenListing listed (checking_of replaying) []
+            × (replaying.judged ≡ judged)
             × (replaying.table.now ≡ table.entry.now) × (replaying.certificate.now ≡ certificate.entry.now)) }
         ensures fits { OnOk result (certificate_fits certificate.entry.now ≡ Ok tt) }
         ensures refused { (f : Refusal) → result ≡ Err f → f ≢ fault_at reasons.Memory 0
@@ -125,7 +126,7 @@ impl<'a, 'r> Replaying<'a, 'r> {
         ensures memory { (f : Refusal) → result ≡ Err f → f ≡ fault_at reasons.Memory 0 }
     {
         let takes = self.plan.taken.get(self.entries.len());
-        match told_among(self.alloc, &self.entries, judged.other(), takes) {
+        match sent_among(self.alloc, &self.entries, judged.other(), takes) {
             Ok(tied) => Ok(tied),
             Err(_) => Err(OUT_OF_MEMORY),
         }
@@ -362,7 +363,8 @@ impl<'a, 'r> Replaying<'a, 'r> {
     /// Ends the record as `end`, and returns the counts of the run.
     pub(crate) fn finish(self) -> Result<Report, CheckFault>
         requires ready { IsReady self }
-        ensures { (listed : Bool) (entries : List (Result Item Why)) → TookListed listed (checking_of self.entry) entries
+        ensures { (listed : Bool) (entries : List (Result Item Why))
+            → HasTakenListing listed (checking_of self.entry) entries
             → result ≢ Err (fault_at reasons.Memory 0) → result ≡ map_ok (reported self.entry.judged)
             (run_by self.entry.judged self.entry.table.now self.entry.certificate.now entries) }
     {

@@ -6,9 +6,9 @@ ghost use Rattle.tcap_end.specs.End.{nothing};
 ghost use Rattle.tcap_model.specs.declared.reason.Reason.TheVariants as reasons;
 ghost use Rattle.tcap_model.specs.Entries.{item_of};
 ghost use Rattle.tcap_check.specs.OneEndRun.{IsGivenTo};
-ghost use Rattle.tcap_check.specs.CheckerMeaning.{TookListed, map_ok};
+ghost use Rattle.tcap_check.specs.CheckerMeaning.{HasTakenListing, map_ok};
 ghost use Rattle.tcap_check.specs.ReplayInvariants.{IsReady, checking_of};
-ghost use Rattle.tcap_check.specs.RunSoFar.{EndsListed, UnlessMemory, IsAnswered, IsRefusedThere, IsSoFar, ShowsAmong, StandsAmong, answered};
+ghost use Rattle.tcap_check.specs.RunSoFar.{EndsListed, UnlessMemory, IsAnswered, IsRefusedThere, IsSoFar, ShowsAmong, IsPartialReplay, answered};
 ghost use Rattle.tcap_certificate.specs.Replay.{certificate_fits, discards_by, fault_at, replayed_by};
 ghost use Rattle.tcap_check.specs.ReportedSteps.{MayAllBeDiscarded, discards_of, events_of};
 
@@ -37,11 +37,14 @@ pub struct Partial {
 /// Replays the entries of a record and the end of the record. Fails with the first refusal, or with `Memory`.
 fn go_through<'r>(replaying: &mut Replaying<'_, 'r>, record: &'r Record) -> Result<(), CheckFault>
     requires ready { IsReady replaying.old }
-    ensures answer { TookListed true (checking_of replaying.old) [] → UnlessMemory result (EndsListed replaying.old.judged
+    ensures answer { HasTakenListing true (checking_of replaying.old) []
+        → UnlessMemory result (EndsListed replaying.old.judged
         replaying.old.table.now replaying.old.certificate.now «record».now.entries.items result replaying.new.progress) }
-    ensures so_far { TookListed true (checking_of replaying.old) [] → UnlessMemory result (StandsAmong replaying.old.table.now
+    ensures so_far { HasTakenListing true (checking_of replaying.old) []
+        → UnlessMemory result (IsPartialReplay replaying.old.table.now
         replaying.old.certificate.now replaying.old.judged «record».now.entries.items replaying.new.progress) }
-    ensures shows { TookListed true (checking_of replaying.old) [] → ShowsAmong replaying.old.table.now «record».now.entries.items result
+    ensures shows { HasTakenListing true (checking_of replaying.old) []
+        → ShowsAmong replaying.old.table.now «record».now.entries.items result
         replaying.new.progress }
 {
     replaying.take_all(record)?;

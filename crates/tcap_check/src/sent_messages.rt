@@ -11,12 +11,12 @@ ghost use Rattle.tcap_certificate.specs.DescribedRun.{invoke_id, invoking_half};
 ghost use Rattle.tcap_check.specs.Progress.{GrewBy, IsAsMany, IsMemory, YieldsInMemory, end_tried, first_answered, first_may_be_answered, front_lost};
 ghost use Rattle.tcap_check.specs.Progress.{ids_ended_over, invoked_ended, load, may_be_answered, message_kept, overtakes, reply_kept};
 ghost use Rattle.tcap_check.specs.Progress.{seat_at, seat_with, send_kept, sending, sent_by, time_or_zero, unheard_load, with_seat};
-ghost use Rattle.tcap_check.specs.Progress.{with_seat_end, with_told};
+ghost use Rattle.tcap_check.specs.Progress.{with_seat_end, with_steps};
 ghost use Rattle.tcap_certificate.specs.Replay.{fault_at};
 ghost use Rattle.tcap_check.specs.RefusedReplay.{Leaves, implied_left, message_left};
 ghost use Rattle.tcap_check.specs.RunSoFar.{ShowsSend};
 
-use crate::held_message::Held;
+use crate::held_message::WaitingMessage;
 use crate::progress::{OUT_OF_MEMORY, Progress, Seat, Waiting, copy_name};
 use crate::step::Step;
 use std::alloc::{AllocError, Global};
@@ -29,7 +29,7 @@ use tcap_record::End;
 
 /// The step by which a message is sent.
 #[derive(Clone, Copy)]
-pub(crate) enum Way {
+pub(crate) enum SendKind {
     /// The end sends the message by the rules.
     Sends,
     /// The end sends the message and need not keep the rules.
@@ -100,7 +100,7 @@ impl<'r> Seat<'r> {
     {
         let message = match fate {
             Fate::Lost => None,
-            _ => Some(Held::new(alloc, message, lent)?),
+            _ => Some(WaitingMessage::new(alloc, message, lent)?),
         };
         self.waiting.push_back(Waiting { number, message })?;
         let time = time_or_zero(fate);
@@ -124,20 +124,20 @@ impl<'r> Progress<'r> {
     fn tell_sent<M: MessageParts>(
         &mut self,
         alloc: Global,
-        way: Way,
+        way: SendKind,
         side: End,
         message: &M,
     ) -> Result<(), CheckFault>
-        ensures told { OnOk result (self.new ≡ with_told (sending way side (M.meaning message.now) ∷ []) self.old) }
+        ensures told { OnOk result (self.new ≡ with_steps (sending way side (M.meaning message.now) ∷ []) self.old) }
         ensures memory { IsMemory result }
     {
         if self.steps.is_none() {
             return Ok(());
         }
         let step = match way {
-            Way::Sends => Step::Sends(side, copied(alloc, message)?),
-            Way::Tells => Step::Tells(side, copied(alloc, message)?),
-            Way::Replies(number) => Step::Replies(side, number),
+            SendKind::Sends => Step::Sends(side, copied(alloc, message)?),
+            SendKind::Tells => Step::Tells(side, copied(alloc, message)?),
+            SendKind::Replies(number) => Step::Replies(side, number),
         };
         self.tell(step)
     }
@@ -168,7 +168,7 @@ impl<'r> Progress<'r> {
     pub(crate) fn join<M: MessageParts>(
         &mut self,
         alloc: Global,
-        way: Way,
+        way: SendKind,
         side: End,
         fate: Fate,
         number: u64,
@@ -297,7 +297,7 @@ impl<'r> Progress<'r> {
         ensures grows { OnOk result (GrewBy (2 ^ 65) 1 self.old self.new) }
     {
         match self.send_as_is(table, side, message) {
-            Ok(()) => return self.join(alloc, Way::Sends, side, fate, number, message, lent),
+            Ok(()) => return self.join(alloc, SendKind::Sends, side, fate, number, message, lent),
             Err(EndFault::Memory) => return Err(OUT_OF_MEMORY),
             Err(_) => (),
         }
@@ -305,7 +305,7 @@ impl<'r> Progress<'r> {
             self.end_implied(table, side, message)?;
         }
         match self.send_as_is(table, side, message) {
-            Ok(()) => self.join(alloc, Way::Sends, side, fate, number, message, lent),
+            Ok(()) => self.join(alloc, SendKind::Sends, side, fate, number, message, lent),
             Err(EndFault::Memory) => Err(OUT_OF_MEMORY),
             Err(fault) => Err(CheckFault {
                 reason: Reason::SendRefused(fault),
@@ -354,7 +354,7 @@ impl<'r> Progress<'r> {
             });
         }
         self.drop_first(side.other());
-        let way = Way::Replies(u64::from(taken));
+        let way = SendKind::Replies(u64::from(taken));
         self.join(alloc, way, side, fate, number, abort, lent)
     }
 

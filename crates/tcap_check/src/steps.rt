@@ -13,21 +13,21 @@ pub(crate) struct Steps {
 }
 
 impl Model for Steps {
-    ghost use Rattle.tcap_check.specs.ReportedSteps.{Told, told_of};
+    ghost use Rattle.tcap_check.specs.ReportedSteps.{ListedRun, listed_run_of};
 
-    ghost Value = { Told };
+    ghost Value = { ListedRun };
 
-    ghost view = { λ s. told_of s.list.items };
+    ghost view = { λ s. listed_run_of s.list.items };
 }
 
 impl Steps {
     ghost use Rattle.std.specs.Prelude.{◌≡◌, [], ◌∷◌, None, OnOk};
     ghost use Rattle.tcap_model.specs.Run.{Loses};
-    ghost use Rattle.tcap_check.specs.ReportedSteps.{discard_more, discard_of, event_of, more_told, nothing_told, told_of};
+    ghost use Rattle.tcap_check.specs.ReportedSteps.{with_one_discard, discard_of, event_of, with_events, no_steps, listed_run_of};
 
     /// Creates an empty list.
     pub(crate) fn new(alloc: Global) -> Steps
-        ensures { result ≡ nothing_told }
+        ensures { result ≡ no_steps }
     {
         Steps {
             list: Vec::new(alloc),
@@ -38,7 +38,7 @@ impl Steps {
     #[tactic(auto, using(crate::proofs::checker_laws::ToldStepLaws::one_more))]
     pub(crate) fn push(&mut self, step: Step) -> Result<(), AllocError>
         requires plain { discard_of step ≡ None }
-        ensures { OnOk result (self.new ≡ more_told (event_of step ∷ []) self.old) }
+        ensures { OnOk result (self.new ≡ with_events (event_of step ∷ []) self.old) }
     {
         self.list.push(step)?;
         Ok(())
@@ -52,7 +52,8 @@ impl Steps {
         number: u64,
         reason: EndFault,
     ) -> Result<(), AllocError>
-        ensures { OnOk result (self.new ≡ discard_more number reason (more_told (Loses «sender» number ∷ []) self.old)) }
+        ensures { OnOk result (self.new ≡ with_one_discard number reason
+            (with_events (Loses «sender» number ∷ []) self.old)) }
     {
         self.list.push(Step::Discards(sender, number, reason))?;
         Ok(())
@@ -60,7 +61,7 @@ impl Steps {
 
     /// Returns the steps as a vector.
     pub(crate) fn into_list(self) -> Vec<Step>
-        ensures { told_of result.items ≡ self }
+        ensures { listed_run_of result.items ≡ self }
     {
         self.list
     }

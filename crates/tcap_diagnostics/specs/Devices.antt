@@ -1,16 +1,16 @@
 -- Which reader or writer does a wrapper hold?
-use Rattle.tcap_diagnostics.specs.declared.line_reader.Kept.{Kept}
-use Rattle.tcap_diagnostics.specs.declared.first_octets.Noted.{Noted}
-use Rattle.tcap_diagnostics.specs.declared.fault_writer.Told.{Told}
+use Rattle.tcap_diagnostics.specs.declared.line_reader.LineReader.{LineReader}
+use Rattle.tcap_diagnostics.specs.declared.first_octets.FirstOctets.{FirstOctets}
+use Rattle.tcap_diagnostics.specs.declared.fault_writer.FaultWriter.{FaultWriter}
 
--- the reader in a `Noted`
-abbrev pub noted_inner : {R : Type 0} → Noted R → R
-noted_inner device = device.reader
+-- the reader in a `FirstOctets`
+abbrev pub first_octets_inner : {R : Type 0} → FirstOctets R → R
+first_octets_inner device = device.reader
 
--- the reader in a `Kept`
-abbrev pub kept_inner : {R : Type 0} → Kept R → R
-kept_inner device = device.reader
+-- the reader in a `LineReader`
+abbrev pub line_reader_inner : {R : Type 0} → LineReader R → R
+line_reader_inner device = device.reader
 
--- the writer in a `Told`
-abbrev pub told_inner : {W : Type 0} → Told W → W
-told_inner device = device.writer
+-- the writer in a `FaultWriter`
+abbrev pub fault_writer_inner : {W : Type 0} → FaultWriter W → W
+fault_writer_inner device = device.writer

@@ -9,7 +9,7 @@ use std::alloc::{AllocError, Global};
 
 /// A code that is written as a text, and the JSON around it.
 #[derive(Clone, Copy)]
-struct Meant<'a> {
+struct TextCode<'a> {
     before: &'static str,
     digits: &'a str,
     behind: &'static str,
@@ -28,10 +28,10 @@ fn short_digits(alloc: Global, code: &Value) -> Result<Option<&str>, AllocError>
 }
 
 /// Returns the first code of a row that may be meant as a number.
-fn meant_in(alloc: Global, row: &Value) -> Result<Option<Meant>, AllocError> {
+fn text_code_in(alloc: Global, row: &Value) -> Result<Option<TextCode>, AllocError> {
     if let Some(code) = row.get("code") {
         if let Some(digits) = short_digits(alloc, code)? {
-            return Ok(Some(Meant {
+            return Ok(Some(TextCode {
                 before: "\"code\":",
                 digits,
                 behind: "",
@@ -43,7 +43,7 @@ fn meant_in(alloc: Global, row: &Value) -> Result<Option<Meant>, AllocError> {
     };
     for code in linked {
         if let Some(digits) = short_digits(alloc, code)? {
-            return Ok(Some(Meant {
+            return Ok(Some(TextCode {
                 before: "\"linked\":[",
                 digits,
                 behind: "]",
@@ -54,8 +54,8 @@ fn meant_in(alloc: Global, row: &Value) -> Result<Option<Meant>, AllocError> {
 }
 
 /// Appends what such a code is, and how to write the number.
-fn push_meant(text: &mut String, meant: Meant) -> Result<(), AllocError> {
-    let Meant {
+fn push_text_code(text: &mut String, meant: TextCode) -> Result<(), AllocError> {
+    let TextCode {
         before,
         digits,
         behind,
@@ -157,11 +157,11 @@ fn push_rows(
         return Ok(());
     };
     for (row, value) in rows.iter().enumerate() {
-        let Some(meant) = meant_in(alloc, value)? else {
+        let Some(meant) = text_code_in(alloc, value)? else {
             continue;
         };
         push_place(text, path, number, row)?;
-        push_meant(text, meant)?;
+        push_text_code(text, meant)?;
     }
     Ok(())
 }

@@ -7,7 +7,7 @@ ghost use Rattle.tcap_lines.specs.declared.stop.Stop.{Stop};
 use crate::names::{feed_name_of, name_of};
 use crate::octets_around::push_around;
 use crate::path::path_to;
-use crate::showing::Showing;
+use crate::showing::ShowState;
 use std::alloc::{AllocError, Global};
 use tcap_ber::{Failed, Fault, Read, Reason, Window, Write, next_tlv};
 use tcap_lines::{Status, Stop, WriteFailed};
@@ -122,7 +122,7 @@ pub(crate) fn push_record_why(
 
 /// Writes the lines of the entries in `reader`, up to its end or the first fault.
 fn show_all<R: Read, W: Write>(
-    showing: &mut Showing,
+    showing: &mut ShowState,
     reader: &mut R,
     writer: &mut W,
 ) -> Result<(), Stop>
@@ -131,9 +131,9 @@ fn show_all<R: Read, W: Write>(
 {
     let mut piece = [0; PIECE_LEN];
     for _ in 0..u64::MAX {
-        let told = match reader.read(&mut piece) {
+        let returned = match reader.read(&mut piece) {
             Ok(0) => return Ok(showing.finish()?),
-            Ok(told) => told,
+            Ok(returned) => returned,
             Err(Failed) => {
                 return Err(Stop::Fault(FeedFault {
                     reason: FeedReason::Read,
@@ -141,7 +141,7 @@ fn show_all<R: Read, W: Write>(
                 }));
             }
         };
-        showing.show_piece(&piece[..told], writer)?;
+        showing.show_piece(&piece[..returned], writer)?;
     }
     Ok(())
 }
@@ -162,7 +162,7 @@ pub fn run_why<R: Read, W: Write>(
     ensures counts { OnOk result (W.failures writer.new ≡ W.failures writer.old) }
     ensures failed { OnErr result (W.failures writer.new ≡ one_more (W.failures writer.old)) }
 {
-    let mut showing = Showing::new(alloc, true);
+    let mut showing = ShowState::new(alloc, true);
     let ended = show_all(&mut showing, reader, writer);
     showing.end(ended, writer)
 }

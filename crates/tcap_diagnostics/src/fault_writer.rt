@@ -1,7 +1,7 @@
 //! A writer of faults that remembers whether the last fault was a bad line.
 
 ghost use Rattle.std.specs.Prelude.{◌≡◌};
-ghost use Rattle.tcap_diagnostics.specs.Devices.{told_inner};
+ghost use Rattle.tcap_diagnostics.specs.Devices.{fault_writer_inner};
 
 use tcap_ber::{Failed, Write};
 
@@ -11,17 +11,17 @@ const BAD_LINE: &[u8] = b"FAULT 24 ";
 /// A writer that passes octets on to another writer, and notes whether the last ones are the fault of a bad line of
 /// digits.
 #[derive(Drop)]
-pub struct Told<W> {
+pub struct FaultWriter<W> {
     writer: W,
     bad_line: bool,
 }
 
-impl<W> Told<W> {
+impl<W> FaultWriter<W> {
     /// Creates a writer over `writer` to which nothing was written yet.
-    pub fn new(writer: W) -> Told<W>
-        ensures { told_inner result ≡ writer }
+    pub fn new(writer: W) -> FaultWriter<W>
+        ensures { fault_writer_inner result ≡ writer }
     {
-        Told {
+        FaultWriter {
             writer,
             bad_line: false,
         }
@@ -33,10 +33,10 @@ impl<W> Told<W> {
     }
 }
 
-impl<W: Write> Write for Told<W> {
-    ghost taken = { λ device. W.taken (told_inner device) };
+impl<W: Write> Write for FaultWriter<W> {
+    ghost taken = { λ device. W.taken (fault_writer_inner device) };
 
-    ghost failures = { λ device. W.failures (told_inner device) };
+    ghost failures = { λ device. W.failures (fault_writer_inner device) };
 
     fn write_all(&mut self, octets: &[u8]) -> Result<(), Failed> {
         self.bad_line = octets.starts_with(BAD_LINE);

@@ -1,7 +1,7 @@
 //! A reader that notes the first octets.
 
 ghost use Rattle.std.specs.Prelude.{◌≡◌};
-ghost use Rattle.tcap_diagnostics.specs.Devices.{noted_inner};
+ghost use Rattle.tcap_diagnostics.specs.Devices.{first_octets_inner};
 
 use std::alloc::Global;
 use tcap_ber::{Failed, Read};
@@ -11,19 +11,19 @@ const NOTED: usize = 512;
 
 /// A reader that passes octets on from another reader, and notes the first 512 of them.
 #[derive(Drop)]
-pub struct Noted<R> {
+pub struct FirstOctets<R> {
     reader: R,
     first: Vec<u8>,
     // Memory ran out, so nothing more is noted.
     lost: bool,
 }
 
-impl<R> Noted<R> {
+impl<R> FirstOctets<R> {
     /// Creates a reader over `reader` that has noted nothing yet.
-    pub fn new(alloc: Global, reader: R) -> Noted<R>
-        ensures { noted_inner result ≡ reader }
+    pub fn new(alloc: Global, reader: R) -> FirstOctets<R>
+        ensures { first_octets_inner result ≡ reader }
     {
-        Noted {
+        FirstOctets {
             reader,
             first: Vec::new(alloc),
             lost: false,
@@ -36,17 +36,17 @@ impl<R> Noted<R> {
     }
 }
 
-impl<R: Read> Read for Noted<R> {
-    ghost untold = { λ device. R.untold (noted_inner device) };
+impl<R: Read> Read for FirstOctets<R> {
+    ghost untold = { λ device. R.untold (first_octets_inner device) };
 
-    ghost failures = { λ device. R.failures (noted_inner device) };
+    ghost failures = { λ device. R.failures (first_octets_inner device) };
 
     fn read(&mut self, buffer: &mut [u8]) -> Result<usize, Failed> {
-        let told = self.reader.read(buffer)?;
-        let room = NOTED.saturating_sub(self.first.len()).min(told);
+        let returned = self.reader.read(buffer)?;
+        let room = NOTED.saturating_sub(self.first.len()).min(returned);
         if !self.lost && self.first.extend_from_slice(&buffer[..room]).is_err() {
             self.lost = true;
         }
-        Ok(told)
+        Ok(returned)
     }
 }

@@ -8,7 +8,7 @@ use tcap_lines::WriteFailed;
 
 /// The appearance of octets.
 #[derive(Clone, Copy, PartialEq, Eq)]
-enum Look {
+enum FileFormat {
     /// A record.
     Record,
     /// Lines of hexadecimal digits.
@@ -146,18 +146,18 @@ fn first_key(octets: &[u8]) -> Option<&[u8]> {
 }
 
 /// Returns the appearance of a message of another protocol.
-fn look_of_message(octets: &[u8]) -> Option<Look> {
+fn format_of_message(octets: &[u8]) -> Option<FileFormat> {
     match octets {
         // A package: Unidirectional, Query, Response, Conversation, Abort.
-        [0xE1..=0xE6 | 0xF6, ..] => Some(Look::Ansi),
+        [0xE1..=0xE6 | 0xF6, ..] => Some(FileFormat::Ansi),
         // Version 1, a reserved octet, and a message class.
-        [0x01, 0x00, 0x00..=0x09, ..] => Some(Look::M3ua),
+        [0x01, 0x00, 0x00..=0x09, ..] => Some(FileFormat::M3ua),
         // UDT, XUDT and LUDT with a protocol class of connectionless service.
-        [0x09 | 0x11 | 0x13, 0x00 | 0x01 | 0x80 | 0x81, ..] => Some(Look::Sccp),
+        [0x09 | 0x11 | 0x13, 0x00 | 0x01 | 0x80 | 0x81, ..] => Some(FileFormat::Sccp),
         // Empty lines.
         [b'\n', b'\n' | b'\r', ..] => None,
         // UDTS, XUDTS and LUDTS with a return cause.
-        [0x0A | 0x12 | 0x14, 0x00..=0x0E, ..] => Some(Look::Sccp),
+        [0x0A | 0x12 | 0x14, 0x00..=0x0E, ..] => Some(FileFormat::Sccp),
         _ => None,
     }
 }
@@ -173,20 +173,20 @@ fn is_one_of(names: &[&str], key: &[u8]) -> bool {
 }
 
 /// Returns the appearance of a JSON object with this first key.
-fn look_of_key(key: &[u8]) -> Look {
+fn format_of_key(key: &[u8]) -> FileFormat {
     if is_one_of(&TABLE_KEYS, key) {
-        Look::Table
+        FileFormat::Table
     } else if is_one_of(&CERTIFICATE_KEYS, key) {
-        Look::Certificate
+        FileFormat::Certificate
     } else if is_one_of(&["tables"], key) {
-        Look::Book
+        FileFormat::Book
     } else {
-        Look::Json
+        FileFormat::Json
     }
 }
 
 /// Returns the appearance of a file that begins with these octets.
-fn look_of(octets: &[u8]) -> Option<Look> {
+fn format_of(octets: &[u8]) -> Option<FileFormat> {
     match octets {
         [] => return None,
         // The magic numbers of pcap, with times in microseconds or nanoseconds and in either octet order, and of
@@ -195,32 +195,35 @@ fn look_of(octets: &[u8]) -> Option<Look> {
         | [0xA1, 0xB2, 0xC3, 0xD4, ..]
         | [0x4D, 0x3C, 0xB2, 0xA1, ..]
         | [0xA1, 0xB2, 0x3C, 0x4D, ..]
-        | [0x0A, 0x0D, 0x0D, 0x0A, ..] => return Some(Look::Capture),
-        [0x1F, 0x8B, ..] => return Some(Look::Gzip),
-        [0xEF, 0xBB, 0xBF, ..] => return Some(Look::Marked),
+        | [0x0A, 0x0D, 0x0D, 0x0A, ..] => return Some(FileFormat::Capture),
+        [0x1F, 0x8B, ..] => return Some(FileFormat::Gzip),
+        [0xEF, 0xBB, 0xBF, ..] => return Some(FileFormat::Marked),
         _ => {}
     }
     if are_lines(octets) {
-        return Some(Look::Lines);
+        return Some(FileFormat::Lines);
     }
     if is_record(octets) {
-        return Some(Look::Record);
+        return Some(FileFormat::Record);
     }
     match first_key(octets) {
-        Some(key) => Some(look_of_key(key)),
-        None => look_of_message(message_in(octets)),
+        Some(key) => Some(format_of_key(key)),
+        None => format_of_message(message_in(octets)),
     }
 }
 
 /// Returns whether a file of this appearance can be used in this role.
-fn is_right(role: Role, look: Look) -> bool {
+fn is_right(role: Role, look: FileFormat) -> bool {
     match role {
-        Role::Shown | Role::Record => look == Look::Record,
-        Role::Lines => look == Look::Lines,
-        Role::Trace => matches!(look, Look::Record | Look::Lines),
-        Role::Table => matches!(look, Look::Table | Look::Json),
-        Role::Book => matches!(look, Look::Table | Look::Book | Look::Json),
-        Role::Certificate => matches!(look, Look::Certificate | Look::Json),
+        Role::Shown | Role::Record => look == FileFormat::Record,
+        Role::Lines => look == FileFormat::Lines,
+        Role::Trace => matches!(look, FileFormat::Record | FileFormat::Lines),
+        Role::Table => matches!(look, FileFormat::Table | FileFormat::Json),
+        Role::Book => matches!(
+            look,
+            FileFormat::Table | FileFormat::Book | FileFormat::Json
+        ),
+        Role::Certificate => matches!(look, FileFormat::Certificate | FileFormat::Json),
     }
 }
 
@@ -228,48 +231,53 @@ fn is_right(role: Role, look: Look) -> bool {
 const HINT: &str = "  hint: ";
 
 /// Returns the hint for a file of this appearance in this role.
-fn words_of(role: Role, look: Look) -> &'static str {
+fn words_of(role: Role, look: FileFormat) -> &'static str {
     match look {
-        Look::Lines if role == Role::Shown => {
+        FileFormat::Lines if role == Role::Shown => {
             "this looks like lines of hexadecimal digits, which `tcapjudge show --lines` reads"
         }
-        Look::Lines => {
+        FileFormat::Lines => {
             "this looks like lines of hexadecimal digits, of which `tcapjudge pack` makes a record"
         }
-        Look::Record => "this looks like a record, which `tcapjudge show` prints",
-        Look::Ansi => {
+        FileFormat::Record => "this looks like a record, which `tcapjudge show` prints",
+        FileFormat::Ansi => {
             "this looks like TCAP of ANSI (T1.114), and a record holds that of ITU-T (Q.773)"
         }
-        Look::Sccp => "this looks like SCCP, and an entry of a record holds the TCAP message in it",
-        Look::M3ua => "this looks like M3UA, and an entry of a record holds the TCAP message in it",
-        Look::Capture =>
+        FileFormat::Sccp =>
+            "this looks like SCCP, and an entry of a record holds the TCAP message in it",
+        FileFormat::M3ua =>
+            "this looks like M3UA, and an entry of a record holds the TCAP message in it",
+        FileFormat::Capture =>
             "this looks like a capture, of which tools/lines_of_capture.py makes lines",
-        Look::Gzip => "this looks like a compressed file, which `gunzip` unpacks",
-        Look::Marked => {
+        FileFormat::Gzip => "this looks like a compressed file, which `gunzip` unpacks",
+        FileFormat::Marked => {
             "this looks like a text behind a byte order mark, EF BB BF, which may not stand there"
         }
-        Look::Table => "this looks like an operation table, which `tcapjudge table` prints",
-        Look::Book => {
+        FileFormat::Table => "this looks like an operation table, which `tcapjudge table` prints",
+        FileFormat::Book => {
             "this looks like a book of operation tables, which `tcapjudge test --table` takes"
         }
-        Look::Certificate => {
+        FileFormat::Certificate => {
             "this looks like a certificate, which `tcapjudge check` takes behind the table"
         }
-        Look::Json => "this looks like JSON, as an operation table or a certificate is",
+        FileFormat::Json => "this looks like JSON, as an operation table or a certificate is",
     }
 }
 
 /// Returns the appearance to report. If a record or a trace is expected, all JSON objects are reported as JSON.
-fn told_of(role: Role, look: Look) -> Look {
+fn told_of(role: Role, look: FileFormat) -> FileFormat {
     match (role, look) {
-        (Role::Shown | Role::Trace, Look::Table | Look::Book | Look::Certificate) => Look::Json,
+        (
+            Role::Shown | Role::Trace,
+            FileFormat::Table | FileFormat::Book | FileFormat::Certificate,
+        ) => FileFormat::Json,
         _ => look,
     }
 }
 
 /// Returns the hint for a file that begins with these octets, if it cannot be used in this role.
 fn words_on(role: Role, first: &[u8]) -> Option<&'static str> {
-    match look_of(first) {
+    match format_of(first) {
         Some(look) if !is_right(role, look) => Some(words_of(role, told_of(role, look))),
         _ => None,
     }

@@ -21,11 +21,11 @@ mod table_rows;
 mod tables;
 
 pub use fault_reasons::run_why;
-pub use fault_writer::Told;
-pub use first_octets::Noted;
+pub use fault_writer::FaultWriter;
+pub use first_octets::FirstOctets;
 pub use hints::{Role, hint_of, write_hint};
-pub use line_reader::Kept;
+pub use line_reader::LineReader;
 pub use lines::run_lines;
 pub use names::name_of;
-pub use rules::{Broken, broken_by, push_broken_rule, write_rule};
+pub use rules::{BrokenRule, broken_by, push_broken_rule, write_rule};
 pub use tables::{run_table, write_code_hints};

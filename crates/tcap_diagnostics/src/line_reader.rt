@@ -1,7 +1,7 @@
 //! A reader of lines that keeps the last lines.
 
 ghost use Rattle.std.specs.Prelude.{◌≡◌};
-ghost use Rattle.tcap_diagnostics.specs.Devices.{kept_inner};
+ghost use Rattle.tcap_diagnostics.specs.Devices.{line_reader_inner};
 
 use std::alloc::Global;
 use tcap_ber::{Failed, Read};
@@ -34,26 +34,26 @@ impl Tail {
     }
 
     /// Keeps the octets that were read next.
-    fn keep(&mut self, told: &[u8]) {
-        self.ended = told.is_empty();
-        self.lost = self.lost || self.octets.extend_from_slice(told).is_err();
+    fn keep(&mut self, returned: &[u8]) {
+        self.ended = returned.is_empty();
+        self.lost = self.lost || self.octets.extend_from_slice(returned).is_err();
     }
 }
 
 /// A reader that passes octets on from another reader, and keeps the last lines: those that end in the last piece or
 /// are unfinished.
 #[derive(Drop)]
-pub struct Kept<R> {
+pub struct LineReader<R> {
     reader: R,
     tail: Tail,
 }
 
-impl<R> Kept<R> {
+impl<R> LineReader<R> {
     /// Creates a reader over `reader` that has kept nothing yet.
-    pub fn new(alloc: Global, reader: R) -> Kept<R>
-        ensures { kept_inner result ≡ reader }
+    pub fn new(alloc: Global, reader: R) -> LineReader<R>
+        ensures { line_reader_inner result ≡ reader }
     {
-        Kept {
+        LineReader {
             reader,
             tail: Tail {
                 octets: Vec::new(alloc),
@@ -66,7 +66,7 @@ impl<R> Kept<R> {
 
     /// Returns the reader within.
     pub fn inner(&self) -> &R
-        ensures { result.now ≡ kept_inner self.now }
+        ensures { result.now ≡ line_reader_inner self.now }
     {
         &self.reader
     }
@@ -77,15 +77,15 @@ impl<R> Kept<R> {
     }
 }
 
-impl<R: Read> Read for Kept<R> {
-    ghost untold = { λ device. R.untold (kept_inner device) };
+impl<R: Read> Read for LineReader<R> {
+    ghost untold = { λ device. R.untold (line_reader_inner device) };
 
-    ghost failures = { λ device. R.failures (kept_inner device) };
+    ghost failures = { λ device. R.failures (line_reader_inner device) };
 
     fn read(&mut self, buffer: &mut [u8]) -> Result<usize, Failed> {
         self.tail.drop_whole();
-        let told = self.reader.read(buffer)?;
-        self.tail.keep(&buffer[..told]);
-        Ok(told)
+        let returned = self.reader.read(buffer)?;
+        self.tail.keep(&buffer[..returned]);
+        Ok(returned)
     }
 }

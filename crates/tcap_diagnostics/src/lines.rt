@@ -4,8 +4,8 @@ ghost use Rattle.std.specs.Prelude.{◌≡◌, ◌≢◌, Err, IsErr, OnOk, OnEr
 ghost use Rattle.tcap_ber.specs.Device.{one_more};
 ghost use Rattle.tcap_lines.specs.declared.stop.Stop.{Stop};
 
-use crate::rules::{Broken, Rule, broken_by, push_broken};
-use crate::showing::Showing;
+use crate::rules::{BrokenRule, Rule, broken_by, push_broken};
+use crate::showing::ShowState;
 use std::alloc::{AllocError, Global};
 use tcap_ber::{Counted, Failed, Read, Write};
 use tcap_lines::{Status, Stop, WriteFailed};
@@ -18,7 +18,7 @@ const HELD_LIMIT: usize = LINE_LIMIT + 2;
 #[derive(Debug, Drop)]
 struct Lines {
     alloc: Global,
-    showing: Showing,
+    showing: ShowState,
     line: Vec<u8>,
     lines: u64,
     read: u64,
@@ -109,9 +109,9 @@ impl Lines {
     {
         let mut piece = [0; PIECE_LEN];
         for _ in 0..u64::MAX {
-            let told = match reader.read(&mut piece) {
+            let returned = match reader.read(&mut piece) {
                 Ok(0) => break,
-                Ok(told) => told,
+                Ok(returned) => returned,
                 Err(Failed) => {
                     return Err(Stop::Fault(FeedFault {
                         reason: FeedReason::Read,
@@ -119,8 +119,8 @@ impl Lines {
                     }));
                 }
             };
-            self.read = self.read.saturating_add(told as u64);
-            self.show_lines(&piece[..told], writer)?;
+            self.read = self.read.saturating_add(returned as u64);
+            self.show_lines(&piece[..returned], writer)?;
         }
         if self.line.is_empty() {
             return Ok(());
@@ -129,9 +129,9 @@ impl Lines {
     }
 
     /// Returns the rule that the current line breaks.
-    fn broken(&self) -> Result<Option<Broken>, AllocError> {
+    fn broken(&self) -> Result<Option<BrokenRule>, AllocError> {
         if self.lines >= LINES_LIMIT {
-            return Ok(Some(Broken {
+            return Ok(Some(BrokenRule {
                 rule: Rule::Many,
                 column: 1,
             }));
@@ -193,7 +193,7 @@ pub fn run_lines<R: Read, W: Write>(
 {
     let mut lines = Lines {
         alloc,
-        showing: Showing::new(alloc, why),
+        showing: ShowState::new(alloc, why),
         line: Vec::new(alloc),
         lines: 0,
         read: 0,

@@ -2,10 +2,10 @@
 
 ghost use Rattle.std.specs.Prelude.{◌≡◌, OnOk, OnErr};
 ghost use Rattle.tcap_ber.specs.Device.{one_more};
-ghost use Rattle.tcap_diagnostics.specs.Devices.{told_inner};
+ghost use Rattle.tcap_diagnostics.specs.Devices.{fault_writer_inner};
 
-use crate::fault_writer::Told;
-use crate::line_reader::{Kept, Tail};
+use crate::fault_writer::FaultWriter;
+use crate::line_reader::{LineReader, Tail};
 use crate::names::name_of;
 use std::alloc::{AllocError, Global};
 use tcap_ber::{Outer, Reason, Write, outer};
@@ -39,14 +39,14 @@ pub(crate) enum Rule {
 
 /// A broken rule, and the column of the fault, counted from 1.
 #[derive(Clone, Copy, Debug, PartialEq, Eq)]
-pub struct Broken {
+pub struct BrokenRule {
     pub(crate) rule: Rule,
     pub(crate) column: usize,
 }
 
 /// Returns a rule that is broken after `before` columns.
-fn broken_behind(rule: Rule, before: usize) -> Broken {
-    Broken {
+fn broken_behind(rule: Rule, before: usize) -> BrokenRule {
+    BrokenRule {
         rule,
         column: before.saturating_add(1),
     }
@@ -76,13 +76,13 @@ fn octets_of(alloc: Global, digits: &[u8]) -> Result<Vec<u8>, AllocError> {
 }
 
 /// Returns a rule that is broken after the end, the space and `count` octets.
-fn behind_octets(rule: Rule, count: u64) -> Broken {
+fn behind_octets(rule: Rule, count: u64) -> BrokenRule {
     let before = count.min(LINE_LIMIT as u64) as usize;
     broken_behind(rule, before * 2 + 2)
 }
 
 /// Returns the rule that the digits after an end and a space break, if any.
-fn broken_digits(alloc: Global, digits: &[u8]) -> Result<Option<Broken>, AllocError> {
+fn broken_digits(alloc: Global, digits: &[u8]) -> Result<Option<BrokenRule>, AllocError> {
     if let Some(at) = digits.iter().position(|digit| value_of(*digit).is_none()) {
         return Ok(Some(broken_behind(Rule::Digit, at.saturating_add(2))));
     }
@@ -106,7 +106,7 @@ fn broken_digits(alloc: Global, digits: &[u8]) -> Result<Option<Broken>, AllocEr
 ///
 /// # Errors
 /// `AllocError` if memory runs out.
-pub fn broken_by(alloc: Global, content: &[u8]) -> Result<Option<Broken>, AllocError> {
+pub fn broken_by(alloc: Global, content: &[u8]) -> Result<Option<BrokenRule>, AllocError> {
     if content.len() > LINE_LIMIT {
         return Ok(Some(broken_behind(Rule::Long, LINE_LIMIT)));
     }
@@ -134,7 +134,7 @@ fn first_line(octets: &[u8]) -> Option<(&[u8], &[u8])> {
 }
 
 /// Returns the rule that the first bad one of the last lines breaks.
-fn broken_in(alloc: Global, tail: &Tail) -> Result<Option<Broken>, AllocError> {
+fn broken_in(alloc: Global, tail: &Tail) -> Result<Option<BrokenRule>, AllocError> {
     let mut rest = tail.octets.as_slice();
     let mut lines = tail.lines;
     for _ in 0..tail.octets.len() {
@@ -181,14 +181,14 @@ fn push_rule(text: &mut String, rule: Rule) -> Result<(), AllocError> {
 ///
 /// # Errors
 /// `AllocError` if memory runs out.
-pub fn push_broken_rule(text: &mut String, broken: Broken) -> Result<(), AllocError> {
+pub fn push_broken_rule(text: &mut String, broken: BrokenRule) -> Result<(), AllocError> {
     let column = broken.column;
     push_rule(text, broken.rule)?;
     write!(text, "; column {column}")
 }
 
 /// Appends the line on a broken rule.
-pub(crate) fn push_broken(text: &mut String, broken: Broken) -> Result<(), AllocError> {
+pub(crate) fn push_broken(text: &mut String, broken: BrokenRule) -> Result<(), AllocError> {
     text.push_str("  why: ")?;
     push_broken_rule(text, broken)?;
     text.push_str("\n")
@@ -212,12 +212,13 @@ fn rule_line(alloc: Global, tail: &Tail) -> Result<String, AllocError> {
 /// `WriteFailed` if the writer fails in this call.
 pub fn write_rule<R, W: Write>(
     alloc: Global,
-    lines: &Kept<R>,
-    faults: &mut Told<W>,
+    lines: &LineReader<R>,
+    faults: &mut FaultWriter<W>,
 ) -> Result<(), WriteFailed>
-    ensures counts { OnOk result (W.failures (told_inner faults.new) ≡ W.failures (told_inner faults.old)) }
+    ensures counts { OnOk result (W.failures (fault_writer_inner faults.new)
+        ≡ W.failures (fault_writer_inner faults.old)) }
     ensures failed { OnErr result
-        (W.failures (told_inner faults.new) ≡ one_more (W.failures (told_inner faults.old))) }
+        (W.failures (fault_writer_inner faults.new) ≡ one_more (W.failures (fault_writer_inner faults.old))) }
 {
     if !faults.is_bad_line() {
         return Ok(());

@@ -13,7 +13,7 @@ use tcap_record::{BodyView, FeedFault, FeedReason, Frames, push_fault, push_view
 
 /// The state of showing a record.
 #[derive(Debug, Drop)]
-pub(crate) struct Showing {
+pub(crate) struct ShowState {
     alloc: Global,
     frames: Frames,
     // The last octets read: the entry at the front, at most `SIDE` octets before it, and after a fault some octets
@@ -68,10 +68,10 @@ fn push_front(
     Ok(Some(true))
 }
 
-impl Showing {
+impl ShowState {
     /// Creates the state before the first octet. `why`: faults are explained.
-    pub(crate) fn new(alloc: Global, why: bool) -> Showing {
-        Showing {
+    pub(crate) fn new(alloc: Global, why: bool) -> ShowState {
+        ShowState {
             alloc,
             frames: Frames::new(alloc),
             held: Vec::new(alloc),

@@ -39,21 +39,21 @@ impl From<AllocError> for TextFault {
 
 /// Reads all octets of `reader`, at most `TABLE_LIMIT`.
 fn read_text<R: Read>(alloc: Global, reader: &mut R) -> Result<Vec<u8>, TextFault>
-    ensures told { IfOk result (λ text. Consumes (R.untold reader.old) (R.untold reader.new) text.items
+    ensures returned { IfOk result (λ text. Consumes (R.untold reader.old) (R.untold reader.new) text.items
         × IsAtEnd (R.untold reader.new)) }
 {
     let mut piece = [0; PIECE_LEN];
     let mut text = Vec::new(alloc);
     for _ in 0..u64::MAX {
-        let told = match reader.read(&mut piece) {
+        let returned = match reader.read(&mut piece) {
             Ok(0) => return Ok(text),
-            Ok(told) => told,
+            Ok(returned) => returned,
             Err(Failed) => return Err(TextFault::Read(text.len() as u64)),
         };
-        if told > TABLE_LIMIT.saturating_sub(text.len()) {
+        if returned > TABLE_LIMIT.saturating_sub(text.len()) {
             return Err(TextFault::TooLong);
         }
-        text.extend_from_slice(&piece[..told])?;
+        text.extend_from_slice(&piece[..returned])?;
     }
     Err(TextFault::TooLong)
 }
@@ -150,9 +150,9 @@ pub fn run_table<R: Read, W: Write, F: Write>(
     faults: &mut F,
 ) -> Result<Status, WriteFailed>
     // If the status is fine, all octets of the reader are the text of an operation table or of a table set.
-    ensures table { result ≡ Ok Status.Fine → (told : List ℕ)
-        × Consumes (R.untold reader.old) (R.untold reader.new) told × IsAtEnd (R.untold reader.new)
-        × IsTableText told }
+    ensures table { result ≡ Ok Status.Fine → (returned : List ℕ)
+        × Consumes (R.untold reader.old) (R.untold reader.new) returned × IsAtEnd (R.untold reader.new)
+        × IsTableText returned }
     ensures counts { OnOk result (W.failures writer.new ≡ W.failures writer.old) }
     ensures failed { OnErr result (W.failures writer.new ≡ one_more (W.failures writer.old)) }
 {

@@ -4,9 +4,9 @@ use Rattle.std.specs.Prelude.{not, Contains, filter, slice_get}
 use Rattle.std.specs.List.{flat_map, list_any}
 use Rattle.std.proofs.lemmas.Bool.{false_from_ne_true, or_cases}
 use Rattle.std.proofs.lemmas.List.Elements.{Contains-append_left}
-use Rattle.tcap_dialogues.specs.Course.{Course, Courses, Heading, comes, courses_behind, courses_of, has_entry, have_one, ids_in, is_free}
+use Rattle.tcap_dialogues.specs.Course.{Course, Courses, Heading, courses_after, courses_behind, courses_of, has_entry, share_id, ids_in, is_free}
 use Rattle.tcap_dialogues.specs.declared.reuse.Reuse.{Reuse}
-use Rattle.tcap_dialogues.specs.Cut.{IdOf, is_among, is_same}
+use Rattle.tcap_dialogues.specs.DialoguesOfList.{IdOf, is_among, is_same}
 use Rattle.tcap_dialogues.proofs.CourseEnds.{among, ended_with, listed}
 use Rattle.tcap_dialogues.proofs.CourseStretch.{one_more}
 use Rattle.tcap_dialogues.proofs.CourseJoins.{IsNew, hit_by, ids_more}
@@ -95,10 +95,10 @@ module _ (headings : List Heading) (n : ℕ) (h : Heading) (here : slice_get hea
   new_shares : new.again ≡ true → Sharer done new
   new_shares so = by (or_cases _ _ (sym made.again_is ∙ so))
     where
-      by : (list_any (λ d. d.again) (hit_by h left) ≡ true) ⊎ (have_one (ids_more h left) earlier ≡ true) → Sharer done new
+      by : (list_any (λ d. d.again) (hit_by h left) ≡ true) ⊎ (share_id (ids_more h left) earlier ≡ true) → Sharer done new
       by (inl some) =
           let (x, hit, again) = found (λ d. d.again) (hit_by h left) some in
-          let (there, one) = kept_in (λ d. have_one (ids_in h) d.ids) left x hit in
+          let (there, one) = kept_in (λ d. share_id (ids_in h) d.ids) left x hit in
           let w = a.shares x (inr there) again in
           with_id w.course w.id w.listed
           (id_stays made.joins x w.id (record { listed = there; hit = one }) w.its) w.hers
@@ -113,7 +113,7 @@ module _ (headings : List Heading) (n : ℕ) (h : Heading) (here : slice_get hea
   shared_more : AreShared done more
   shared_more = record { entered = entered_more; shares = shares_more }
     where
-      entered_by : (d : Course) → (Contains left d × (have_one (ids_in h) d.ids ≡ false)) ⊎ (new ≡ d) → (i : ℕ) × (has_entry d i ≡ true)
+      entered_by : (d : Course) → (Contains left d × (share_id (ids_in h) d.ids ≡ false)) ⊎ (new ≡ d) → (i : ℕ) × (has_entry d i ≡ true)
       entered_by d (inl (there, misses)) = a.entered d (inr there)
       entered_by d (inr same) = (n, ap (λ e. has_entry e n) (sym same) ∙ number_comes made.joins)
 
@@ -121,7 +121,7 @@ module _ (headings : List Heading) (n : ℕ) (h : Heading) (here : slice_get hea
       entered_more d (inl old) = a.entered d (inl old)
       entered_more d (inr has) = entered_by d (which made.joins d has)
 
-      shares_by : (d : Course) → (Contains left d × (have_one (ids_in h) d.ids ≡ false)) ⊎ (new ≡ d) → d.again ≡ true → Sharer done d
+      shares_by : (d : Course) → (Contains left d × (share_id (ids_in h) d.ids ≡ false)) ⊎ (new ≡ d) → d.again ≡ true → Sharer done d
       shares_by d (inl (there, misses)) so = a.shares d (inr there) so
       shares_by d (inr same) so = subst (Sharer done) same (new_shares (ap (λ e. e.again) same ∙ so))
 
@@ -136,7 +136,7 @@ shared_behind : (reuse : Reuse) (headings left : List Heading) (n : ℕ) (s : Co
 shared_behind reuse headings [] n s same c a = a
 shared_behind reuse headings (h ∷ left) n s same c a =
     let here : slice_get headings n ≡ Some h = first_left headings left n h same in
-    shared_behind reuse headings left (n + 1) (comes reuse n h s) (later_left headings left n h same) (one_more reuse headings n h s here c)
+    shared_behind reuse headings left (n + 1) (courses_after reuse n h s) (later_left headings left n h same) (one_more reuse headings n h s here c)
     (shared_more headings n h here _ _ (courses_then headings n s.done s.live c (is_free reuse n s h)) _
     (record { joins = record { numbers_are = refl; ids_are = refl }; again_is = refl }) (shared_then headings n s c (is_free reuse n s h) a))
 

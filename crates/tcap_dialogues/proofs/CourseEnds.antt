@@ -11,7 +11,7 @@ use Rattle.tcap_model.specs.World.{Item, Sent, has_quiet}
 use Rattle.tcap_model.specs.Run.{IsLawfulFor}
 use Rattle.tcap_dialogues.specs.Course.{Course, Courses, Heading, bare, courses_behind, courses_of, has_entry, heading_of, headings_of, ids_in}
 use Rattle.tcap_dialogues.specs.declared.reuse.Reuse.{Reuse}
-use Rattle.tcap_dialogues.specs.Cut.{IdOf, is_among}
+use Rattle.tcap_dialogues.specs.DialoguesOfList.{IdOf, is_among}
 use Rattle.tcap_dialogues.specs.Part.{IsClosed, ShareId, part_of}
 use Rattle.tcap_dialogues.proofs.CourseLaws.{Among, AreCourses, InOrBehind, each_behind}
 use Rattle.tcap_dialogues.proofs.CourseLists.{bare_at, heading_at, in_front, stands}

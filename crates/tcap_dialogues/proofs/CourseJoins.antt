@@ -3,15 +3,15 @@ use Rattle.std.proofs.Common.{◌≡◌, ◌⊎◌, inl, inr, ℕ, true, false, 
 use Rattle.std.specs.Prelude.{◌||◌, not, Contains, filter}
 use Rattle.std.specs.List.{list_any}
 use Rattle.std.proofs.lemmas.Bool.{cases_Bool, false_from_ne_true, not_from_false, or_left, or_parts, true≢false}
-use Rattle.tcap_dialogues.specs.Course.{Course, Heading, have_one, ids_in}
-use Rattle.tcap_dialogues.specs.Cut.{IdOf, is_among}
+use Rattle.tcap_dialogues.specs.Course.{Course, Heading, share_id, ids_in}
+use Rattle.tcap_dialogues.specs.DialoguesOfList.{IdOf, is_among}
 use Rattle.tcap_dialogues.proofs.CutIds.{among_in}
 use Rattle.tcap_dialogues.proofs.CutLists.{finds, found, left_in}
 use Rattle.tcap_dialogues.proofs.Joins.{Hit, IsJoin, hit_in, in_hit}
 
 -- the dialogues that have one of the entry's IDs
 abbrev pub hit_by : Heading → List Course → List Course
-hit_by h left = filter (λ d. have_one (ids_in h) d.ids) left
+hit_by h left = filter (λ d. share_id (ids_in h) d.ids) left
 
 -- the entry's IDs that none of them has
 abbrev pub ids_more : Heading → List Course → List IdOf
@@ -20,7 +20,7 @@ ids_more h left = filter (λ id. not (list_any (λ d. is_among d.ids id) (hit_by
 -- The parts of the new dialogue; `earlier` are the IDs of dialogues that are done.
 pub record IsNew (earlier : List IdOf) (n : ℕ) (h : Heading) (left : List Course) (new : Course) : Type 0 where
   pub joins : IsJoin (λ (d : Course). d.numbers) (λ (d : Course). d.ids) n (ids_in h) left new
-  pub again_is : new.again ≡ (list_any (λ d. d.again) (hit_by h left) || have_one (ids_more h left) earlier)
+  pub again_is : new.again ≡ (list_any (λ d. d.again) (hit_by h left) || share_id (ids_more h left) earlier)
 
 module _ (earlier : List IdOf) (n : ℕ) (h : Heading) (left : List Course) (new : Course) (made : IsNew earlier n h left new) where
   -- If the new dialogue has no reused ID, those joined have none.
@@ -44,5 +44,5 @@ module _ (earlier : List IdOf) (n : ℕ) (h : Heading) (left : List Course) (new
           let more : Contains (ids_more h left) id =
           left_in (λ i. not (list_any (λ d. is_among d.ids i) (hit_by h left))) (ids_in h) id (among_in (ids_in h) id its)
           (not_from_false _ none) in
-          let (old, unseen) = or_parts _ _ (sym made.again_is ∙ anew) in
-          absurd (true≢false (sym (finds (is_among earlier) (ids_more h left) id more was) ∙ unseen))
+          let (old, internal) = or_parts _ _ (sym made.again_is ∙ anew) in
+          absurd (true≢false (sym (finds (is_among earlier) (ids_more h left) id more was) ∙ internal))

@@ -6,7 +6,7 @@ use Rattle.std.specs.Prelude.{not, Contains, filter, slice_get}
 use Rattle.std.proofs.lemmas.Bool.{cases_Bool, not-true, not_from_false, true≢false}
 use Rattle.std.proofs.lemmas.List.Elements.{Contains-append_cases, Contains-append_left, Contains-append_right}
 use Rattle.tcap_dialogues.specs.Course.{Course, Heading, has_entry, ids_in}
-use Rattle.tcap_dialogues.specs.Cut.{IdOf, is_among}
+use Rattle.tcap_dialogues.specs.DialoguesOfList.{IdOf, is_among}
 use Rattle.tcap_dialogues.proofs.CutLists.{kept_in, left_in, none_in}
 
 -- a dialogue that is done or live

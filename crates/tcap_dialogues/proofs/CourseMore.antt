@@ -3,8 +3,8 @@ use Rattle.std.proofs.Common.{arith, ◌≡◌, ◌⊎◌, inl, inr, ℕ, ◌+�
 use Rattle.std.specs.Prelude.{Contains, slice_get}
 use Rattle.std.specs.List.{flat_map}
 use Rattle.std.proofs.lemmas.Bool.{cases_Bool, cases_lt}
-use Rattle.tcap_dialogues.specs.Course.{Course, Heading, has_entry, have_one, ids_in}
-use Rattle.tcap_dialogues.specs.Cut.{IdOf, is_among, is_same}
+use Rattle.tcap_dialogues.specs.Course.{Course, Heading, has_entry, share_id, ids_in}
+use Rattle.tcap_dialogues.specs.DialoguesOfList.{IdOf, is_among, is_same}
 use Rattle.tcap_dialogues.proofs.CourseJoins.{IsNew, had_by, none_again}
 use Rattle.tcap_dialogues.proofs.Joins.{Hit, below_more, id_comes, id_from, id_stays, joins, number_comes, number_of, number_stays, one_id_more, one_number_more, stays, which, with_new}
 use Rattle.tcap_dialogues.proofs.CourseLaws.{Among, AreCourses, InOrBehind, Owner}
@@ -30,7 +30,7 @@ module _ (headings : List Heading) (n : ℕ) (h : Heading) (here : slice_get hea
   owner_stays : (i : ℕ) (ids : List IdOf) → Owner done left i ids → Owner done more i ids
   owner_stays i ids o = at o.listed
     where
-      by : Contains left o.course → (have_one (ids_in h) o.course.ids ≡ true) ⊎ (have_one (ids_in h) o.course.ids ≡ false) → Owner done more i ids
+      by : Contains left o.course → (share_id (ids_in h) o.course.ids ≡ true) ⊎ (share_id (ids_in h) o.course.ids ≡ false) → Owner done more i ids
       by there (inl hits) =
           let j : Joins o.course = record { listed = there; hit = hits } in
           record {
@@ -44,7 +44,7 @@ module _ (headings : List Heading) (n : ℕ) (h : Heading) (here : slice_get hea
 
       at : Among done left o.course → Owner done more i ids
       at (inl old) = record { course = o.course; listed = inl old; has = o.has; all = o.all }
-      at (inr there) = by there (cases_Bool (have_one (ids_in h) o.course.ids))
+      at (inr there) = by there (cases_Bool (share_id (ids_in h) o.course.ids))
 
   -- Each entry is in a dialogue, the new entry in the new one.
   owner_more : (i : ℕ) (g : Heading) → slice_get headings i ≡ Some g → i < n + 1 → Owner done more i (ids_in g)
@@ -76,7 +76,7 @@ module _ (headings : List Heading) (n : ℕ) (h : Heading) (here : slice_get hea
       joined (inl (x, j, its)) = c.no_number d x i has j.listed is its
       joined (inr at) = let less = c.below d i (inl has) is in absurd (omega (arith, less))
 
-      by : (Contains left e × (have_one (ids_in h) e.ids ≡ false)) ⊎ (new ≡ e) → ⊥
+      by : (Contains left e × (share_id (ids_in h) e.ids ≡ false)) ⊎ (new ≡ e) → ⊥
       by (inl (there, misses)) = c.no_number d e i has there is so
       by (inr same) = joined (number_of made.joins i (ap (λ x. has_entry x i) same ∙ so))
 
@@ -107,7 +107,7 @@ module _ (headings : List Heading) (n : ℕ) (h : Heading) (here : slice_get hea
       → is_among e.ids id ≡ true → ⊥
   fresh_more d e id has anew hers is so = by (which made.joins d has)
     where
-      by : (Contains left d × (have_one (ids_in h) d.ids ≡ false)) ⊎ (new ≡ d) → ⊥
+      by : (Contains left d × (share_id (ids_in h) d.ids ≡ false)) ⊎ (new ≡ d) → ⊥
       by (inl (old, misses)) = c.fresh d e id old anew hers is so
       by (inr same) = new_fresh e id (ap (λ x. x.again) same ∙ anew) hers (ap (λ x. is_among x.ids id) same ∙ is) so
 

@@ -4,8 +4,8 @@ use Rattle.std.specs.Prelude.{◌||◌, Contains, filter, not, slice_get}
 use Rattle.std.specs.List.{flat_map}
 use Rattle.std.proofs.lemmas.Bool.{ltb-false, or_left, or_parts}
 use Rattle.std.proofs.lemmas.List.Folds.{list_any-append}
-use Rattle.tcap_dialogues.specs.Course.{Course, Courses, Earlier, Heading, begun_by, comes, courses_behind, courses_so_far, first_over, has_entry, have_one, ids_in, is_begin, is_free, over_by, own_ids, peer_ids, with_entry}
-use Rattle.tcap_dialogues.specs.Cut.{IdOf, is_among, is_same}
+use Rattle.tcap_dialogues.specs.Course.{Course, Courses, Earlier, Heading, begun_by, courses_after, courses_behind, courses_so_far, first_over, has_entry, share_id, ids_in, is_begin, is_free, over_by, own_ids, peer_ids, with_entry}
+use Rattle.tcap_dialogues.specs.DialoguesOfList.{IdOf, is_among, is_same}
 use Rattle.tcap_dialogues.specs.CutState.{AreApart, Lingers, is_given_up, is_past_by}
 use Rattle.tcap_dialogues.specs.declared.reuse.Reuse.{Reuse}
 use Rattle.tcap_dialogues.specs.declared.reuse.Reuse.TheVariants as reuses
@@ -18,7 +18,7 @@ use Rattle.tcap_dialogues.proofs.HeldOvers.{lower_is, over_of}
 
 -- One more entry keeps the invariant.
 pub one_more : (reuse : Reuse) (headings : List Heading) (n : ℕ) (h : Heading) (s : Courses) → slice_get headings n ≡ Some h
-    → AreCourses headings n s.done s.live → AreCourses headings (n + 1) (comes reuse n h s).done (comes reuse n h s).live
+    → AreCourses headings n s.done s.live → AreCourses headings (n + 1) (courses_after reuse n h s).done (courses_after reuse n h s).live
 one_more reuse headings n h s here c =
     courses_more headings n h here _ _ (courses_then headings n s.done s.live c (is_free reuse n s h)) _
     (record { joins = record { numbers_are = refl; ids_are = refl }; again_is = refl })
@@ -135,12 +135,12 @@ module _ (reuse : Reuse) (n : ℕ) (h : Heading) (earlier : Earlier) (left : Lis
           at (inr now) = subst (λ k. Lingers reuse (n + 1) (Some k)) now (lingers_new reuse n)
 
   -- Each live dialogue is sound after the entry.
-  all_sound : (d : Course) → Contains (filter (λ e. not (have_one (ids_in h) e.ids)) left ++ with_entry earlier n h (hit_by h left) ∷ []) d
+  all_sound : (d : Course) → Contains (filter (λ e. not (share_id (ids_in h) e.ids)) left ++ with_entry earlier n h (hit_by h left) ∷ []) d
       → IsSound reuse (n + 1) d
   unfolding new
   all_sound d has = by (which made.joins d has)
     where
-      by : (Contains left d × (have_one (ids_in h) d.ids ≡ false)) ⊎ (new ≡ d) → IsSound reuse (n + 1) d
+      by : (Contains left d × (share_id (ids_in h) d.ids ≡ false)) ⊎ (new ≡ d) → IsSound reuse (n + 1) d
       by (inl (there, misses)) = sound d there
       by (inr same) = subst (IsSound reuse (n + 1)) same new_sound
 
@@ -165,7 +165,7 @@ pub record AreWell (reuse : Reuse) (headings : List Heading) (n : ℕ) (s : Cour
   pub sound : (d : Course) → Contains s.live d → IsSound reuse n d
 
 well_more : (reuse : Reuse) (headings : List Heading) (n : ℕ) (h : Heading) (s : Courses) → slice_get headings n ≡ Some h
-    → AreWell reuse headings n s → AreWell reuse headings (n + 1) (comes reuse n h s)
+    → AreWell reuse headings n s → AreWell reuse headings (n + 1) (courses_after reuse n h s)
 well_more reuse headings n h s here well = record {
   courses = one_more reuse headings n h s here well.courses;
   sound = all_sound reuse n h _ _ (left_sound reuse headings n h s well.courses well.sound);
@@ -176,8 +176,8 @@ well_behind : (reuse : Reuse) (headings left : List Heading) (n : ℕ) (s : Cour
 well_behind reuse headings [] n s same well = let at : n ≡ n + 0 = omega arith in subst (λ k. AreWell reuse headings k s) at well
 well_behind reuse headings (h ∷ left) n s same well =
     let at : (n + 1) + length left ≡ n + length (h ∷ left) = omega arith in
-    subst (λ k. AreWell reuse headings k (courses_behind reuse (comes reuse n h s) (n + 1) left)) at
-    (well_behind reuse headings left (n + 1) (comes reuse n h s) (later_left headings left n h same)
+    subst (λ k. AreWell reuse headings k (courses_behind reuse (courses_after reuse n h s) (n + 1) left)) at
+    (well_behind reuse headings left (n + 1) (courses_after reuse n h s) (later_left headings left n h same)
     (well_more reuse headings n h s (first_left headings left n h same) well))
 
 pub well_so_far : (reuse : Reuse) (headings : List Heading) → AreWell reuse headings (length headings) (courses_so_far reuse headings)
@@ -213,15 +213,15 @@ left_apart live left from apart = record {
 
 -- one more heading
 behind_more : (reuse : Reuse) (s : Courses) (n : ℕ) (hs : List Heading) (h : Heading)
-    → courses_behind reuse s n (hs ++ h ∷ []) ≡ comes reuse (n + length hs) h (courses_behind reuse s n hs)
-behind_more reuse s n [] h = let at : n ≡ n + 0 = omega arith in ap (λ k. comes reuse k h s) at
+    → courses_behind reuse s n (hs ++ h ∷ []) ≡ courses_after reuse (n + length hs) h (courses_behind reuse s n hs)
+behind_more reuse s n [] h = let at : n ≡ n + 0 = omega arith in ap (λ k. courses_after reuse k h s) at
 behind_more reuse s n (g ∷ hs) h =
     let at : (n + 1) + length hs ≡ n + length (g ∷ hs) = omega arith in
-    behind_more reuse (comes reuse n g s) (n + 1) hs h
-    ∙ ap (λ k. comes reuse k h (courses_behind reuse (comes reuse n g s) (n + 1) hs)) at
+    behind_more reuse (courses_after reuse n g s) (n + 1) hs h
+    ∙ ap (λ k. courses_after reuse k h (courses_behind reuse (courses_after reuse n g s) (n + 1) hs)) at
 
 pub so_far_more : (reuse : Reuse) (hs : List Heading) (h : Heading)
-    → courses_so_far reuse (hs ++ h ∷ []) ≡ comes reuse (length hs) h (courses_so_far reuse hs)
+    → courses_so_far reuse (hs ++ h ∷ []) ≡ courses_after reuse (length hs) h (courses_so_far reuse hs)
 so_far_more reuse hs h =
     let at : 0 + length hs ≡ length hs = omega arith in
-    behind_more reuse (record { done = []; live = [] }) 0 hs h ∙ ap (λ k. comes reuse k h (courses_so_far reuse hs)) at
+    behind_more reuse (record { done = []; live = [] }) 0 hs h ∙ ap (λ k. courses_after reuse k h (courses_so_far reuse hs)) at

@@ -7,7 +7,7 @@ use Rattle.tcap_record.specs.declared.entry.End.{End as Side}
 use Rattle.tcap_end.specs.Table.{Table}
 use Rattle.tcap_model.specs.World.{Item, Sent}
 use Rattle.tcap_model.specs.Run.{IsLawfulFor}
-use Rattle.tcap_dialogues.specs.Cut.{Dialogue, IdOf, dialogues_behind, dialogues_of, ids_of, is_of, with_message}
+use Rattle.tcap_dialogues.specs.DialoguesOfList.{Dialogue, IdOf, dialogues_behind, dialogues_of, ids_of, is_of, with_message}
 use Rattle.tcap_dialogues.specs.Part.{IsClosed, ShareId, part_of}
 use Rattle.tcap_dialogues.proofs.CutIds.{among_is}
 use Rattle.tcap_dialogues.proofs.CutLists.{first_left, later_left}

@@ -15,7 +15,7 @@ use Rattle.tcap_end.specs.End.{is_id}
 use Rattle.tcap_model.specs.World.{is_side}
 use Rattle.tcap_model.proofs.RunLaws.{same_side}
 use Rattle.tcap_model.proofs.WorldLaws.{itself}
-use Rattle.tcap_dialogues.specs.Cut.{IdOf, ids_of, is_among, is_same}
+use Rattle.tcap_dialogues.specs.DialoguesOfList.{IdOf, ids_of, is_among, is_same}
 use Rattle.tcap_dialogues.specs.Part.{carries}
 use Rattle.tcap_dialogues.proofs.CutLists.{found, finds}
 

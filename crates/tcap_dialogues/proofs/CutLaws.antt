@@ -6,7 +6,7 @@ use Rattle.std.proofs.lemmas.Bool.{cases_Bool, cases_lt}
 use Rattle.tcap_msg.specs.declared.message.Message.{Message}
 use Rattle.tcap_record.specs.declared.entry.End.{End as Side}
 use Rattle.tcap_model.specs.World.{Item, Sent}
-use Rattle.tcap_dialogues.specs.Cut.{Dialogue, IdOf, has_one, ids_of, is_among, is_of, joined, with_message}
+use Rattle.tcap_dialogues.specs.DialoguesOfList.{Dialogue, IdOf, has_id_among, ids_of, is_among, is_of, joined, with_message}
 use Rattle.tcap_dialogues.specs.Part.{IsClosed, ShareId}
 use Rattle.tcap_dialogues.proofs.CutIds.{among_is, one_of}
 use Rattle.tcap_dialogues.proofs.Joins.{Hit, IsJoin, below_more, id_comes, id_from, id_stays, joins, number_comes, number_of, number_stays, one_id_more, one_number_more, stays, which}
@@ -91,7 +91,7 @@ module _ (items : List Item) (n : ℕ) (dialogues : List Dialogue) (sender : Sid
 
   -- the new dialogue
   abbrev one : Dialogue
-  one = joined (filter (has_one ids) dialogues) n ids
+  one = joined (filter (has_id_among ids) dialogues) n ids
 
   made : IsJoin (λ (d : Dialogue). d.numbers) (λ (d : Dialogue). d.ids) n ids dialogues one
   made = record { numbers_are = refl; ids_are = refl }
@@ -102,9 +102,9 @@ module _ (items : List Item) (n : ℕ) (dialogues : List Dialogue) (sender : Sid
 
   -- The dialogue of a message stays, or is joined.
   owner_stays : (i : ℕ) (of_it : List IdOf) → Owner dialogues i of_it → Owner more i of_it
-  owner_stays i of_it o = by (cases_Bool (has_one ids o.dialogue))
+  owner_stays i of_it o = by (cases_Bool (has_id_among ids o.dialogue))
     where
-      by : (has_one ids o.dialogue ≡ true) ⊎ (has_one ids o.dialogue ≡ false) → Owner more i of_it
+      by : (has_id_among ids o.dialogue ≡ true) ⊎ (has_id_among ids o.dialogue ≡ false) → Owner more i of_it
       by (inl hits) =
           let h : Joins o.dialogue = record { listed = o.listed; hit = hits } in
           record {
@@ -158,7 +158,7 @@ module _ (items : List Item) (n : ℕ) (dialogues : List Dialogue) (sender : Sid
   bearer_more : (d : Dialogue) (id : IdOf) → Contains more d → is_among d.ids id ≡ true → Bearer items d id
   bearer_more d id has is = by (which made d has)
     where
-      by : (Contains dialogues d × (has_one ids d ≡ false)) ⊎ (one ≡ d) → Bearer items d id
+      by : (Contains dialogues d × (has_id_among ids d ≡ false)) ⊎ (one ≡ d) → Bearer items d id
       by (inl (old, misses)) = c.bearer d id old is
       by (inr same) = subst (λ x. Bearer items x id) same (bearer_new id (ap (λ x. is_among x.ids id) same ∙ is))
 
@@ -184,7 +184,7 @@ module _ (items : List Item) (n : ℕ) (dialogues : List Dialogue) (sender : Sid
       → keeps i ≡ keeps j
   whole_more keeps closed d i j has is so = by (which made d has)
     where
-      by : (Contains dialogues d × (has_one ids d ≡ false)) ⊎ (one ≡ d) → keeps i ≡ keeps j
+      by : (Contains dialogues d × (has_id_among ids d ≡ false)) ⊎ (one ≡ d) → keeps i ≡ keeps j
       by (inl (old, misses)) = c.whole keeps closed d i j old is so
       by (inr same) =
           new_whole keeps closed i (ap (λ x. is_of x i) same ∙ is) ∙ sym (new_whole keeps closed j (ap (λ x. is_of x j) same ∙ so))

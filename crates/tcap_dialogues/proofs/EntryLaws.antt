@@ -8,11 +8,11 @@ use Rattle.std.proofs.lemmas.List.Elements.{filter-append}
 use Rattle.std.proofs.lemmas.List.Folds.{list_any-append}
 use Rattle.tcap_record.specs.declared.entry.End.{End as Side}
 use Rattle.tcap_model.specs.World.{is_side}
-use Rattle.tcap_dialogues.specs.Course.{Course, Courses, Earlier, Heading, begun_by, earlier_in, has_begin, has_entry, have_one, ids_in, over_by, own_ids, peer_ids, with_entry}
-use Rattle.tcap_dialogues.specs.Cut.{IdOf, is_among, is_same}
-use Rattle.tcap_dialogues.specs.CutState.{AreApart, AreKept, AreLives, earlier_of, higher, is_named, is_unsettled}
+use Rattle.tcap_dialogues.specs.Course.{Course, Courses, Earlier, Heading, begun_by, earlier_in, has_begin, has_entry, share_id, ids_in, over_by, own_ids, peer_ids, with_entry}
+use Rattle.tcap_dialogues.specs.DialoguesOfList.{IdOf, is_among, is_same}
+use Rattle.tcap_dialogues.specs.CutState.{AreApart, HasValuesOf, HoldsLive, earlier_of, higher, is_named, is_unsettled}
 use Rattle.tcap_dialogues.specs.CutUpdate.{HasEntry, ids_at}
-use Rattle.tcap_dialogues.specs.declared.known_ids.Known.{Known}
+use Rattle.tcap_dialogues.specs.declared.known_ids.IdState.{IdState}
 use Rattle.tcap_dialogues.specs.declared.live.Live.{Live}
 use Rattle.tcap_dialogues.proofs.CourseJoins.{hit_by, ids_more}
 use Rattle.tcap_dialogues.proofs.CutLists.{finds}
@@ -28,19 +28,19 @@ pub any_part : {A : Type 0} (p : A → Bool) (f : Course → List A) (ds : List 
 any_part p f ds more = list_any-append p (flat_map f ds) more ∙ ap (λ b. b || list_any p more) (any_flat p f ds)
 
 module _ (live : List Course) (names : Course → ℕ) (lives : Rattle.std.specs.BTreeMap.BTreeMap ℕ Live) (apart : AreApart live)
-    (are : AreLives live names lives) where
+    (are : HoldsLive live names lives) where
   -- A dialogue has one of these IDs if it has the name that is known.
-  pub owned_is : (ids : List IdOf) (known : Known) → Owns live names ids known known.dialogue → (d : Course)
-      → Contains live d → have_one ids d.ids ≡ is_named names known.dialogue d
+  pub owned_is : (ids : List IdOf) (known : IdState) → Owns live names ids known known.dialogue → (d : Course)
+      → Contains live d → share_id ids d.ids ≡ is_named names known.dialogue d
   owned_is ids known owns d has = by known.dialogue owns
     where
-      by : (o : Option ℕ) → Owns live names ids known o → have_one ids d.ids ≡ is_named names o d
+      by : (o : Option ℕ) → Owns live names ids known o → share_id ids d.ids ≡ is_named names o d
       by None nobody = nobody.0 d has
       by (Some name) (e, owner) =
           both_so _ _
           (λ is. eq-eqb (names d) name (ap names (owner.only d has is) ∙ owner.named))
           (λ is.
-          ap (λ x. have_one ids x.ids)
+          ap (λ x. share_id ids x.ids)
           (one_name live names lives are apart d e has owner.listed (eqb-true (names d) name is ∙ sym owner.named)) ∙ owner.has)
 
 -- ---- reused IDs of the entry
@@ -49,10 +49,10 @@ module _ (live : List Course) (names : Course → ℕ) (lives : Rattle.std.specs
 abbrev pub unsettled_by : Earlier → IdOf → Bool
 unsettled_by earlier id = is_among earlier.ids id && not (is_among earlier.firm id)
 
-module _ (live hits : List Course) (names : Course → ℕ) (end : Side) (octets : Option (List ℕ)) (known : Known)
+module _ (live hits : List Course) (names : Course → ℕ) (end : Side) (octets : Option (List ℕ)) (known : IdState)
     (owns : Owns live names (ids_at end octets) known known.dialogue)
     (in_live : (d : Course) → Contains hits d → Contains live d)
-    (in_hits : (d : Course) → Contains live d → have_one (ids_at end octets) d.ids ≡ true → Contains hits d) where
+    (in_hits : (d : Course) → Contains live d → share_id (ids_at end octets) d.ids ≡ true → Contains hits d) where
   abbrev news : IdOf → Bool
   news id = not (list_any (λ d. is_among d.ids id) hits)
 
@@ -62,7 +62,7 @@ module _ (live hits : List Course) (names : Course → ℕ) (end : Side) (octets
   again_is test so is = by octets is owns in_hits
     where
       at : (id : IdOf) (o : Option ℕ) → Owns live names (id ∷ []) known o
-          → ((d : Course) → Contains live d → have_one (id ∷ []) d.ids ≡ true → Contains hits d) → news id ≡ is_none o
+          → ((d : Course) → Contains live d → share_id (id ∷ []) d.ids ≡ true → Contains hits d) → news id ≡ is_none o
       at id None nobody inside =
           ap not (any_none (λ d. is_among d.ids id) hits (λ d has. sym (or_none (is_among d.ids id)) ∙ nobody.0 d (in_live d has)))
       at id (Some name) (d, owner) inside =
@@ -73,7 +73,7 @@ module _ (live hits : List Course) (names : Course → ℕ) (end : Side) (octets
       one id false = refl
 
       by : (o : Option (List ℕ)) → so ≡ list_any test (ids_at end o) → Owns live names (ids_at end o) known known.dialogue
-          → ((d : Course) → Contains live d → have_one (ids_at end o) d.ids ≡ true → Contains hits d)
+          → ((d : Course) → Contains live d → share_id (ids_at end o) d.ids ≡ true → Contains hits d)
           → list_any test (filter news (ids_at end o)) ≡ (is_none known.dialogue && so)
       by None agrees owned inside = sym (and-false (is_none known.dialogue)) ∙ ap (λ b. is_none known.dialogue && b) (sym agrees)
       by (Some x) agrees owned inside =
@@ -82,7 +82,7 @@ module _ (live hits : List Course) (names : Course → ℕ) (end : Side) (octets
           ∙ ap (λ b. is_none known.dialogue && b) (sym agrees)
 
 -- What is known of an ID decides whether it is unsettled.
-pub unsettled_at : (s : Courses) (names : Course → ℕ) (end : Side) (octets : Option (List ℕ)) (known : Known)
+pub unsettled_at : (s : Courses) (names : Course → ℕ) (end : Side) (octets : Option (List ℕ)) (known : IdState)
     → IsOf s names (ids_at end octets) known
     → (is_some known.last && not known.firm) ≡ list_any (unsettled_by (earlier_in s.done)) (ids_at end octets)
 unsettled_at s names end None known of = ap (λ b. b && not known.firm) of.came
@@ -117,11 +117,11 @@ some_begun ds more = some_more (flat_map (λ d. d.begun) ds) more ∙ ap (λ b. 
     by [] = refl
     by (e ∷ es) = some_more e.begun (flat_map (λ d. d.begun) es) ∙ ap (λ b. has_begin e || b) (by es)
 
-pub entry_kept : (earlier : Earlier) (n : ℕ) (h : Heading) (live : List Course) (own peer : Known) (old new : Live)
-    → AreKept (hit_by h live) old → HasEntry n h own peer old new
-    → have_one (ids_more h live) earlier.ids ≡ is_some (higher (earlier_of own) (earlier_of peer))
+pub entry_kept : (earlier : Earlier) (n : ℕ) (h : Heading) (live : List Course) (own peer : IdState) (old new : Live)
+    → HasValuesOf (hit_by h live) old → HasEntry n h own peer old new
+    → share_id (ids_more h live) earlier.ids ≡ is_some (higher (earlier_of own) (earlier_of peer))
     → list_any (unsettled_by earlier) (ids_more h live) ≡ (is_unsettled own || is_unsettled peer)
-    → AreKept (with_entry earlier n h (hit_by h live) ∷ []) new
+    → HasValuesOf (with_entry earlier n h (hit_by h live) ∷ []) new
 entry_kept earlier n h live own peer old new kept more comes unsettled_is = record {
   numbers = λ i.
       more.numbers i ∙ ap (λ b. b || (n == i)) (kept.numbers i)

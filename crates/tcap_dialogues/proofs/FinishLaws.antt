@@ -15,24 +15,24 @@ use Rattle.std.proofs.lemmas.Map.Keys.{Less-from_sorted}
 use Rattle.std.proofs.lemmas.Option.{get_or_from_slice_get, slice_get-map, slice_get_within}
 use Rattle.std.specs.Option.{option_map}
 use Rattle.tcap_dialogues.specs.Course.{Course}
-use Rattle.tcap_dialogues.specs.CutDialogues.{AreGathered, HandsOver, IsGathered}
-use Rattle.tcap_dialogues.specs.CutState.{AreApart, AreKept, AreLives}
-use Rattle.tcap_dialogues.specs.declared.complete_dialogue.Gathered.{Gathered}
+use Rattle.tcap_dialogues.specs.CutDialogues.{AreCompleteDialogues, HandsOver, IsCompleteDialogue}
+use Rattle.tcap_dialogues.specs.CutState.{AreApart, HasValuesOf, HoldsLive}
+use Rattle.tcap_dialogues.specs.declared.complete_dialogue.CompleteDialogue.{CompleteDialogue}
 use Rattle.tcap_dialogues.specs.declared.live.Live.{Live}
 use Rattle.tcap_dialogues.proofs.GatheredLaws.{at_place}
 
 -- A gathered dialogue represents the dialogue that the live one keeps.
-abbrev pub StandsFor : Live → Gathered → Type 0
-StandsFor l g = (d : Course) → AreKept (d ∷ []) l → IsGathered d g
+abbrev pub StandsFor : Live → CompleteDialogue → Type 0
+StandsFor l g = (d : Course) → HasValuesOf (d ∷ []) l → IsCompleteDialogue d g
 
 -- These represent those, one by one.
-pub Stand : List (ℕ × Live) → List Gathered → Type 0
+pub Stand : List (ℕ × Live) → List CompleteDialogue → Type 0
 Stand [] [] = ⊤
 Stand (e ∷ es) (g ∷ gs) = StandsFor e.1 g × Stand es gs
 Stand [] (g ∷ gs) = ⊥
 Stand (e ∷ es) [] = ⊥
 
-pub stand_more : (es : List (ℕ × Live)) (gs : List Gathered) (e : ℕ × Live) (g : Gathered) → Stand es gs → StandsFor e.1 g
+pub stand_more : (es : List (ℕ × Live)) (gs : List CompleteDialogue) (e : ℕ × Live) (g : CompleteDialogue) → Stand es gs → StandsFor e.1 g
     → Stand (es ++ e ∷ []) (gs ++ g ∷ [])
 unfolding Stand
 stand_more [] [] e g so is = (is, tt)
@@ -40,7 +40,7 @@ stand_more (x ∷ es) (y ∷ gs) e g (first, so) is = (first, stand_more es gs e
 stand_more [] (y ∷ gs) e g so is = absurd so
 stand_more (x ∷ es) [] e g so is = absurd so
 
-stand_back : (es : List (ℕ × Live)) (gs : List Gathered) (i : ℕ) (g : Gathered) → Stand es gs → slice_get gs i ≡ Some g
+stand_back : (es : List (ℕ × Live)) (gs : List CompleteDialogue) (i : ℕ) (g : CompleteDialogue) → Stand es gs → slice_get gs i ≡ Some g
     → (e : ℕ × Live) × (slice_get es i ≡ Some e) × StandsFor e.1 g
 unfolding Stand
 stand_back [] [] i g so is = cc
@@ -49,8 +49,8 @@ stand_back (e ∷ es) (x ∷ gs) (suc i) g (first, so) is = stand_back es gs i g
 stand_back [] (x ∷ gs) i g so is = absurd so
 stand_back (e ∷ es) [] i g so is = absurd so
 
-stand_there : (es : List (ℕ × Live)) (gs : List Gathered) (i : ℕ) (e : ℕ × Live) → Stand es gs → slice_get es i ≡ Some e
-    → (g : Gathered) × (slice_get gs i ≡ Some g) × StandsFor e.1 g
+stand_there : (es : List (ℕ × Live)) (gs : List CompleteDialogue) (i : ℕ) (e : ℕ × Live) → Stand es gs → slice_get es i ≡ Some e
+    → (g : CompleteDialogue) × (slice_get gs i ≡ Some g) × StandsFor e.1 g
 unfolding Stand
 stand_there [] [] i e so is = cc
 stand_there (x ∷ es) (g ∷ gs) zero e (first, so) is = let same : x ≡ e = cc in (g, refl, subst (λ y. StandsFor y.1 g) same first)
@@ -70,17 +70,17 @@ found_place number (e ∷ es) l is = by (is_at (nat_cmp number) e.0) is (λ more
     by true here rest = let same : e.1 ≡ l = cc in (0, e, refl, same)
     by false more rest = let (i, x, at, so) = rest more in (suc i, x, at, so)
 
-module _ (live : List Course) (names : Course → ℕ) (lives : tree.BTreeMap ℕ Live) (apart : AreApart live) (are : AreLives live names lives)
-    (ordered : tree.IsOrdered nat_cmp lives) (gs : List Gathered) (stand : Stand lives.entries gs) where
+module _ (live : List Course) (names : Course → ℕ) (lives : tree.BTreeMap ℕ Live) (apart : AreApart live) (are : HoldsLive live names lives)
+    (ordered : tree.IsOrdered nat_cmp lives) (gs : List CompleteDialogue) (stand : Stand lives.entries gs) where
   -- the dialogue of an entry
   of_place : (i : ℕ) (e : ℕ × Live) → slice_get lives.entries i ≡ Some e
-      → (d : Course) × Contains live d × (names d ≡ e.0) × AreKept (d ∷ []) e.1
+      → (d : Course) × Contains live d × (names d ≡ e.0) × HasValuesOf (d ∷ []) e.1
   of_place i e at =
       let got : tree.get nat_cmp lives e.0 ≡ Some e.1 = btree_map_get_place nat_cmp_total lives i e.0 e.1 ordered at in
       let (d, has, named) = are.back e.0 e.1 got in
       let (l, there, name, kept) = are.there d has in
       let some : Some l ≡ Some e.1 = sym there ∙ ap (tree.get nat_cmp lives) named ∙ got in
-      let same : l ≡ e.1 = cc in (d, has, named, subst (AreKept (d ∷ [])) same kept)
+      let same : l ≡ e.1 = cc in (d, has, named, subst (HasValuesOf (d ∷ [])) same kept)
 
   -- Keys at two places differ.
   before : (i j : ℕ) (e f : ℕ × Live) → slice_get lives.entries i ≡ Some e → slice_get lives.entries j ≡ Some f → e.0 ≡ f.0 → i < j → ⊥
@@ -103,13 +103,13 @@ module _ (live : List Course) (names : Course → ℕ) (lives : tree.BTreeMap �
       by (inr more) (inr less) = omega (arith, more, less)
 
   -- They represent all live dialogues.
-  pub all_stand : AreGathered live gs
+  pub all_stand : AreCompleteDialogues live gs
   all_stand = record {
     each = λ d has.
         let (l, there, name, kept) = are.there d has in
         let (i, e, at, so) = found_place (names d) lives.entries l there in
         let (g, given, stands) = stand_there lives.entries gs i e stand at in
-        (g, at_place gs i g given, stands d (subst (AreKept (d ∷ [])) (sym so) kept));
+        (g, at_place gs i g given, stands d (subst (HasValuesOf (d ∷ [])) (sym so) kept));
     all = λ g (i, less, is).
         let (e, at, stands) = stand_back lives.entries gs i g stand (given_at i g less is) in
         let (d, has, named, kept) = of_place i e at in (d, has, stands d kept);
@@ -122,20 +122,20 @@ module _ (live : List Course) (names : Course → ℕ) (lives : tree.BTreeMap �
         one_place i j e f there here (sym named ∙ ap names same ∙ named_too);
   }
     where
-      given_at : (i : ℕ) (g : Gathered) → i < length gs → get_or gs i g ≡ g → slice_get gs i ≡ Some g
+      given_at : (i : ℕ) (g : CompleteDialogue) → i < length gs → get_or gs i g ≡ g → slice_get gs i ≡ Some g
       given_at i g less is = Rattle.std.proofs.lemmas.Option.slice_get-get_or gs i g less ∙ ap (λ x. Some x) is
 
 -- ---- in turn
 
 -- the gathered dialogues that represent these are appended
-abbrev pub Handed : List Gathered → List (ℕ × Live) → List Gathered → Type 0
-Handed old es now = (given : List Gathered) × (now ≡ old ++ given) × Stand es given
+abbrev pub Handed : List CompleteDialogue → List (ℕ × Live) → List CompleteDialogue → Type 0
+Handed old es now = (given : List CompleteDialogue) × (now ≡ old ++ given) × Stand es given
 
-pub begins : (old : List Gathered) → Handed old [] old
+pub begins : (old : List CompleteDialogue) → Handed old [] old
 unfolding Stand
 begins old = ([], sym (append-nil old), tt)
 
-pub stands_with : (old now new : List Gathered) (es : List (ℕ × Live)) (e : ℕ × Live) (g : Gathered) → Handed old es now
+pub stands_with : (old now new : List CompleteDialogue) (es : List (ℕ × Live)) (e : ℕ × Live) (g : CompleteDialogue) → Handed old es now
     → new ≡ now ++ g ∷ [] → StandsFor e.1 g → Handed old (es ++ e ∷ []) new
 stands_with old now new es e g (given, items, stand) pushed is = (
   given ++ g ∷ [],
@@ -143,8 +143,8 @@ stands_with old now new es e g (given, items, stand) pushed is = (
   stand_more es given e g stand is,
 )
 
-pub all_handed : (live : List Course) (names : Course → ℕ) (lives : tree.BTreeMap ℕ Live) → AreApart live → AreLives live names lives
-    → tree.IsOrdered nat_cmp lives → (old now : List Gathered) (es : List (ℕ × Live)) → es ≡ lives.entries → Handed old es now
+pub all_handed : (live : List Course) (names : Course → ℕ) (lives : tree.BTreeMap ℕ Live) → AreApart live → HoldsLive live names lives
+    → tree.IsOrdered nat_cmp lives → (old now : List CompleteDialogue) (es : List (ℕ × Live)) → es ≡ lives.entries → Handed old es now
     → HandsOver live old now
 all_handed live names lives apart are ordered old now es same (given, items, stand) =
     (given, items, all_stand live names lives apart are ordered given (subst (λ xs. Stand xs given) same stand))

@@ -7,11 +7,11 @@ use Rattle.std.proofs.lemmas.Bool.{cases_Bool, eq-eqb, eqb-true, false_from_ne_t
 use Rattle.std.proofs.lemmas.List.Folds.{list_any-append}
 use Rattle.tcap_record.specs.declared.entry.End.{End as Side}
 use Rattle.tcap_model.specs.World.{is_side}
-use Rattle.tcap_dialogues.specs.Course.{Course, Courses, Heading, accepts, begins_from, gives_to_another, goes_on_with_another, has_begin, have_one, is_begin, is_continue, names_peer, own_ids, peer_ids}
-use Rattle.tcap_dialogues.specs.Cut.{IdOf, is_among, is_same}
-use Rattle.tcap_dialogues.specs.CutState.{AreApart, AreLives, is_used_anew}
+use Rattle.tcap_dialogues.specs.Course.{Course, Courses, Heading, accepts, begins_from, gives_to_another, goes_on_with_another, has_begin, share_id, is_begin, is_continue, names_peer, own_ids, peer_ids}
+use Rattle.tcap_dialogues.specs.DialoguesOfList.{IdOf, is_among, is_same}
+use Rattle.tcap_dialogues.specs.CutState.{AreApart, HoldsLive, is_used_anew}
 use Rattle.tcap_dialogues.specs.CutUpdate.{ids_at}
-use Rattle.tcap_dialogues.specs.declared.known_ids.Known.{Known}
+use Rattle.tcap_dialogues.specs.declared.known_ids.IdState.{IdState}
 use Rattle.tcap_dialogues.specs.declared.live.Live.{Live}
 use Rattle.tcap_dialogues.proofs.CutLists.{finds, found}
 use Rattle.tcap_dialogues.proofs.HeldLaws.{one_name}
@@ -31,7 +31,7 @@ not_begun false c d = refl
 
 -- Two dialogues that have an ID of an end are equal.
 one_of_ids : (live : List Course) → AreApart live → (end : Side) (octets : Option (List ℕ)) (d e : Course) → Contains live d → Contains live e
-    → have_one (ids_at end octets) d.ids ≡ true → have_one (ids_at end octets) e.ids ≡ true → d ≡ e
+    → share_id (ids_at end octets) d.ids ≡ true → share_id (ids_at end octets) e.ids ≡ true → d ≡ e
 one_of_ids live apart end None d e has hers is so = cc
 one_of_ids live apart end (Some octets) d e has hers is so =
     let id : IdOf = record { end = end; octets = octets } in
@@ -39,48 +39,48 @@ one_of_ids live apart end (Some octets) d e has hers is so =
 
 -- whether the heading accepts a dialogue that has not its own ID
 abbrev pub accepts_one : Heading → Course → Bool
-accepts_one h other = accepts h other && not (have_one (own_ids h) other.ids)
+accepts_one h other = accepts h other && not (share_id (own_ids h) other.ids)
 
 -- Only a Continue accepts.
 pub accepts_none : (live : List Course) (h : Heading) → is_continue h.kind ≡ false → list_any (accepts_one h) live ≡ false
 accepts_none live h not_one =
     any_none (accepts_one h) live
-    (λ x has. ap (λ b. (b && have_one (peer_ids h) x.begun && not (list_any (is_side h.sender) x.senders)) && not (have_one (own_ids h) x.ids)) not_one)
+    (λ x has. ap (λ b. (b && share_id (peer_ids h) x.begun && not (list_any (is_side h.sender) x.senders)) && not (share_id (own_ids h) x.ids)) not_one)
 
 module _ (live : List Course) (names : Course → ℕ) (lives : Rattle.std.specs.BTreeMap.BTreeMap ℕ Live) (apart : AreApart live)
-    (are : AreLives live names lives) (h : Heading) where
-  module _ (peer : Known) where
+    (are : HoldsLive live names lives) (h : Heading) where
+  module _ (peer : IdState) where
     pub accepts_nobody : IsNobodys live (peer_ids h) peer → list_any (accepts_one h) live ≡ false
     accepts_nobody nobody =
         any_none (accepts_one h) live
-        (λ e has. ap (λ b. (is_continue h.kind && b && not (list_any (is_side h.sender) e.senders)) && not (have_one (own_ids h) e.ids))
+        (λ e has. ap (λ b. (is_continue h.kind && b && not (list_any (is_side h.sender) e.senders)) && not (share_id (own_ids h) e.ids))
         (nobody_begun live names (peer_ids h) peer apart nobody e has)
-        ∙ not_begun (is_continue h.kind) (not (list_any (is_side h.sender) e.senders)) (not (have_one (own_ids h) e.ids)))
+        ∙ not_begun (is_continue h.kind) (not (list_any (is_side h.sender) e.senders)) (not (share_id (own_ids h) e.ids)))
 
-    module _ (name other : ℕ) (d e : Course) (has : Contains live d) (named : names d ≡ name) (hits : have_one (own_ids h) d.ids ≡ true)
+    module _ (name other : ℕ) (d e : Course) (has : Contains live d) (named : names d ≡ name) (hits : share_id (own_ids h) d.ids ≡ true)
         (owner : IsOwner live names (peer_ids h) other peer e) where
       -- Another dialogue has another name.
-      is_another : have_one (own_ids h) e.ids ≡ (other == name)
+      is_another : share_id (own_ids h) e.ids ≡ (other == name)
       is_another = both_so _ _ there back
         where
-          there : have_one (own_ids h) e.ids ≡ true → (other == name) ≡ true
+          there : share_id (own_ids h) e.ids ≡ true → (other == name) ≡ true
           there is =
               let same = one_of_ids live apart h.sender h.otid d e has owner.listed hits is in
               eq-eqb other name (sym owner.named ∙ ap names (sym same) ∙ named)
 
-          back : (other == name) ≡ true → have_one (own_ids h) e.ids ≡ true
+          back : (other == name) ≡ true → share_id (own_ids h) e.ids ≡ true
           back is =
               let same = one_name live names lives are apart d e has owner.listed (named ∙ sym (eqb-true other name is) ∙ sym owner.named) in
-              ap (λ x. have_one (own_ids h) x.ids) (sym same) ∙ hits
+              ap (λ x. share_id (own_ids h) x.ids) (sym same) ∙ hits
 
       pub accepts_is : is_continue h.kind ≡ true
           → list_any (accepts_one h) live ≡ ((not (other == name) && peer.begun) && not (list_any (is_side h.sender) e.senders))
       accepts_is continues =
           any_only (accepts_one h) live e owner.listed
           (λ x listed so. begun_only live names (peer_ids h) peer apart other e owner x listed
-          (begun_so (is_continue h.kind) (have_one (peer_ids h) x.begun) (not (list_any (is_side h.sender) x.senders)) (not (have_one (own_ids h) x.ids)) so))
-          ∙ ap (λ b. (b && have_one (peer_ids h) e.begun && not (list_any (is_side h.sender) e.senders)) && not (have_one (own_ids h) e.ids)) continues
-          ∙ ap (λ b. (true && have_one (peer_ids h) e.begun && not (list_any (is_side h.sender) e.senders)) && not b) is_another
+          (begun_so (is_continue h.kind) (share_id (peer_ids h) x.begun) (not (list_any (is_side h.sender) x.senders)) (not (share_id (own_ids h) x.ids)) so))
+          ∙ ap (λ b. (b && share_id (peer_ids h) e.begun && not (list_any (is_side h.sender) e.senders)) && not (share_id (own_ids h) e.ids)) continues
+          ∙ ap (λ b. (true && share_id (peer_ids h) e.begun && not (list_any (is_side h.sender) e.senders)) && not b) is_another
           ∙ ap (λ b. (true && b && not (list_any (is_side h.sender) e.senders)) && not (other == name)) (sym owner.begun)
           ∙ order peer.begun (list_any (is_side h.sender) e.senders) (other == name)
         where
@@ -97,64 +97,64 @@ module _ (live : List Course) (names : Course → ℕ) (lives : Rattle.std.specs
 -- ---- the dialogue that is given up
 
 -- Some dialogue has one of these IDs if they share one with all IDs.
-pub any_has : (ids : List IdOf) (ds : List Course) → list_any (λ d. have_one ids d.ids) ds ≡ have_one ids (flat_map (λ d. d.ids) ds)
+pub any_has : (ids : List IdOf) (ds : List Course) → list_any (λ d. share_id ids d.ids) ds ≡ share_id ids (flat_map (λ d. d.ids) ds)
 any_has ids ds = both_so _ _ there back
   where
-    there : list_any (λ d. have_one ids d.ids) ds ≡ true → have_one ids (flat_map (λ d. d.ids) ds) ≡ true
+    there : list_any (λ d. share_id ids d.ids) ds ≡ true → share_id ids (flat_map (λ d. d.ids) ds) ≡ true
     there is =
-        let (d, has, so) = found (λ x. have_one ids x.ids) ds is in
+        let (d, has, so) = found (λ x. share_id ids x.ids) ds is in
         have_more ids d.ids (flat_map (λ x. x.ids) ds) (λ id its. any_flat (is_same id) (λ x. x.ids) ds ∙ finds (λ x. is_among x.ids id) ds d has its) so
 
-    back : have_one ids (flat_map (λ d. d.ids) ds) ≡ true → list_any (λ d. have_one ids d.ids) ds ≡ true
+    back : share_id ids (flat_map (λ d. d.ids) ds) ≡ true → list_any (λ d. share_id ids d.ids) ds ≡ true
     back is =
         let (id, has, so) = found (is_among (flat_map (λ x. x.ids) ds)) ids is in
         let (d, there, its) = found (λ x. is_among x.ids id) ds (sym (any_flat (is_same id) (λ x. x.ids) ds) ∙ so) in
-        finds (λ x. have_one ids x.ids) ds d there (finds (is_among d.ids) ids id has its)
+        finds (λ x. share_id ids x.ids) ds d there (finds (is_among d.ids) ids id has its)
 
 module _ (s : Courses) (names : Course → ℕ) (h : Heading) where
   -- If a live dialogue has the destination ID, an entry has it.
-  pub named_live : (d : Course) → Contains s.live d → have_one (peer_ids h) d.ids ≡ true → names_peer s h ≡ true
+  pub named_live : (d : Course) → Contains s.live d → share_id (peer_ids h) d.ids ≡ true → names_peer s h ≡ true
   named_live d has is =
-      list_any-append (λ x. have_one (peer_ids h) x.ids) s.done s.live
-      ∙ or_right _ _ (finds (λ x. have_one (peer_ids h) x.ids) s.live d has is)
+      list_any-append (λ x. share_id (peer_ids h) x.ids) s.done s.live
+      ∙ or_right _ _ (finds (λ x. share_id (peer_ids h) x.ids) s.live d has is)
 
   -- If no live dialogue has it, an entry has it if a dialogue that is done did.
-  pub named_done : (peer : Known) → IsOf s names (peer_ids h) peer → IsNobodys s.live (peer_ids h) peer
+  pub named_done : (peer : IdState) → IsOf s names (peer_ids h) peer → IsNobodys s.live (peer_ids h) peer
       → names_peer s h ≡ is_some peer.last
   named_done peer of nobody =
-      list_any-append (λ x. have_one (peer_ids h) x.ids) s.done s.live
-      ∙ ap (λ b. list_any (λ x. have_one (peer_ids h) x.ids) s.done || b)
-      (any_none (λ x. have_one (peer_ids h) x.ids) s.live nobody.0)
+      list_any-append (λ x. share_id (peer_ids h) x.ids) s.done s.live
+      ∙ ap (λ b. list_any (λ x. share_id (peer_ids h) x.ids) s.done || b)
+      (any_none (λ x. share_id (peer_ids h) x.ids) s.live nobody.0)
       ∙ or_none _ ∙ any_has (peer_ids h) s.done ∙ sym of.came
 
   module _ (d : Course) where
     -- A dialogue without the own ID is not reused.
-    pub not_own : have_one (own_ids h) d.ids ≡ false → is_used_anew s h d ≡ false
+    pub not_own : share_id (own_ids h) d.ids ≡ false → is_used_anew s h d ≡ false
     not_own is =
         ap (λ b. (is_begin h.kind && b) || (b && list_any (accepts_one h) s.live)
         || (b && is_continue h.kind && has_begin d && (h.under_way || h.known) && not (names_peer s h))) is
         ∙ ap (λ b. b || false || false) (and-false (is_begin h.kind))
 
     -- A Begin reuses it.
-    pub own_begin : have_one (own_ids h) d.ids ≡ true → is_begin h.kind ≡ true → is_used_anew s h d ≡ true
+    pub own_begin : share_id (own_ids h) d.ids ≡ true → is_begin h.kind ≡ true → is_used_anew s h d ≡ true
     own_begin has begins =
         or_left (begins_from h d.ids || gives_to_another s.live h d) (goes_on_with_another s h d)
-        (or_left (begins_from h d.ids) (gives_to_another s.live h d) (ap (λ b. b && have_one (own_ids h) d.ids) begins ∙ has))
+        (or_left (begins_from h d.ids) (gives_to_another s.live h d) (ap (λ b. b && share_id (own_ids h) d.ids) begins ∙ has))
 
     -- A Continue may reuse it.
     pub own_other : is_begin h.kind ≡ false
         → is_used_anew s h d ≡ (gives_to_another s.live h d || goes_on_with_another s h d)
     own_other none =
-        ap (λ b. (b && have_one (own_ids h) d.ids) || gives_to_another s.live h d || goes_on_with_another s h d) none
+        ap (λ b. (b && share_id (own_ids h) d.ids) || gives_to_another s.live h d || goes_on_with_another s h d) none
 
     -- No other kind does.
     pub own_neither : is_begin h.kind ≡ false → is_continue h.kind ≡ false → is_used_anew s h d ≡ false
     own_neither none neither =
         own_other none
-        ∙ ap (λ b. (have_one (own_ids h) d.ids && b) || goes_on_with_another s h d) (accepts_none s.live h neither)
-        ∙ ap (λ b. (have_one (own_ids h) d.ids && false)
-        || (have_one (own_ids h) d.ids && b && has_begin d && (h.under_way || h.known) && not (names_peer s h))) neither
-        ∙ by (have_one (own_ids h) d.ids) (has_begin d) (h.under_way || h.known) (not (names_peer s h))
+        ∙ ap (λ b. (share_id (own_ids h) d.ids && b) || goes_on_with_another s h d) (accepts_none s.live h neither)
+        ∙ ap (λ b. (share_id (own_ids h) d.ids && false)
+        || (share_id (own_ids h) d.ids && b && has_begin d && (h.under_way || h.known) && not (names_peer s h))) neither
+        ∙ by (share_id (own_ids h) d.ids) (has_begin d) (h.under_way || h.known) (not (names_peer s h))
       where
         by : (b x y z : Bool) → ((b && false) || (b && false && x && y && z)) ≡ false
         by true x y z = refl
@@ -162,7 +162,7 @@ module _ (s : Courses) (names : Course → ℕ) (h : Heading) where
 
     -- If a live dialogue has the destination ID, a Continue belongs to this dialogue if its sender accepts the
     -- dialogue.
-    pub continues_live : (accepts : Bool) → have_one (own_ids h) d.ids ≡ true → names_peer s h ≡ true
+    pub continues_live : (accepts : Bool) → share_id (own_ids h) d.ids ≡ true → names_peer s h ≡ true
         → list_any (accepts_one h) s.live ≡ accepts → (gives_to_another s.live h d || goes_on_with_another s h d) ≡ accepts
     continues_live accepts has named is =
         ap (λ b. (b && list_any (accepts_one h) s.live)
@@ -179,7 +179,7 @@ module _ (s : Courses) (names : Course → ℕ) (h : Heading) where
         by false false c e = refl
 
     -- Otherwise it belongs to a dialogue whose Begin is not in the segment, if no entry has that ID.
-    pub continues_done : (last begun : Bool) → have_one (own_ids h) d.ids ≡ true → is_continue h.kind ≡ true
+    pub continues_done : (last begun : Bool) → share_id (own_ids h) d.ids ≡ true → is_continue h.kind ≡ true
         → list_any (accepts_one h) s.live ≡ false → names_peer s h ≡ last → has_begin d ≡ begun
         → (gives_to_another s.live h d || goes_on_with_another s h d) ≡ (begun && (h.under_way || h.known) && not last)
     continues_done last begun has continues none named begins =
@@ -208,7 +208,7 @@ as_known last begun word none is = by none word begun ∙ ap (λ b. begun && wor
 -- ---- the result of the code
 
 module _ (s : Courses) (names : Course → ℕ) (lives : Rattle.std.specs.BTreeMap.BTreeMap ℕ Live) (apart : AreApart s.live)
-    (are : AreLives s.live names lives) (h : Heading) (own : Known) where
+    (are : HoldsLive s.live names lives) (h : Heading) (own : IdState) where
   -- If no live dialogue has the own ID, none is given up.
   pub gives_up_nobody : IsNobodys s.live (own_ids h) own → (d : Course) → Contains s.live d → (is_some d.over && is_used_anew s h d) ≡ false
   gives_up_nobody nobody d has = ap (λ b. is_some d.over && b) (not_own s names h d (nobody.0 d has)) ∙ and-false (is_some d.over)

@@ -11,8 +11,8 @@ use Rattle.std.proofs.lemmas.Bool.{cases_Bool, eq-eqb, eqb-true, false_from_ne_t
 use Rattle.tcap_record.specs.declared.entry.End.{End as Side}
 use Rattle.tcap_model.specs.World.{is_side}
 use Rattle.tcap_dialogues.specs.Course.{Course, has_begin, has_entry, is_past}
-use Rattle.tcap_dialogues.specs.Cut.{IdOf}
-use Rattle.tcap_dialogues.specs.CutState.{AreApart, AreKept, AreLives, AreOvers, AreTaken, IsHeld, IsKnown, IsOne, IsOut, Lingers, has_sent, is_named, known_at, nothing, others, those}
+use Rattle.tcap_dialogues.specs.DialoguesOfList.{IdOf}
+use Rattle.tcap_dialogues.specs.CutState.{AreApart, HasValuesOf, HoldsLive, HoldsOver, AreTakenOut, IsCutState, IsIdState, IsJoinedLive, IsTakenOut, Lingers, has_sent, is_named, known_at, nothing, without_name, with_name}
 use Rattle.tcap_dialogues.specs.CutUpdate.{is_over_at}
 use Rattle.tcap_dialogues.specs.declared.cut.Cut.{Cut}
 use Rattle.tcap_dialogues.specs.declared.live.Live.{Live}
@@ -28,10 +28,10 @@ at_number a b = unsigned_tied a b
 
 -- ---- the same dialogues in another order
 
-pub same_kept : (ds es : List Course) (l : Live) → AreSame ds es → AreKept ds l → AreKept es l
+pub same_kept : (ds es : List Course) (l : Live) → AreSame ds es → HasValuesOf ds l → HasValuesOf es l
 same_kept ds es l same kept = record {
   numbers = λ n. kept.numbers n ∙ any_same (λ d. has_entry d n) ds es same;
-  ids = λ id. kept.ids id ∙ any_same (λ d. Rattle.tcap_dialogues.specs.Cut.is_among d.ids id) ds es same;
+  ids = λ id. kept.ids id ∙ any_same (λ d. Rattle.tcap_dialogues.specs.DialoguesOfList.is_among d.ids id) ds es same;
   senders = λ side. kept.senders side ∙ any_same (λ d. list_any (is_side side) d.senders) ds es same;
   begun = kept.begun ∙ any_same has_begin ds es same;
   over = kept.over ∙ over_same ds es same;
@@ -42,15 +42,15 @@ same_kept ds es l same kept = record {
 
 -- ---- a dialogue by its name
 
-module _ (live : List Course) (names : Course → ℕ) (lives : BTreeMap ℕ Live) (are : AreLives live names lives) where
+module _ (live : List Course) (names : Course → ℕ) (lives : BTreeMap ℕ Live) (are : HoldsLive live names lives) where
   -- The values found under a name are those of the dialogue.
   pub found_live : (d : Course) (number : ℕ) (l : Live) → Contains live d → names d ≡ number → Some l ≡ tree.get nat_cmp lives number
-      → (l.name ≡ number) × AreKept (d ∷ []) l
+      → (l.name ≡ number) × HasValuesOf (d ∷ []) l
   found_live d number l has named there =
       let (kept, at, name, is) = are.there d has in
       let one : Some l ≡ Some kept = there ∙ ap (tree.get nat_cmp lives) (sym named) ∙ at in
       let same : kept ≡ l = cc in
-      (ap (λ x. x.name) (sym same) ∙ name ∙ named, subst (AreKept (d ∷ [])) same is)
+      (ap (λ x. x.name) (sym same) ∙ name ∙ named, subst (HasValuesOf (d ∷ [])) same is)
 
   -- There are such values.
   pub found_some : (d : Course) (number : ℕ) → Contains live d → names d ≡ number → None ≡ tree.get nat_cmp lives number → ⊥
@@ -63,19 +63,19 @@ module _ (live : List Course) (names : Course → ℕ) (lives : BTreeMap ℕ Liv
   one_name apart d e has hers same =
       apart.one_number d e (names d) has hers (are.entry d has) (ap (has_entry e) same ∙ are.entry e hers)
 
-pub over_one : (d : Course) (l : Live) → AreKept (d ∷ []) l → l.over ≡ d.over
+pub over_one : (d : Course) (l : Live) → HasValuesOf (d ∷ []) l → l.over ≡ d.over
 over_one d l kept = kept.over ∙ lower_none d.over
 
-pub begun_one : (d : Course) (l : Live) → AreKept (d ∷ []) l → l.begun ≡ has_begin d
+pub begun_one : (d : Course) (l : Live) → HasValuesOf (d ∷ []) l → l.begun ≡ has_begin d
 begun_one d l kept = kept.begun ∙ or_none (has_begin d)
 
-pub senders_one : (d : Course) (l : Live) (side : Side) → AreKept (d ∷ []) l → has_sent l side ≡ list_any (is_side side) d.senders
+pub senders_one : (d : Course) (l : Live) (side : Side) → HasValuesOf (d ∷ []) l → has_sent l side ≡ list_any (is_side side) d.senders
 senders_one d l side kept = kept.senders side ∙ or_none (list_any (is_side side) d.senders)
 
 -- ---- a dialogue that has been over for so long
 
 module _ (live : List Course) (names : Course → ℕ) (lives : BTreeMap ℕ Live) (overs : BTreeMap ℕ ℕ) (apart : AreApart live)
-    (are : AreLives live names lives) (ends : AreOvers live names overs) (linger n number : ℕ) (at : (number + linger) + 1 ≡ n)
+    (are : HoldsLive live names lives) (ends : HoldsOver live names overs) (linger n number : ℕ) (at : (number + linger) + 1 ≡ n)
     (lasts : (d : Course) → Contains live d → Lingers (reuses.Again linger) n d.over) where
   -- It is over with this number.
   past_at : (d : Course) → Contains live d → is_past linger n d.over ≡ true → d.over ≡ Some number
@@ -113,29 +113,29 @@ module _ (live : List Course) (names : Course → ℕ) (lives : BTreeMap ℕ Liv
 -- ---- a dialogue is taken out
 
 module _ (live : List Course) (names : Course → ℕ) (lives : BTreeMap ℕ Live) (overs : BTreeMap ℕ ℕ) (apart : AreApart live)
-    (are : AreLives live names lives) (ends : AreOvers live names overs) where
+    (are : HoldsLive live names lives) (ends : HoldsOver live names overs) where
   -- If none has this name, the others are all.
   module _ (number : Option ℕ) (none : (d : Course) → Contains live d → is_named names number d ≡ false) where
-    other_all : (d : Course) → Contains live d → Contains (others names number live) d
+    other_all : (d : Course) → Contains live d → Contains (without_name names number live) d
     other_all d has = left_in (λ e. not (is_named names number e)) live d has (ap not (none d has))
 
-    other_of : (d : Course) → Contains (others names number live) d → Contains live d
+    other_of : (d : Course) → Contains (without_name names number live) d → Contains live d
     other_of d has = (kept_in (λ e. not (is_named names number e)) live d has).0
 
-    pub all_lives : AreLives (others names number live) names lives
+    pub all_lives : HoldsLive (without_name names number live) names lives
     all_lives = record {
       there = λ d has. are.there d (other_of d has);
       back = λ k l at. let (d, has, name) = are.back k l at in (d, other_all d has, name);
       entry = λ d has. are.entry d (other_of d has);
     }
 
-    pub all_overs : AreOvers (others names number live) names overs
+    pub all_overs : HoldsOver (without_name names number live) names overs
     all_overs = record {
       there = λ d k has over. ends.there d k (other_of d has) over;
       back = λ k found at. let (d, has, over, name) = ends.back k found at in (d, other_all d has, over, name);
     }
 
-    pub none_those : (d : Course) → Contains (those names number live) d → ⊥
+    pub none_those : (d : Course) → Contains (with_name names number live) d → ⊥
     none_those d has = let (there, so) = kept_in (is_named names number) live d has in true≢false (sym so ∙ none d there)
 
   -- Nothing is found then.
@@ -145,12 +145,12 @@ module _ (live : List Course) (names : Course → ℕ) (lives : BTreeMap ℕ Liv
 
   -- Otherwise this dialogue is taken out.
   module _ (number : ℕ) (d : Course) (has : Contains live d) (named : names d ≡ number) where
-    is_other : (e : Course) → Contains (others names (Some number) live) e → Contains live e × (names e ≡ number → ⊥)
+    is_other : (e : Course) → Contains (without_name names (Some number) live) e → Contains live e × (names e ≡ number → ⊥)
     is_other e there =
         let (listed, so) = kept_in (λ x. not (is_named names (Some number) x)) live e there in
         (listed, λ same. true≢false (sym so ∙ ap not (eq-eqb (names e) number same)))
 
-    other : (e : Course) → Contains live e → (names e ≡ number → ⊥) → Contains (others names (Some number) live) e
+    other : (e : Course) → Contains live e → (names e ≡ number → ⊥) → Contains (without_name names (Some number) live) e
     other e listed differs =
         left_in (λ x. not (is_named names (Some number) x)) live e listed
         (ap not (false_from_ne_true _ (λ is. differs (eqb-true (names e) number is))))
@@ -161,7 +161,7 @@ module _ (live : List Course) (names : Course → ℕ) (lives : BTreeMap ℕ Liv
 
     pub others_lives : (new : BTreeMap ℕ Live)
         → ((k : ℕ) → tree.get nat_cmp new k ≡ cond (is_at (nat_cmp number) k) None (tree.get nat_cmp lives k))
-        → AreLives (others names (Some number) live) names new
+        → HoldsLive (without_name names (Some number) live) names new
     others_lives new removed = record {
       there = λ e there.
           let (listed, differs) = is_other e there in
@@ -176,7 +176,7 @@ module _ (live : List Course) (names : Course → ℕ) (lives : BTreeMap ℕ Liv
     }
       where
         by : (k : ℕ) (l : Live) → (is_at (nat_cmp number) k ≡ true) ⊎ (is_at (nat_cmp number) k ≡ false) → tree.get nat_cmp new k ≡ Some l
-            → (e : Course) × Contains (others names (Some number) live) e × (names e ≡ k)
+            → (e : Course) × Contains (without_name names (Some number) live) e × (names e ≡ k)
         by k l (inl is) at =
             let bad : None ≡ Some l = sym (removed k ∙ ap (λ b. cond b None (tree.get nat_cmp lives k)) is) ∙ at in cc
         by k l (inr is) at =
@@ -195,7 +195,7 @@ module _ (live : List Course) (names : Course → ℕ) (lives : BTreeMap ℕ Liv
 
     pub others_overs : (new : BTreeMap ℕ ℕ)
         → ((k : ℕ) → tree.get nat_cmp new k ≡ cond (is_over_at d.over k) None (tree.get nat_cmp overs k))
-        → AreOvers (others names (Some number) live) names new
+        → HoldsOver (without_name names (Some number) live) names new
     others_overs new removed = record {
       there = λ e k there over.
           let (listed, differs) = is_other e there in
@@ -215,7 +215,7 @@ module _ (live : List Course) (names : Course → ℕ) (lives : BTreeMap ℕ Liv
         is_it (Some x) k is = let same : x ≡ k = cc in eq-eqb x k same
 
         by : (k found : ℕ) → (is_over_at d.over k ≡ true) ⊎ (is_over_at d.over k ≡ false) → tree.get nat_cmp new k ≡ Some found
-            → (e : Course) × Contains (others names (Some number) live) e × (e.over ≡ Some k) × (names e ≡ found)
+            → (e : Course) × Contains (without_name names (Some number) live) e × (e.over ≡ Some k) × (names e ≡ found)
         by k found (inl is) at =
             let bad : None ≡ Some found = sym (removed k ∙ ap (λ b. cond b None (tree.get nat_cmp overs k)) is) ∙ at in cc
         by k found (inr is) at =
@@ -230,7 +230,7 @@ module _ (live : List Course) (names : Course → ℕ) (lives : BTreeMap ℕ Liv
             )
 
     -- It is the only one with this name.
-    pub those_one : AreSame (d ∷ []) (those names (Some number) live)
+    pub those_one : AreSame (d ∷ []) (with_name names (Some number) live)
     those_one = record {
       there = λ e there. by e (in_cases d e [] there);
       back = λ e there.
@@ -239,18 +239,18 @@ module _ (live : List Course) (names : Course → ℕ) (lives : BTreeMap ℕ Liv
           (one_name live names lives are apart d e has listed (named ∙ sym (eqb-true (names e) number so))) (first_in d []);
     }
       where
-        by : (e : Course) → (d ≡ e) ⊎ Contains [] e → Contains (those names (Some number) live) e
+        by : (e : Course) → (d ≡ e) ⊎ Contains [] e → Contains (with_name names (Some number) live) e
         by e (inl same) =
-            subst (Contains (those names (Some number) live)) same
+            subst (Contains (with_name names (Some number) live)) same
             (left_in (is_named names (Some number)) live d has (eq-eqb (names d) number named))
         by e (inr bad) = absurd (none_in e bad)
 
-    pub those_taken : (l : Live) → (l.name ≡ number) × AreKept (d ∷ []) l → AreTaken (those names (Some number) live) names (Some l)
+    pub those_taken : (l : Live) → (l.name ≡ number) × HasValuesOf (d ∷ []) l → AreTakenOut (with_name names (Some number) live) names (Some l)
     those_taken l (name, kept) = (
-      same_kept (d ∷ []) (those names (Some number) live) l those_one kept,
+      same_kept (d ∷ []) (with_name names (Some number) live) l those_one kept,
       λ e there.
           let (listed, so) = kept_in (is_named names (Some number)) live e there in eqb-true (names e) number so ∙ sym name,
-      finds (λ e. has_entry e l.name) (those names (Some number) live) d (those_one.there d (first_in d []))
+      finds (λ e. has_entry e l.name) (with_name names (Some number) live) d (those_one.there d (first_in d []))
           (ap (has_entry d) (name ∙ sym named) ∙ are.entry d has),
     )
 
@@ -268,8 +268,8 @@ pub no_number_out : (l : Live) (old : BTreeMap ℕ ℕ) → l.over ≡ None → 
 no_number_out l old over k = ap (λ o. cond (is_over_at o k) None (tree.get nat_cmp old k)) (sym over)
 
 -- Equal maps keep the same dialogues.
-lives_same : (ds : List Course) (names : Course → ℕ) (old new : BTreeMap ℕ Live) → new.entries ≡ old.entries → AreLives ds names old
-    → AreLives ds names new
+lives_same : (ds : List Course) (names : Course → ℕ) (old new : BTreeMap ℕ Live) → new.entries ≡ old.entries → HoldsLive ds names old
+    → HoldsLive ds names new
 lives_same ds names old new same are = record {
   there = λ d has.
       let (l, at, name, kept) = are.there d has in
@@ -278,8 +278,8 @@ lives_same ds names old new same are = record {
   entry = are.entry;
 }
 
-overs_same : (ds : List Course) (names : Course → ℕ) (old new : BTreeMap ℕ ℕ) → new.entries ≡ old.entries → AreOvers ds names old
-    → AreOvers ds names new
+overs_same : (ds : List Course) (names : Course → ℕ) (old new : BTreeMap ℕ ℕ) → new.entries ≡ old.entries → HoldsOver ds names old
+    → HoldsOver ds names new
 overs_same ds names old new same are = record {
   there = λ d k has over. ap (lookup (is_at (nat_cmp k))) same ∙ are.there d k has over;
   back = λ k found at. are.back k found (ap (lookup (is_at (nat_cmp k))) (sym same) ∙ at);
@@ -287,7 +287,7 @@ overs_same ds names old new same are = record {
 
 -- The empty cut keeps no dialogues.
 pub nothing_held : (names : Course → ℕ) (kept : Cut) → kept.live.entries ≡ [] → kept.overs.entries ≡ []
-    → ((id : IdOf) → known_at kept.ids id ≡ nothing) → IsHeld (record { done = []; live = [] }) names (λ id. false) kept
+    → ((id : IdOf) → known_at kept.ids id ≡ nothing) → IsCutState (record { done = []; live = [] }) names (λ id. false) kept
 nothing_held names kept no_live no_overs no_ids = record {
   lives = record {
     there = λ d has. absurd (none_in d has);
@@ -298,26 +298,26 @@ nothing_held names kept no_live no_overs no_ids = record {
     there = λ d k has over. absurd (none_in d has);
     back = λ k found at. let bad : None ≡ Some found = sym (ap (lookup (is_at (nat_cmp k))) no_overs) ∙ at in cc;
   };
-  ids = λ id. subst (IsKnown (record { done = []; live = [] }) names (λ x. false) id) (sym (no_ids id))
+  ids = λ id. subst (IsIdState (record { done = []; live = [] }) names (λ x. false) id) (sym (no_ids id))
       (record { owned = (λ d has. absurd (none_in d has), refl, refl); came = refl; firm_is = refl; sent_is = refl });
 }
 
 -- An empty dialogue keeps none.
-pub none_in_one : (n : ℕ) (ds : List Course) (names : Course → ℕ) (l : Live) → ((d : Course) → Contains ds d → ⊥) → AreKept [] l
-    → l.name ≡ n → IsOne n ds names l
+pub none_in_one : (n : ℕ) (ds : List Course) (names : Course → ℕ) (l : Live) → ((d : Course) → Contains ds d → ⊥) → HasValuesOf [] l
+    → l.name ≡ n → IsJoinedLive n ds names l
 none_in_one n ds names l none kept name = record {
   kept = same_kept [] ds l (record { there = λ d has. absurd (none_in d has); back = λ d has. absurd (none d has) }) kept;
   named = λ d has. absurd (none d has);
   entry = inl name;
 }
 
-module _ (live : List Course) (names : Course → ℕ) (old new : Cut) (apart : AreApart live) (are : AreLives live names old.live)
-    (ends : AreOvers live names old.overs) (rest : new ≡ record old { live = new.live; overs = new.overs }) where
+module _ (live : List Course) (names : Course → ℕ) (old new : Cut) (apart : AreApart live) (are : HoldsLive live names old.live)
+    (ends : HoldsOver live names old.overs) (rest : new ≡ record old { live = new.live; overs = new.overs }) where
   -- A dialogue was found.
   pub out_one : (number : ℕ) (l : Live) → Some l ≡ tree.get nat_cmp old.live number
       → ((k : ℕ) → tree.get nat_cmp new.live k ≡ cond (is_at (nat_cmp number) k) None (tree.get nat_cmp old.live k))
       → ((k : ℕ) → tree.get nat_cmp new.overs k ≡ cond (is_over_at l.over k) None (tree.get nat_cmp old.overs k))
-      → IsOut (Some number) live names old new (Some l)
+      → IsTakenOut (Some number) live names old new (Some l)
   out_one number l there removed over =
       let (d, has, named) = are.back number l (sym there) in
       let found = found_live live names old.live are d number l has named there in record {
@@ -330,11 +330,11 @@ module _ (live : List Course) (names : Course → ℕ) (old new : Cut) (apart : 
 
   -- None was found.
   pub out_none : (number : Option ℕ) → ((d : Course) → Contains live d → is_named names number d ≡ false)
-      → new.live.entries ≡ old.live.entries → new.overs.entries ≡ old.overs.entries → IsOut number live names old new None
+      → new.live.entries ≡ old.live.entries → new.overs.entries ≡ old.overs.entries → IsTakenOut number live names old new None
   out_none number none same_live same_overs = record {
-    lives = lives_same (others names number live) names old.live new.live same_live
+    lives = lives_same (without_name names number live) names old.live new.live same_live
         (all_lives live names old.live old.overs apart are ends number none);
-    overs = overs_same (others names number live) names old.overs new.overs same_overs
+    overs = overs_same (without_name names number live) names old.overs new.overs same_overs
         (all_overs live names old.live old.overs apart are ends number none);
     out = none_those live names old.live old.overs apart are ends number none;
     rest = rest;

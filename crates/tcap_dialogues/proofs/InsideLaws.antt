@@ -8,8 +8,8 @@ use Rattle.tcap_end.specs.declared.half.Slot.{Slot}
 use Rattle.tcap_end.specs.declared.half.Slot.TheVariants.{Begun, Accepted}
 use Rattle.tcap_end.specs.Step.{needs, ◌>>◌, ◌>>=◌}
 use Rattle.tcap_end.specs.Half.{Half}
-use Rattle.tcap_end.specs.End.{End, KeptHalf, first_half, half_where, is_id, named, nothing, put, with_own, with_peer}
-use Rattle.tcap_end.specs.ReachableEnd.{Has, IsEnd, IsKept}
+use Rattle.tcap_end.specs.End.{End, KeyedHalf, first_half, half_where, is_id, named, nothing, put, with_own, with_peer}
+use Rattle.tcap_end.specs.ReachableEnd.{HasHalf, IsEnd, IsHalfKey}
 use Rattle.tcap_end.proofs.EndLaws.{IsThere, no_half, put_has}
 use Rattle.tcap_end.proofs.FoundLaws.{own_has, peer_has}
 use Rattle.tcap_model.proofs.SentMoves.{own_is, peer_is}
@@ -52,7 +52,7 @@ module _ (own peer : List ℕ → Bool) where
 
   -- This holds for each half of an end.
   pub record Matches (e : End) : Type 0 where
-    pub agree : (f : KeptHalf) → Has e f → Agrees f.half
+    pub agree : (f : KeyedHalf) → HasHalf e f → Agrees f.half
 
   -- It holds without halves.
   pub nothing_matches : Matches nothing
@@ -62,35 +62,35 @@ module _ (own peer : List ℕ → Bool) where
   pub put_matches : (e : End) (slot : Slot) (key : List ℕ) (h : Half) → Matches e → Agrees h → Matches (put e slot key h)
   put_matches e slot key h old new = record { agree = λ f had. by f (put_has e slot key h f had) }
     where
-      by : (f : KeptHalf) → IsThere slot key h f ⊎ Has e f → Agrees f.half
+      by : (f : KeyedHalf) → IsThere slot key h f ⊎ HasHalf e f → Agrees f.half
       by f (inl there) = rw (there.2) new
       by f (inr had) = old.agree f had
 
   -- ---- a half is inside if its IDs are
 
   -- by its own ID
-  own_at : (slot : Slot) (key id : List ℕ) (h : Half) → IsKept slot key h → Agrees h → h.own ≡ Some id → at_slot slot key ≡ own id
+  own_at : (slot : Slot) (key id : List ℕ) (h : Half) → IsHalfKey slot key h → Agrees h → h.own ≡ Some id → at_slot slot key ≡ own id
   own_at Begun key id h kept agrees is = let same : key ≡ id = cc in ap own same
   own_at Accepted key id h kept agrees is = sym (agrees id key is kept)
 
   -- by its peer ID
-  peer_at : (slot : Slot) (key id : List ℕ) (h : Half) → IsKept slot key h → Agrees h → h.peer ≡ Some id → at_slot slot key ≡ peer id
+  peer_at : (slot : Slot) (key id : List ℕ) (h : Half) → IsHalfKey slot key h → Agrees h → h.peer ≡ Some id → at_slot slot key ≡ peer id
   peer_at Begun key id h kept agrees is = agrees key id kept is
   peer_at Accepted key id h kept agrees is = let same : key ≡ id = cc in ap peer same
 
   -- the place of an end's half, by its own ID
-  pub own_place : (e : End) (f : KeptHalf) (id : List ℕ) → IsEnd e → Matches e → Has e f → f.half.own ≡ Some id → at_slot f.slot f.key ≡ own id
+  pub own_place : (e : End) (f : KeyedHalf) (id : List ℕ) → IsEnd e → Matches e → HasHalf e f → f.half.own ≡ Some id → at_slot f.slot f.key ≡ own id
   own_place e f id sound matches had is = own_at f.slot f.key id f.half (sound.kept f had) (matches.agree f had) is
 
   -- the place of an end's half, by its peer ID
-  pub peer_place : (e : End) (f : KeptHalf) (id : List ℕ) → IsEnd e → Matches e → Has e f → f.half.peer ≡ Some id → at_slot f.slot f.key ≡ peer id
+  pub peer_place : (e : End) (f : KeyedHalf) (id : List ℕ) → IsEnd e → Matches e → HasHalf e f → f.half.peer ≡ Some id → at_slot f.slot f.key ≡ peer id
   peer_place e f id sound matches had is = peer_at f.slot f.key id f.half (sound.kept f had) (matches.agree f had) is
 
   -- ---- halves that are found
 
   -- Each half that passes is inside.
   abbrev AreInside : (Half → Bool) → End → Type 0
-  AreInside passes e = (f : KeptHalf) → Has e f → passes f.half ≡ true → at_slot f.slot f.key ≡ true
+  AreInside passes e = (f : KeyedHalf) → HasHalf e f → passes f.half ≡ true → at_slot f.slot f.key ≡ true
 
   -- Then the same half is found.
   same_half : (passes : Half → Bool) (e : End) → IsEnd e → AreInside passes e → half_where passes (inside e) ≡ half_where passes e
@@ -104,7 +104,7 @@ module _ (own peer : List ℕ → Bool) where
       accepted = first_thin passes peer Accepted e.accepted
           (all_kept _ e.accepted sound.accepted (λ key half at. all (record { slot = Accepted; key = key; half = half }) at))
 
-      by : (o : Option KeptHalf) → first_half passes Begun e.begun ≡ o → half_where passes (inside e) ≡ half_where passes e
+      by : (o : Option KeyedHalf) → first_half passes Begun e.begun ≡ o → half_where passes (inside e) ≡ half_where passes e
       by None none = rw (begun, none) accepted
       by (Some f) some = rw (begun, some) refl
 
@@ -129,7 +129,7 @@ module _ (own peer : List ℕ → Bool) where
   named_same e (names.Peer id) = peer_same e id
 
   -- It is inside if its name is.
-  pub named_place : (e : End) (name : HalfName) (f : KeptHalf) → IsEnd e → Matches e → named e name ≡ Some f
+  pub named_place : (e : End) (name : HalfName) (f : KeyedHalf) → IsEnd e → Matches e → named e name ≡ Some f
       → at_slot f.slot f.key ≡ named_in name
   named_place e (names.Own id) f sound matches is = own_place e f id sound matches (own_has e id sound f is) (own_is e id f is)
   named_place e (names.Peer id) f sound matches is = peer_place e f id sound matches (peer_has e id sound f is) (peer_is e id f is)

@@ -6,13 +6,13 @@ use Rattle.std.proofs.lemmas.Bool.{or_left, or_right}
 use Rattle.std.proofs.lemmas.List.Elements.{Contains-append_cases}
 use Rattle.std.proofs.lemmas.List.Folds.{list_any-append}
 use Rattle.tcap_record.specs.Ends.{other}
-use Rattle.tcap_dialogues.specs.Course.{Course, Courses, Earlier, Heading, earlier_in, has_entry, have_one, ids_in, is_alone, joined_by, own_ids, peer_ids}
-use Rattle.tcap_dialogues.specs.Cut.{IdOf, is_among}
-use Rattle.tcap_dialogues.specs.CutState.{AreApart, IsCutOf, IsHeld, IsOne, earlier_of, higher, is_named, is_unsettled, known_at, known_of, others, those}
-use Rattle.tcap_dialogues.specs.CutUpdate.{AreNoted, HasEntry, IsJoined, IsPut, TakesOne}
+use Rattle.tcap_dialogues.specs.Course.{Course, Courses, Earlier, Heading, earlier_in, has_entry, share_id, ids_in, is_alone, joined_by, own_ids, peer_ids}
+use Rattle.tcap_dialogues.specs.DialoguesOfList.{IdOf, is_among}
+use Rattle.tcap_dialogues.specs.CutState.{AreApart, IsCutOf, IsCutState, IsJoinedLive, earlier_of, higher, is_named, is_unsettled, known_at, known_of, without_name, with_name}
+use Rattle.tcap_dialogues.specs.CutUpdate.{AreNoted, HasEntry, IsJoined, IsAdded, TakesOne}
 use Rattle.tcap_dialogues.specs.declared.cut.Cut.{Cut}
 use Rattle.tcap_dialogues.specs.declared.known_ids.Ids.{Ids}
-use Rattle.tcap_dialogues.specs.declared.known_ids.Known.{Known}
+use Rattle.tcap_dialogues.specs.declared.known_ids.IdState.{IdState}
 use Rattle.tcap_dialogues.specs.declared.live.Live.{Live}
 use Rattle.tcap_dialogues.proofs.CourseJoins.{hit_by, ids_more}
 use Rattle.tcap_dialogues.proofs.CourseStretch.{left_apart}
@@ -27,7 +27,7 @@ use Rattle.tcap_dialogues.proofs.OwnerLaws.{IsOf, Owns, known_is}
 use Rattle.tcap_dialogues.proofs.TwoNames.{named_ones, other_ones}
 
 module _ (s : Courses) (names : Course → ℕ) (sent : IdOf → Bool) (h : Heading) (apart : AreApart s.live) (old : Cut)
-    (held : IsHeld s names sent old) (own peer : Known) (own_known : own ≡ known_of old.ids h.sender h.otid)
+    (held : IsCutState s names sent old) (own peer : IdState) (own_known : own ≡ known_of old.ids h.sender h.otid)
     (peer_known : peer ≡ known_of old.ids (other h.sender) h.dtid) where
   abbrev live : List Course
   live = s.live
@@ -41,38 +41,38 @@ module _ (s : Courses) (names : Course → ℕ) (sent : IdOf → Bool) (h : Head
   peer_of : IsOf s names (peer_ids h) peer
   peer_of = known_is s names sent apart old.ids held.ids (other h.sender) h.dtid peer peer_known
 
-  own_is : (d : Course) → Contains live d → have_one (own_ids h) d.ids ≡ is_named names own.dialogue d
+  own_is : (d : Course) → Contains live d → share_id (own_ids h) d.ids ≡ is_named names own.dialogue d
   own_is = owned_is live names old.live apart held.lives (own_ids h) own own_of.owns
 
-  peer_is : (d : Course) → Contains live d → have_one (peer_ids h) d.ids ≡ is_named names peer.dialogue d
+  peer_is : (d : Course) → Contains live d → share_id (peer_ids h) d.ids ≡ is_named names peer.dialogue d
   peer_is = owned_is live names old.live apart held.lives (peer_ids h) peer peer_of.owns
 
-  hit_is : (d : Course) → Contains live d → have_one (ids_in h) d.ids ≡ (is_named names own.dialogue d || is_named names peer.dialogue d)
+  hit_is : (d : Course) → Contains live d → share_id (ids_in h) d.ids ≡ (is_named names own.dialogue d || is_named names peer.dialogue d)
   hit_is d has = list_any-append (is_among d.ids) (own_ids h) (peer_ids h) ∙ either _ _ _ _ (own_is d has) (peer_is d has)
 
   -- The entry begins a new dialogue if it has an ID and no live dialogue has one of its IDs.
   pub begins_is : (has_ids own_none peer_none : Bool) → has_ids ≡ not (is_alone h) → is_some own.dialogue ≡ not own_none
       → is_some peer.dialogue ≡ not peer_none
-      → ((has_ids && own_none) && peer_none) ≡ (not (is_alone h) && not (list_any (λ d. have_one (ids_in h) d.ids) live))
+      → ((has_ids && own_none) && peer_none) ≡ (not (is_alone h) && not (list_any (λ d. share_id (ids_in h) d.ids) live))
   begins_is has_ids own_none peer_none ids_so own_so peer_so =
       ap (λ b. (b && own_none) && peer_none) ids_so
       ∙ ap (λ b. (not (is_alone h) && b) && peer_none) (flipped _ _ own_so ∙ ap not (some_has (own_ids h) own own_of.owns))
-      ∙ ap (λ b. (not (is_alone h) && not (list_any (λ d. have_one (own_ids h) d.ids) live)) && b)
+      ∙ ap (λ b. (not (is_alone h) && not (list_any (λ d. share_id (own_ids h) d.ids) live)) && b)
       (flipped _ _ peer_so ∙ ap not (some_has (peer_ids h) peer peer_of.owns))
-      ∙ neither (not (is_alone h)) (list_any (λ d. have_one (own_ids h) d.ids) live) (list_any (λ d. have_one (peer_ids h) d.ids) live)
+      ∙ neither (not (is_alone h)) (list_any (λ d. share_id (own_ids h) d.ids) live) (list_any (λ d. share_id (peer_ids h) d.ids) live)
       ∙ ap (λ b. not (is_alone h) && not b) (sym (hit_either live))
     where
       flipped : (a b : Bool) → a ≡ not b → b ≡ not a
       flipped a true is = sym (ap not is)
       flipped a false is = sym (ap not is)
 
-      some_has : (ids : List IdOf) (known : Known) → Owns live names ids known known.dialogue
-          → is_some known.dialogue ≡ list_any (λ d. have_one ids d.ids) live
+      some_has : (ids : List IdOf) (known : IdState) → Owns live names ids known known.dialogue
+          → is_some known.dialogue ≡ list_any (λ d. share_id ids d.ids) live
       some_has ids known owns = by known.dialogue owns
         where
-          by : (o : Option ℕ) → Owns live names ids known o → is_some o ≡ list_any (λ d. have_one ids d.ids) live
-          by None nobody = sym (any_none (λ d. have_one ids d.ids) live nobody.0)
-          by (Some name) (d, owner) = sym (finds (λ x. have_one ids x.ids) live d owner.listed owner.has)
+          by : (o : Option ℕ) → Owns live names ids known o → is_some o ≡ list_any (λ d. share_id ids d.ids) live
+          by None nobody = sym (any_none (λ d. share_id ids d.ids) live nobody.0)
+          by (Some name) (d, owner) = sym (finds (λ x. share_id ids x.ids) live d owner.listed owner.has)
 
       neither : (x a b : Bool) → ((x && not a) && not b) ≡ (x && not (a || b))
       neither true true b = refl
@@ -80,13 +80,13 @@ module _ (s : Courses) (names : Course → ℕ) (sent : IdOf → Bool) (h : Head
       neither false a b = refl
 
       hit_either : (ds : List Course)
-          → list_any (λ d. have_one (ids_in h) d.ids) ds
-          ≡ (list_any (λ d. have_one (own_ids h) d.ids) ds || list_any (λ d. have_one (peer_ids h) d.ids) ds)
+          → list_any (λ d. share_id (ids_in h) d.ids) ds
+          ≡ (list_any (λ d. share_id (own_ids h) d.ids) ds || list_any (λ d. share_id (peer_ids h) d.ids) ds)
       hit_either [] = refl
       hit_either (d ∷ ds) =
-          ap (λ b. b || list_any (λ x. have_one (ids_in h) x.ids) ds) (list_any-append (is_among d.ids) (own_ids h) (peer_ids h))
-          ∙ ap (λ b. (have_one (own_ids h) d.ids || have_one (peer_ids h) d.ids) || b) (hit_either ds)
-          ∙ order (have_one (own_ids h) d.ids) (have_one (peer_ids h) d.ids) _ _
+          ap (λ b. b || list_any (λ x. share_id (ids_in h) x.ids) ds) (list_any-append (is_among d.ids) (own_ids h) (peer_ids h))
+          ∙ ap (λ b. (share_id (own_ids h) d.ids || share_id (peer_ids h) d.ids) || b) (hit_either ds)
+          ∙ order (share_id (own_ids h) d.ids) (share_id (peer_ids h) d.ids) _ _
         where
           order : (a b c e : Bool) → ((a || b) || (c || e)) ≡ ((a || c) || (b || e))
           order true b c e = refl
@@ -97,28 +97,28 @@ module _ (s : Courses) (names : Course → ℕ) (sent : IdOf → Bool) (h : Head
 
   -- the dialogues with the own ID's name, and those of the rest with the peer ID's name
   abbrev pub ones : List Course
-  ones = those names own.dialogue live
+  ones = with_name names own.dialogue live
 
   abbrev pub more : List Course
-  more = those names peer.dialogue (others names own.dialogue live)
+  more = with_name names peer.dialogue (without_name names own.dialogue live)
 
-  pub others_apart : AreApart (others names own.dialogue live)
+  pub others_apart : AreApart (without_name names own.dialogue live)
   others_apart =
-      left_apart live (others names own.dialogue live) (λ d has. (kept_in (λ e. not (is_named names own.dialogue e)) live d has).0) apart
+      left_apart live (without_name names own.dialogue live) (λ d has. (kept_in (λ e. not (is_named names own.dialogue e)) live d has).0) apart
 
   module _ (first second : Cut) (x y : Live) (takes : TakesOne own.dialogue live names old first x)
-      (takes_more : TakesOne peer.dialogue (others names own.dialogue live) names first second y) where
+      (takes_more : TakesOne peer.dialogue (without_name names own.dialogue live) names first second y) where
     same_ids : second.ids ≡ old.ids
     same_ids = ap (λ c. c.ids) takes_more.rest ∙ ap (λ c. c.ids) takes.rest
 
     pub same_count : second.count ≡ old.count
     same_count = ap (λ c. c.count) takes_more.rest ∙ ap (λ c. c.count) takes.rest
 
-    pub one_first : IsOne second.count ones names x
-    one_first = subst (λ n. IsOne n ones names x) (sym same_count) takes.one
+    pub one_first : IsJoinedLive second.count ones names x
+    one_first = subst (λ n. IsJoinedLive n ones names x) (sym same_count) takes.one
 
-    pub one_more : IsOne second.count more names y
-    one_more = subst (λ n. IsOne n more names y) (sym (ap (λ c. c.count) takes_more.rest)) takes_more.one
+    pub one_more : IsJoinedLive second.count more names y
+    one_more = subst (λ n. IsJoinedLive n more names y) (sym (ap (λ c. c.count) takes_more.rest)) takes_more.one
 
     pub owned : (d : Course) (id : IdOf) → Contains (ones ++ more) d → is_among d.ids id ≡ true
         → (known_at second.ids id).dialogue ≡ Some (names d)
@@ -130,29 +130,29 @@ module _ (s : Courses) (names : Course → ℕ) (sent : IdOf → Bool) (h : Head
         in_live (inl there) = (kept_in (is_named names own.dialogue) live d there).0
         in_live (inr there) =
             (kept_in (λ e. not (is_named names own.dialogue e)) live d
-            (kept_in (is_named names peer.dialogue) (others names own.dialogue live) d there).0).0
+            (kept_in (is_named names peer.dialogue) (without_name names own.dialogue live) d there).0).0
 
     module _ (later : AreApart (joined_by old.count h s.done s.live).live)
         (below : (d : Course) (i : ℕ) → Contains live d → has_entry d i ≡ true → i < old.count) (third put : Cut) (l new : Live)
         (ids : Ids) (joined : IsJoined second.count (ones ++ more) second third l)
         (entry : HasEntry old.count h own peer l new)
-        (noted : AreNoted h new.name own peer third.ids ids) (puts : IsPut new (record third { ids = ids }) put) where
+        (noted : AreNoted h new.name own peer third.ids ids) (puts : IsAdded new (record third { ids = ids }) put) where
       all : IsJoined second.count (hit_by h live) second third l
       all =
           joined_same second.count (ones ++ more) (hit_by h live) second third l
-          (named_ones live names own.dialogue peer.dialogue (λ d. have_one (ids_in h) d.ids) hit_is) joined
+          (named_ones live names own.dialogue peer.dialogue (λ d. share_id (ids_in h) d.ids) hit_is) joined
 
       hit_live : (d : Course) → Contains (hit_by h live) d → Contains live d
-      hit_live d has = (kept_in (λ e. have_one (ids_in h) e.ids) live d has).0
+      hit_live d has = (kept_in (λ e. share_id (ids_in h) e.ids) live d has).0
 
-      hit_of : (ids : List IdOf) → ((d : Course) → have_one ids d.ids ≡ true → have_one (ids_in h) d.ids ≡ true) → (d : Course)
-          → Contains live d → have_one ids d.ids ≡ true → Contains (hit_by h live) d
-      hit_of some wider d has is = left_in (λ e. have_one (ids_in h) e.ids) live d has (wider d is)
+      hit_of : (ids : List IdOf) → ((d : Course) → share_id ids d.ids ≡ true → share_id (ids_in h) d.ids ≡ true) → (d : Course)
+          → Contains live d → share_id ids d.ids ≡ true → Contains (hit_by h live) d
+      hit_of some wider d has is = left_in (λ e. share_id (ids_in h) e.ids) live d has (wider d is)
 
-      in_own : (d : Course) → Contains live d → have_one (own_ids h) d.ids ≡ true → Contains (hit_by h live) d
+      in_own : (d : Course) → Contains live d → share_id (own_ids h) d.ids ≡ true → Contains (hit_by h live) d
       in_own = hit_of (own_ids h) (λ d is. list_any-append (is_among d.ids) (own_ids h) (peer_ids h) ∙ or_left _ _ is)
 
-      in_peer : (d : Course) → Contains live d → have_one (peer_ids h) d.ids ≡ true → Contains (hit_by h live) d
+      in_peer : (d : Course) → Contains live d → share_id (peer_ids h) d.ids ≡ true → Contains (hit_by h live) d
       in_peer = hit_of (peer_ids h) (λ d is. list_any-append (is_among d.ids) (own_ids h) (peer_ids h) ∙ or_right _ _ is)
 
       -- What is known of both IDs decides the test of those that none of these dialogues has.
@@ -163,7 +163,7 @@ module _ (s : Courses) (names : Course → ℕ) (sent : IdOf → Bool) (h : Head
           (again_is live (hit_by h live) names h.sender h.otid own own_of.owns hit_live in_own test a own_so)
           (again_is live (hit_by h live) names (other h.sender) h.dtid peer peer_of.owns hit_live in_peer test b peer_so)
 
-      comes_again : have_one (ids_more h live) earlier.ids ≡ is_some (higher (earlier_of own) (earlier_of peer))
+      comes_again : share_id (ids_more h live) earlier.ids ≡ is_some (higher (earlier_of own) (earlier_of peer))
       comes_again =
           test_both (is_among earlier.ids) (is_some own.last) (is_some peer.last) own_of.came peer_of.came
           ∙ sym (some_higher (earlier_of own) (earlier_of peer) ∙ either _ _ _ _ (some_earlier own) (some_earlier peer))
@@ -186,8 +186,8 @@ module _ (s : Courses) (names : Course → ℕ) (sent : IdOf → Bool) (h : Head
       third_is = joined.rest
 
       miss : Rattle.tcap_dialogues.proofs.HeldLists.AreSame
-          (others names peer.dialogue (others names own.dialogue live)) (Rattle.std.specs.Prelude.filter (λ d. not (have_one (ids_in h) d.ids)) live)
-      miss = other_ones live names own.dialogue peer.dialogue (λ d. have_one (ids_in h) d.ids) hit_is
+          (without_name names peer.dialogue (without_name names own.dialogue live)) (Rattle.std.specs.Prelude.filter (λ d. not (share_id (ids_in h) d.ids)) live)
+      miss = other_ones live names own.dialogue peer.dialogue (λ d. share_id (ids_in h) d.ids) hit_is
 
       pub entry_comes : IsCutOf old.reuse (old.count + 1) (joined_by old.count h s.done s.live) (λ id. sent id || is_among (own_ids h) id)
           (record put { count = old.count + 1 })
@@ -197,15 +197,15 @@ module _ (s : Courses) (names : Course → ℕ) (sent : IdOf → Bool) (h : Head
         name = names_then live names earlier old.count h apart later below new.name;
         held = record {
           lives = lives_then live names earlier old.count h apart later below new.name entry_named second.live second.overs
-              (others names peer.dialogue (others names own.dialogue live)) miss takes_more.lives takes_more.overs
+              (without_name names peer.dialogue (without_name names own.dialogue live)) miss takes_more.lives takes_more.overs
               (record third { ids = ids }) put (ap (λ c. c.live) third_is) (ap (λ c. c.overs) third_is) new refl
               (entry_kept earlier old.count h live own peer l new all.kept entry comes_again unsettled_too) puts;
           overs = overs_then live names earlier old.count h apart later below new.name entry_named second.live second.overs
-              (others names peer.dialogue (others names own.dialogue live)) miss takes_more.lives takes_more.overs
+              (without_name names peer.dialogue (without_name names own.dialogue live)) miss takes_more.lives takes_more.overs
               (record third { ids = ids }) put (ap (λ c. c.live) third_is) (ap (λ c. c.overs) third_is) new refl
               (entry_kept earlier old.count h live own peer l new all.kept entry comes_again unsettled_too) puts;
           ids = λ id. subst
-              (λ x. Rattle.tcap_dialogues.specs.CutState.IsKnown (joined_by old.count h s.done s.live)
+              (λ x. Rattle.tcap_dialogues.specs.CutState.IsIdState (joined_by old.count h s.done s.live)
               (names_then live names earlier old.count h apart later below new.name) (λ y. sent y || is_among (own_ids h) y) id (known_at x id))
               (sym (ap (λ c. c.ids) puts.rest))
               (ids_then s names sent old.count h apart later below new.name old.ids third.ids ids held.ids own peer own_known peer_known

@@ -6,24 +6,24 @@ use Rattle.std.proofs.lemmas.Bool.{or_left}
 use Rattle.std.proofs.lemmas.List.Elements.{Contains-append_left}
 use Rattle.std.proofs.lemmas.List.Folds.{list_any-append}
 use Rattle.tcap_dialogues.specs.Course.{Course, has_entry}
-use Rattle.tcap_dialogues.specs.Cut.{IdOf, is_among}
+use Rattle.tcap_dialogues.specs.DialoguesOfList.{IdOf, is_among}
 use Rattle.tcap_dialogues.specs.CutDialogues.{has_id}
-use Rattle.tcap_dialogues.specs.CutState.{AreKept, IsOne, changed, known_at}
+use Rattle.tcap_dialogues.specs.CutState.{HasValuesOf, IsJoinedLive, changed, known_at}
 use Rattle.tcap_dialogues.specs.CutUpdate.{IsJoined}
 use Rattle.tcap_dialogues.specs.declared.cut.Cut.{Cut}
 use Rattle.tcap_dialogues.specs.declared.known_ids.Change.TheVariants as changes
-use Rattle.tcap_dialogues.specs.declared.known_ids.Known.{Known}
+use Rattle.tcap_dialogues.specs.declared.known_ids.IdState.{IdState}
 use Rattle.tcap_dialogues.specs.declared.live.Live.{Live}
 use Rattle.tcap_dialogues.proofs.CutLists.{found}
 use Rattle.tcap_dialogues.proofs.HeldLaws.{same_kept}
 use Rattle.tcap_dialogues.proofs.HeldLists.{AreSame, any_same}
 
 -- A change to the same dialogue changes nothing.
-same_dialogue : (known : Known) (name : ℕ) → known.dialogue ≡ Some name → known ≡ changed (changes.JoinTo name) known
-same_dialogue known name is = ap (λ o. let it : Known = record known { dialogue = o } in it) is
+same_dialogue : (known : IdState) (name : ℕ) → known.dialogue ≡ Some name → known ≡ changed (changes.JoinTo name) known
+same_dialogue known name is = ap (λ o. let it : IdState = record known { dialogue = o } in it) is
 
-module _ (n : ℕ) (ds es : List Course) (names : Course → ℕ) (old new : Cut) (large small : Live) (one : IsOne n ds names large)
-    (other : IsOne n es names small)
+module _ (n : ℕ) (ds es : List Course) (names : Course → ℕ) (old new : Cut) (large small : Live) (one : IsJoinedLive n ds names large)
+    (other : IsJoinedLive n es names small)
     (owned : (d : Course) (id : IdOf) → Contains (ds ++ es) d → is_among d.ids id ≡ true → (known_at old.ids id).dialogue ≡ Some (names d))
     (ids : (id : IdOf) → known_at new.ids id
     ≡ cond (has_id small.a small.b id) (changed (changes.JoinTo large.name) (known_at old.ids id)) (known_at old.ids id))
@@ -57,7 +57,7 @@ module _ (n : ℕ) (ds es : List Course) (names : Course → ℕ) (old new : Cut
       by true false is = stays id is
       by false b is = refl
 
-  pub joined_in : (l : Live) → AreKept (ds ++ es) l → l.name ≡ large.name → IsJoined n (ds ++ es) old new l
+  pub joined_in : (l : Live) → HasValuesOf (ds ++ es) l → l.name ≡ large.name → IsJoined n (ds ++ es) old new l
   joined_in l kept name = record {
     kept = kept;
     entry = by one.entry;

@@ -6,13 +6,13 @@ use Rattle.std.specs.List.{list_any}
 use Rattle.std.proofs.lemmas.Bool.{cases_Bool, false_from_ne_true, or_left, or_right, true≢false}
 use Rattle.std.proofs.lemmas.List.Folds.{list_any-append}
 use Rattle.tcap_record.specs.Ends.{other}
-use Rattle.tcap_dialogues.specs.Course.{Course, Courses, Earlier, Heading, begun_by, earlier_in, has_entry, have_one, ids_in, is_begin, joined_by, own_ids, peer_ids}
-use Rattle.tcap_dialogues.specs.Cut.{IdOf, is_among, is_same}
-use Rattle.tcap_dialogues.specs.CutState.{AreApart, IsKnown, IsOwned, changed, known_at, known_of, with_one}
+use Rattle.tcap_dialogues.specs.Course.{Course, Courses, Earlier, Heading, begun_by, earlier_in, has_entry, share_id, ids_in, is_begin, joined_by, own_ids, peer_ids}
+use Rattle.tcap_dialogues.specs.DialoguesOfList.{IdOf, is_among, is_same}
+use Rattle.tcap_dialogues.specs.CutState.{AreApart, IsIdState, IsOwned, changed, known_at, known_of, with_joined_entry}
 use Rattle.tcap_dialogues.specs.CutUpdate.{AreNoted, own_known}
 use Rattle.tcap_dialogues.specs.declared.known_ids.Change.TheVariants as changes
 use Rattle.tcap_dialogues.specs.declared.known_ids.Ids.{Ids}
-use Rattle.tcap_dialogues.specs.declared.known_ids.Known.{Known}
+use Rattle.tcap_dialogues.specs.declared.known_ids.IdState.{IdState}
 use Rattle.tcap_dialogues.proofs.CourseJoins.{hit_by}
 use Rattle.tcap_dialogues.proofs.Joins.{Hit, hit_in, id_comes, id_from, id_stays, in_hit}
 use Rattle.tcap_dialogues.proofs.CutIds.{one_from}
@@ -24,7 +24,7 @@ use Rattle.tcap_dialogues.proofs.JoiningLaws.{Old, cases, ends_apart, known_here
 module _ (s : Courses) (names : Course → ℕ) (sent : IdOf → Bool) (n : ℕ) (h : Heading) (apart : AreApart s.live)
     (later : AreApart (joined_by n h s.done s.live).live)
     (below : (d : Course) (i : ℕ) → Contains s.live d → has_entry d i ≡ true → i < n)
-    (k : ℕ) (old mid now : Ids) (are : (id : IdOf) → IsKnown s names sent id (known_at old id)) where
+    (k : ℕ) (old mid now : Ids) (are : (id : IdOf) → IsIdState s names sent id (known_at old id)) where
   abbrev live : List Course
   live = s.live
 
@@ -51,7 +51,7 @@ module _ (s : Courses) (names : Course → ℕ) (sent : IdOf → Bool) (n : ℕ)
       by : ((e : Course) × Hit is_made.joins e × (is_among e.ids id ≡ true)) ⊎ (is_among (ids_in h) id ≡ true) → Contains hits d
       by (inl (e, hit, so)) =
           subst (Contains hits) (apart.one_id e d id hit.listed listed so its) (hit_in is_made.joins e hit)
-      by (inr here) = left_in (λ e. have_one (ids_in h) e.ids) live d listed (one_from (ids_in h) d.ids id here its)
+      by (inr here) = left_in (λ e. share_id (ids_in h) e.ids) live d listed (one_from (ids_in h) d.ids id here its)
 
   in_live : (d : Course) → Contains hits d → Contains live d
   in_live d has = (in_hit is_made.joins d has).listed
@@ -120,8 +120,8 @@ module _ (s : Courses) (names : Course → ℕ) (sent : IdOf → Bool) (n : ℕ)
       by true = refl
       by false = refl
 
-  abbrev Then : IdOf → Known → Type 0
-  Then id known = IsKnown (joined_by n h s.done s.live) names_now (λ x. sent x || is_among (own_ids h) x) id known
+  abbrev Then : IdOf → IdState → Type 0
+  Then id known = IsIdState (joined_by n h s.done s.live) names_now (λ x. sent x || is_among (own_ids h) x) id known
 
   -- An ID of the new dialogue is known as such.
   of_new : (id : IdOf) (used begun came : Bool) → is_among it.ids id ≡ true
@@ -164,7 +164,7 @@ module _ (s : Courses) (names : Course → ℕ) (sent : IdOf → Bool) (n : ℕ)
   }
     where
       by : (o : Option ℕ) (used begun : Bool) → IsOwned live names id o used begun
-          → IsOwned (with_one earlier n h live) names_now id o used begun
+          → IsOwned (with_joined_entry earlier n h live) names_now id o used begun
       by None used begun (nobody, unused, unbegun) = (
         λ d has. nobody_then d (cases live names earlier n h apart later below d has),
         unused,
@@ -188,7 +188,7 @@ module _ (s : Courses) (names : Course → ℕ) (sent : IdOf → Bool) (n : ℕ)
             begun_so,
           )
 
-  module _ (own peer : Known) (own_is : own ≡ known_of old h.sender h.otid) (peer_is : peer ≡ known_of old (other h.sender) h.dtid)
+  module _ (own peer : IdState) (own_is : own ≡ known_of old h.sender h.otid) (peer_is : peer ≡ known_of old (other h.sender) h.dtid)
       (joined : (id : IdOf) → known_at mid id
       ≡ cond (list_any (λ d. is_among d.ids id) hits) (changed (changes.JoinTo k) (known_at old id)) (known_at old id))
       (noted : AreNoted h k own peer mid now) where

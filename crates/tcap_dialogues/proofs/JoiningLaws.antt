@@ -8,10 +8,10 @@ use Rattle.std.proofs.lemmas.Bool.{cases_Bool, eq-eqb, eqb-true, false_from_ne_t
 use Rattle.tcap_record.specs.declared.entry.End.{End as Side}
 use Rattle.tcap_record.specs.declared.entry.End.TheVariants as sides
 use Rattle.tcap_record.specs.Ends.{other}
-use Rattle.tcap_dialogues.specs.Course.{Course, Courses, Earlier, Heading, has_entry, have_one, ids_in, own_ids, peer_ids, with_entry}
-use Rattle.tcap_dialogues.specs.Cut.{IdOf, is_among, is_same}
-use Rattle.tcap_dialogues.specs.CutState.{AreApart, AreKept, AreLives, AreOvers, IsKnown, IsOwned, known_at, known_of, with_one}
-use Rattle.tcap_dialogues.specs.CutUpdate.{IsPut, ids_at, is_over_at}
+use Rattle.tcap_dialogues.specs.Course.{Course, Courses, Earlier, Heading, has_entry, share_id, ids_in, own_ids, peer_ids, with_entry}
+use Rattle.tcap_dialogues.specs.DialoguesOfList.{IdOf, is_among, is_same}
+use Rattle.tcap_dialogues.specs.CutState.{AreApart, HasValuesOf, HoldsLive, HoldsOver, IsIdState, IsOwned, known_at, known_of, with_joined_entry}
+use Rattle.tcap_dialogues.specs.CutUpdate.{IsAdded, ids_at, is_over_at}
 use Rattle.tcap_dialogues.specs.declared.cut.Cut.{Cut}
 use Rattle.tcap_dialogues.specs.declared.known_ids.Ids.{Ids}
 use Rattle.tcap_dialogues.specs.declared.live.Live.{Live}
@@ -31,7 +31,7 @@ known_here ids end (Some octets) id is =
 
 -- The dialogue that has an ID is known by its name.
 pub name_known : (s : Courses) (names : Course → ℕ) (sent : IdOf → Bool) (ids : Ids) → AreApart s.live
-    → ((id : IdOf) → IsKnown s names sent id (known_at ids id)) → (d : Course) (id : IdOf) → Contains s.live d → is_among d.ids id ≡ true
+    → ((id : IdOf) → IsIdState s names sent id (known_at ids id)) → (d : Course) (id : IdOf) → Contains s.live d → is_among d.ids id ≡ true
     → (known_at ids id).dialogue ≡ Some (names d)
 name_known s names sent ids apart are d id has its = by (known_at ids id).dialogue (are id).owned
   where
@@ -55,7 +55,7 @@ ends_apart h id own peer = differ h.sender id.end (end_of h.sender h.otid own) (
     differ sides.B e is so = let bad : sides.B ≡ sides.A = sym is ∙ so in cc
 
 module _ (live : List Course) (names : Course → ℕ) (earlier : Earlier) (n : ℕ) (h : Heading) (apart : AreApart live)
-    (later : AreApart (with_one earlier n h live))
+    (later : AreApart (with_joined_entry earlier n h live))
     (below : (d : Course) (i : ℕ) → Contains live d → has_entry d i ≡ true → i < n) where
   -- the new dialogue
   abbrev pub new : Course
@@ -66,15 +66,15 @@ module _ (live : List Course) (names : Course → ℕ) (earlier : Earlier) (n : 
 
   -- an old dialogue that it does not join
   abbrev pub Old : Course → Type 0
-  Old d = Contains live d × (have_one (ids_in h) d.ids ≡ false)
+  Old d = Contains live d × (share_id (ids_in h) d.ids ≡ false)
 
-  pub old_later : (d : Course) → Old d → Contains (with_one earlier n h live) d
+  pub old_later : (d : Course) → Old d → Contains (with_joined_entry earlier n h live) d
   old_later d (there, misses) = stays made.joins d there misses
 
-  pub new_later : Contains (with_one earlier n h live) new
+  pub new_later : Contains (with_joined_entry earlier n h live) new
   new_later = joins made.joins
 
-  pub cases : (d : Course) → Contains (with_one earlier n h live) d → Old d ⊎ (new ≡ d)
+  pub cases : (d : Course) → Contains (with_joined_entry earlier n h live) d → Old d ⊎ (new ≡ d)
   cases d has = which made.joins d has
 
   not_here : (d : Course) → Contains live d → has_entry d n ≡ false
@@ -109,16 +109,16 @@ module _ (live : List Course) (names : Course → ℕ) (earlier : Earlier) (n : 
           true≢false (sym (number_comes made.joins) ∙ ap (λ x. has_entry x n) (sym same) ∙ not_here d there)
 
       module _ (lives : tree.BTreeMap ℕ Live) (overs : tree.BTreeMap ℕ ℕ) (left : List Course)
-          (miss : AreSame left (filter (λ d. not (have_one (ids_in h) d.ids)) live)) (are : AreLives left names lives)
-          (ends : AreOvers left names overs) (old now : Cut) (old_lives : old.live ≡ lives) (old_overs : old.overs ≡ overs) (l : Live)
-          (name : l.name ≡ k) (kept : AreKept (new ∷ []) l) (put : IsPut l old now) where
+          (miss : AreSame left (filter (λ d. not (share_id (ids_in h) d.ids)) live)) (are : HoldsLive left names lives)
+          (ends : HoldsOver left names overs) (old now : Cut) (old_lives : old.live ≡ lives) (old_overs : old.overs ≡ overs) (l : Live)
+          (name : l.name ≡ k) (kept : HasValuesOf (new ∷ []) l) (put : IsAdded l old now) where
         old_of : (d : Course) → Contains left d → Old d
         old_of d has =
-            let (there, so) = Rattle.tcap_dialogues.proofs.CutLists.kept_in (λ e. not (have_one (ids_in h) e.ids)) live d (miss.there d has) in
-            (there, Rattle.std.proofs.lemmas.Bool.not-true (have_one (ids_in h) d.ids) so)
+            let (there, so) = Rattle.tcap_dialogues.proofs.CutLists.kept_in (λ e. not (share_id (ids_in h) e.ids)) live d (miss.there d has) in
+            (there, Rattle.std.proofs.lemmas.Bool.not-true (share_id (ids_in h) d.ids) so)
 
         left_old : (d : Course) → Old d → Contains left d
-        left_old d (there, misses) = miss.back d (left_in (λ e. not (have_one (ids_in h) e.ids)) live d there (ap not misses))
+        left_old d (there, misses) = miss.back d (left_in (λ e. not (share_id (ids_in h) e.ids)) live d there (ap not misses))
 
         at : (q : ℕ) → tree.get nat_cmp now.live q ≡ cond (k == q) (Some l) (tree.get nat_cmp lives q)
         at q =
@@ -132,7 +132,7 @@ module _ (live : List Course) (names : Course → ℕ) (earlier : Earlier) (n : 
             (λ is. differ d o (later.one_number d new (names d) (old_later d o) new_later (are.entry d (left_old d o))
             (ap (has_entry new) (sym (eqb-true k (names d) is)) ∙ new_entry)))
 
-        pub lives_then : AreLives (with_one earlier n h live) names_then now.live
+        pub lives_then : HoldsLive (with_joined_entry earlier n h live) names_then now.live
         lives_then = record {
           there = λ d has. there d (cases d has);
           back = λ q x found_at. back q x (cases_Bool (k == q)) found_at;
@@ -140,7 +140,7 @@ module _ (live : List Course) (names : Course → ℕ) (earlier : Earlier) (n : 
         }
           where
             there : (d : Course) → Old d ⊎ (new ≡ d)
-                → (x : Live) × (tree.get nat_cmp now.live (names_then d) ≡ Some x) × (x.name ≡ names_then d) × AreKept (d ∷ []) x
+                → (x : Live) × (tree.get nat_cmp now.live (names_then d) ≡ Some x) × (x.name ≡ names_then d) × HasValuesOf (d ∷ []) x
             there d (inl o) =
                 let (x, found_at, named, is) = are.there d (left_old d o) in (
                   x,
@@ -150,7 +150,7 @@ module _ (live : List Course) (names : Course → ℕ) (earlier : Earlier) (n : 
                   is,
                 )
             there d (inr same) =
-                subst (λ e. (x : Live) × (tree.get nat_cmp now.live (names_then e) ≡ Some x) × (x.name ≡ names_then e) × AreKept (e ∷ []) x) same (
+                subst (λ e. (x : Live) × (tree.get nat_cmp now.live (names_then e) ≡ Some x) × (x.name ≡ names_then e) × HasValuesOf (e ∷ []) x) same (
                   l,
                   ap (tree.get nat_cmp now.live) name_new ∙ at k ∙ ap (λ b. cond b (Some l) (tree.get nat_cmp lives k)) (eq-eqb k k refl),
                   name ∙ sym name_new,
@@ -158,7 +158,7 @@ module _ (live : List Course) (names : Course → ℕ) (earlier : Earlier) (n : 
                 )
 
             back : (q : ℕ) (x : Live) → ((k == q) ≡ true) ⊎ ((k == q) ≡ false) → tree.get nat_cmp now.live q ≡ Some x
-                → (d : Course) × Contains (with_one earlier n h live) d × (names_then d ≡ q)
+                → (d : Course) × Contains (with_joined_entry earlier n h live) d × (names_then d ≡ q)
             back q x (inl is) found_at = (new, new_later, name_new ∙ eqb-true k q is)
             back q x (inr is) found_at =
                 let was : tree.get nat_cmp lives q ≡ Some x =
@@ -187,7 +187,7 @@ module _ (live : List Course) (names : Course → ℕ) (earlier : Earlier) (n : 
         is_over None q is = cc
         is_over (Some x) q is = let same : x ≡ q = cc in eq-eqb x q same
 
-        pub overs_then : AreOvers (with_one earlier n h live) names_then now.overs
+        pub overs_then : HoldsOver (with_joined_entry earlier n h live) names_then now.overs
         overs_then = record {
           there = λ d q has over. there d q (cases d has) over;
           back = λ q x found_at. back q x (cases_Bool (is_over_at new.over q)) found_at;
@@ -206,7 +206,7 @@ module _ (live : List Course) (names : Course → ℕ) (earlier : Earlier) (n : 
                 ∙ ap (λ x. Some x) (sym name_new ∙ ap names_then same)
 
             back : (q x : ℕ) → (is_over_at new.over q ≡ true) ⊎ (is_over_at new.over q ≡ false) → tree.get nat_cmp now.overs q ≡ Some x
-                → (d : Course) × Contains (with_one earlier n h live) d × (d.over ≡ Some q) × (names_then d ≡ x)
+                → (d : Course) × Contains (with_joined_entry earlier n h live) d × (d.over ≡ Some q) × (names_then d ≡ x)
             back q x (inl is) found_at =
                 let one : Some k ≡ Some x = sym (over_at q ∙ ap (λ b. cond b (Some k) (tree.get nat_cmp overs q)) is) ∙ found_at in
                 let same : k ≡ x = cc in (new, new_later, over_is new.over q is, name_new ∙ same)

@@ -4,22 +4,22 @@ use Rattle.std.specs.Prelude.{◌==◌, not, Contains, filter}
 use Rattle.std.specs.List.{flat_map, list_any}
 use Rattle.std.proofs.lemmas.Bool.{eq-eqb, not-true, not_from_false, or_left, true≢false}
 use Rattle.std.proofs.lemmas.List.Elements.{Contains-append_left, Contains-push, Contains-push_cases}
-use Rattle.tcap_dialogues.specs.Course.{have_one}
-use Rattle.tcap_dialogues.specs.Cut.{IdOf, is_among, is_same}
+use Rattle.tcap_dialogues.specs.Course.{share_id}
+use Rattle.tcap_dialogues.specs.DialoguesOfList.{IdOf, is_among, is_same}
 use Rattle.tcap_dialogues.proofs.CutIds.{one_from}
 use Rattle.tcap_dialogues.proofs.CutLists.{alone_is, finds_last, finds_old, found_more, kept_in, left_in}
 
 -- The new dialogue has the numbers and IDs of those that the entry joins, and the number and IDs of the entry.
 pub record IsJoin {X : Type 0} (numbers : X → List ℕ) (ids : X → List IdOf) (n : ℕ) (its : List IdOf) (old : List X)
     (new : X) : Type 0 where
-  pub numbers_are : numbers new ≡ (flat_map numbers (filter (λ d. have_one its (ids d)) old) ++ n ∷ [])
-  pub ids_are : ids new ≡ (flat_map ids (filter (λ d. have_one its (ids d)) old) ++ its)
+  pub numbers_are : numbers new ≡ (flat_map numbers (filter (λ d. share_id its (ids d)) old) ++ n ∷ [])
+  pub ids_are : ids new ≡ (flat_map ids (filter (λ d. share_id its (ids d)) old) ++ its)
 
 module _ {X : Type 0} {numbers : X → List ℕ} {ids : X → List IdOf} {n : ℕ} {its : List IdOf} {old : List X} {new : X}
     (made : IsJoin numbers ids n its old new) where
   -- whether a dialogue has one of the entry's IDs; and whether it has an entry with this number
   abbrev has_its : X → Bool
-  has_its d = have_one its (ids d)
+  has_its d = share_id its (ids d)
 
   abbrev has_number : X → ℕ → Bool
   has_number d i = list_any (λ k. k == i) (numbers d)

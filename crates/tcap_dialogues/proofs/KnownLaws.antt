@@ -16,15 +16,15 @@ use Rattle.tcap_end.specs.Table.{octets_cmp}
 use Rattle.tcap_record.specs.declared.entry.End.{End as Side}
 use Rattle.tcap_record.specs.declared.entry.End.TheVariants as sides
 use Rattle.tcap_model.specs.World.{is_side}
-use Rattle.tcap_dialogues.specs.Cut.{IdOf, is_same}
+use Rattle.tcap_dialogues.specs.DialoguesOfList.{IdOf, is_same}
 use Rattle.tcap_dialogues.specs.CutDialogues.{by_end, has_id}
-use Rattle.tcap_dialogues.specs.CutState.{changed, free_since, gone_since, known_at, known_by, known_in, last_of}
+use Rattle.tcap_dialogues.specs.CutState.{changed, free_since, free_id_since, known_at, known_by, known_in, last_of}
 use Rattle.tcap_dialogues.specs.declared.known_ids.Change.{Change}
 use Rattle.tcap_dialogues.specs.declared.known_ids.Change.TheVariants as changes
 use Rattle.tcap_dialogues.specs.declared.known_ids.EndIds.{EndIds}
-use Rattle.tcap_dialogues.specs.declared.known_ids.Gone.{Gone}
+use Rattle.tcap_dialogues.specs.declared.known_ids.FreeIdState.{FreeIdState}
 use Rattle.tcap_dialogues.specs.declared.known_ids.Ids.{Ids}
-use Rattle.tcap_dialogues.specs.declared.known_ids.Known.{Known}
+use Rattle.tcap_dialogues.specs.declared.known_ids.IdState.{IdState}
 use Rattle.tcap_dialogues.proofs.CutIds.{same_id}
 use Rattle.tcap_dialogues.proofs.HeldLists.{or_none}
 
@@ -37,7 +37,7 @@ abbrev pub Puts : {X : Type 0} → BTreeMap (List ℕ) X → BTreeMap (List ℕ)
 Puts old new key x = (q : List ℕ) → tree.get octets_cmp new q ≡ cond (is_at (octets_cmp key) q) (Some x) (tree.get octets_cmp old q)
 
 -- What is known of one ID of an end is replaced.
-pub set_in : (old new : EndIds) (key : List ℕ) (known : Known) → Puts old.live new.live key known → new.done ≡ old.done
+pub set_in : (old new : EndIds) (key : List ℕ) (known : IdState) → Puts old.live new.live key known → new.done ≡ old.done
     → (q : List ℕ) → known_in new q ≡ cond (bytes_eq q key) known (known_in old q)
 set_in old new key known puts same q =
     ap (λ kept. known_by kept (tree.get octets_cmp new.done q)) (puts q)
@@ -51,7 +51,7 @@ set_in old new key known puts same q =
     by false = refl
 
 -- The ID is freed.
-pub freed_in : (old new : EndIds) (key : List ℕ) (gone : Gone) → Puts old.done new.done key gone
+pub freed_in : (old new : EndIds) (key : List ℕ) (gone : FreeIdState) → Puts old.done new.done key gone
     → ((q : List ℕ) → tree.get octets_cmp new.live q ≡ cond (is_at (octets_cmp key) q) None (tree.get octets_cmp old.live q))
     → (q : List ℕ) → known_in new q ≡ cond (bytes_eq q key) (known_by None (Some gone)) (known_in old q)
 freed_in old new key gone puts removed q =
@@ -68,18 +68,18 @@ freed_in old new key gone puts removed q =
     by false = refl
 
 -- So it is with what was known of it, if a live dialogue had it or none.
-pub freed_known : (old new : EndIds) (key : List ℕ) (first : ℕ) (early : Bool) (known : Known) → known ≡ known_in old key
-    → Puts old.done new.done key (gone_since first early known)
+pub freed_known : (old new : EndIds) (key : List ℕ) (first : ℕ) (early : Bool) (known : IdState) → known ≡ known_in old key
+    → Puts old.done new.done key (free_id_since first early known)
     → ((q : List ℕ) → tree.get octets_cmp new.live q ≡ cond (is_at (octets_cmp key) q) None (tree.get octets_cmp old.live q))
     → (q : List ℕ) → known_in new q ≡ cond (bytes_eq q key) (free_since first early (known_in old key)) (known_in old q)
 freed_known old new key first early known is puts removed q =
-    freed_in old new key (gone_since first early known) puts removed q
+    freed_in old new key (free_id_since first early known) puts removed q
     ∙ ap (λ k. cond (bytes_eq q key) (free_since first early k) (known_in old q)) is
 
-pub known_live : (ids : EndIds) (key : List ℕ) (known : Known) → Some known ≡ tree.get octets_cmp ids.live key → known ≡ known_in ids key
+pub known_live : (ids : EndIds) (key : List ℕ) (known : IdState) → Some known ≡ tree.get octets_cmp ids.live key → known ≡ known_in ids key
 known_live ids key known is = ap (λ o. known_by o (tree.get octets_cmp ids.done key)) is
 
-pub known_done : (ids : EndIds) (key : List ℕ) (known : Known) → None ≡ tree.get octets_cmp ids.live key
+pub known_done : (ids : EndIds) (key : List ℕ) (known : IdState) → None ≡ tree.get octets_cmp ids.live key
     → known ≡ known_by None (tree.get octets_cmp ids.done key) → known ≡ known_in ids key
 known_done ids key known none is = is ∙ ap (λ o. known_by o (tree.get octets_cmp ids.done key)) none
 
@@ -98,7 +98,7 @@ last_twice first (Some last) = by (nat_lt first last) refl
     by true is = ap (λ c. cond c last first) is
     by false is = either_way first (nat_lt first first)
 
-twice : (change : Change) (known : Known) → changed change (changed change known) ≡ changed change known
+twice : (change : Change) (known : IdState) → changed change (changed change known) ≡ changed change known
 twice (changes.Free first early) known =
     ap (λ last. known_by None (Some (record { last = last; firm = (known.firm || known.used || not early) || false || not early; sent = known.sent })))
     (last_twice first known.last)
@@ -252,7 +252,7 @@ all_sent ids live done old new in_live in_done adds q =
     ∙ ap (λ b. is_some (tree.get octets_cmp ids.live q) || b) (sym (in_done q)))
     ∙ ap (λ b. set.contains octets_cmp old q || b) (by (tree.get octets_cmp ids.live q) (tree.get octets_cmp ids.done q))
   where
-    by : (o : Option Known) (p : Option Gone) → ((is_some o || is_some p) && (known_by o p).sent) ≡ (known_by o p).sent
+    by : (o : Option IdState) (p : Option FreeIdState) → ((is_some o || is_some p) && (known_by o p).sent) ≡ (known_by o p).sent
     by (Some known) p = refl
     by None (Some gone) = refl
     by None None = refl

@@ -17,12 +17,12 @@ use Rattle.tcap_end.specs.Table.{octets_cmp}
 use Rattle.tcap_record.specs.declared.entry.End.{End as Side}
 use Rattle.tcap_record.specs.declared.entry.End.TheVariants as sides
 use Rattle.tcap_model.specs.World.{is_side}
-use Rattle.tcap_dialogues.specs.Cut.{IdOf, is_among, is_same}
+use Rattle.tcap_dialogues.specs.DialoguesOfList.{IdOf, is_among, is_same}
 use Rattle.tcap_dialogues.specs.CutDialogues.{by_end, has_id}
 use Rattle.tcap_dialogues.specs.Course.{Course, Heading, begun_by, first_over, has_begin, has_entry, lower, over_by, own_ids, peer_ids}
-use Rattle.tcap_dialogues.specs.CutState.{AreKept, earlier_of, has_sent, higher, is_unsettled}
+use Rattle.tcap_dialogues.specs.CutState.{HasValuesOf, earlier_of, has_sent, higher, is_unsettled}
 use Rattle.tcap_dialogues.specs.CutUpdate.{HasEntry, HasId, HasSender, ids_at}
-use Rattle.tcap_dialogues.specs.declared.known_ids.Known.{Known}
+use Rattle.tcap_dialogues.specs.declared.known_ids.IdState.{IdState}
 use Rattle.tcap_dialogues.specs.declared.live.Live.{Live}
 use Rattle.tcap_dialogues.proofs.HeldLists.{or_none}
 use Rattle.tcap_dialogues.proofs.HeldOvers.{over_appended}
@@ -80,7 +80,7 @@ some_higher (Some a) None = refl
 some_higher (Some a) (Some b) = refl
 
 -- An ID has an earlier dialogue if one that is done had it and no live one has it.
-pub some_earlier : (known : Known) → is_some (earlier_of known) ≡ (is_none known.dialogue && is_some known.last)
+pub some_earlier : (known : IdState) → is_some (earlier_of known) ≡ (is_none known.dialogue && is_some known.last)
 some_earlier known = by (is_none known.dialogue)
   where
     by : (b : Bool) → is_some (cond b known.last None) ≡ (b && is_some known.last)
@@ -88,7 +88,7 @@ some_earlier known = by (is_none known.dialogue)
     by false = refl
 
 -- It is unsettled if it is not firm, either.
-pub some_unsettled : (known : Known) → is_unsettled known ≡ (is_none known.dialogue && (is_some known.last && not known.firm))
+pub some_unsettled : (known : IdState) → is_unsettled known ≡ (is_none known.dialogue && (is_some known.last && not known.firm))
 some_unsettled known = by (is_none known.dialogue)
   where
     by : (b : Bool) → (is_some (cond b known.last None) && not known.firm) ≡ (b && (is_some known.last && not known.firm))
@@ -97,12 +97,12 @@ some_unsettled known = by (is_none known.dialogue)
 
 -- all values of both dialogues
 pub absorbed : (ds es : List Course) (l m : Live) (numbers : BTreeSet ℕ) (a b : BTreeSet (List ℕ)) (over earlier : Option ℕ)
-    → AreKept ds l → AreKept es m
+    → HasValuesOf ds l → HasValuesOf es m
     → ((n : ℕ) → set.contains nat_cmp numbers n ≡ (set.contains nat_cmp l.numbers n || set.contains nat_cmp m.numbers n))
     → ((id : List ℕ) → set.contains octets_cmp a id ≡ (set.contains octets_cmp l.a id || set.contains octets_cmp m.a id))
     → ((id : List ℕ) → set.contains octets_cmp b id ≡ (set.contains octets_cmp l.b id || set.contains octets_cmp m.b id))
     → over ≡ lower l.over m.over → earlier ≡ higher l.earlier m.earlier
-    → AreKept (ds ++ es) (record {
+    → HasValuesOf (ds ++ es) (record {
       name = l.name;
       numbers = numbers;
       a = a;
@@ -142,7 +142,7 @@ absorbed ds es l m numbers a b over earlier kept other numbers_are a_is b_is ove
 -- ---- one more entry
 
 -- the values after the entry's number, IDs and sender are added
-module _ (number : ℕ) (h : Heading) (own peer : Known) (old noted one new : Live) (numbers : BTreeSet ℕ) (begun early unsettled : Bool)
+module _ (number : ℕ) (h : Heading) (own peer : IdState) (old noted one new : Live) (numbers : BTreeSet ℕ) (begun early unsettled : Bool)
     (over earlier : Option ℕ)
     (adds : (n : ℕ) → set.contains nat_cmp numbers n ≡ cond (is_at (nat_cmp number) n) true (set.contains nat_cmp old.numbers n))
     (sends : HasSender h.sender (record old { numbers = numbers }) noted)

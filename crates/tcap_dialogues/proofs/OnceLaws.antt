@@ -7,8 +7,8 @@ use Rattle.std.proofs.lemmas.Bool.{true≢false}
 use Rattle.std.proofs.lemmas.List.{map-append}
 use Rattle.std.proofs.lemmas.List.Folds.{flat_map-map}
 use Rattle.tcap_model.specs.World.{Item, Sent, has_quiet}
-use Rattle.tcap_dialogues.specs.Cut.{Dialogue, dialogues_behind, dialogues_of, has_one, joined, with_message}
-use Rattle.tcap_dialogues.specs.Course.{Course, Courses, Heading, bare, comes, courses_behind, courses_of, heading_of, headings_of, ids_in}
+use Rattle.tcap_dialogues.specs.DialoguesOfList.{Dialogue, dialogues_behind, dialogues_of, has_id_among, joined, with_message}
+use Rattle.tcap_dialogues.specs.Course.{Course, Courses, Heading, bare, courses_after, courses_behind, courses_of, heading_of, headings_of, ids_in}
 use Rattle.tcap_dialogues.specs.declared.reuse.Reuse.TheVariants as reuses
 
 -- ---- lists
@@ -47,20 +47,20 @@ only live = record { done = []; live = live }
 module _ (n : ℕ) (h : Heading) (live : List Course) where
   -- the courses after the entry
   abbrev after : List Course
-  after = (comes reuses.Once n h (only live)).live
+  after = (courses_after reuses.Once n h (only live)).live
 
   -- None of them is done.
-  none_done : comes reuses.Once n h (only live) ≡ only after
+  none_done : courses_after reuses.Once n h (only live) ≡ only after
   none_done = ap (λ ds. let s : Courses = record { done = ds; live = after } in s) (none_passes live)
 
   -- The courses with one of the entry's IDs are the dialogues with one.
-  joins_same : map forget (filter (λ d. has_one (ids_in h) (forget d)) live) ≡ filter (has_one (ids_in h)) (map forget live)
-  joins_same = map_filter forget (has_one (ids_in h)) live
+  joins_same : map forget (filter (λ d. has_id_among (ids_in h) (forget d)) live) ≡ filter (has_id_among (ids_in h)) (map forget live)
+  joins_same = map_filter forget (has_id_among (ids_in h)) live
 
   -- So are those with none.
-  stays_same : map forget (filter (λ d. not (has_one (ids_in h) (forget d))) live)
-      ≡ filter (λ d. not (has_one (ids_in h) d)) (map forget live)
-  stays_same = map_filter forget (λ d. not (has_one (ids_in h) d)) live
+  stays_same : map forget (filter (λ d. not (has_id_among (ids_in h) (forget d))) live)
+      ≡ filter (λ d. not (has_id_among (ids_in h) d)) (map forget live)
+  stays_same = map_filter forget (λ d. not (has_id_among (ids_in h) d)) live
 
   -- the dialogue of these courses and the message
   abbrev of_one : List Course → Dialogue
@@ -73,7 +73,7 @@ module _ (n : ℕ) (h : Heading) (live : List Course) where
   -- the dialogues after the message, with these courses left
   abbrev of_left : List Course → List Dialogue
   of_left left =
-      map forget (filter (λ d. not (has_one (ids_in h) (forget d))) left) ++ of_one (filter (λ d. has_one (ids_in h) (forget d)) left) ∷ []
+      map forget (filter (λ d. not (has_id_among (ids_in h) (forget d))) left) ++ of_one (filter (λ d. has_id_among (ids_in h) (forget d)) left) ∷ []
 
   -- No course is free, so all are left.
   after_left : map forget after ≡ of_left live
@@ -83,9 +83,9 @@ module _ (n : ℕ) (h : Heading) (live : List Course) where
   after_same : map forget after ≡ with_message n (ids_in h) (map forget live)
   after_same =
       after_left
-      ∙ ap (λ ds. ds ++ of_one (filter (λ d. has_one (ids_in h) (forget d)) live) ∷ []) stays_same
-      ∙ ap (λ d. filter (λ e. not (has_one (ids_in h) e)) (map forget live) ++ d ∷ [])
-      (sym (one_same (filter (λ d. has_one (ids_in h) (forget d)) live)) ∙ ap (λ ds. joined ds n (ids_in h)) joins_same)
+      ∙ ap (λ ds. ds ++ of_one (filter (λ d. has_id_among (ids_in h) (forget d)) live) ∷ []) stays_same
+      ∙ ap (λ d. filter (λ e. not (has_id_among (ids_in h) e)) (map forget live) ++ d ∷ [])
+      (sym (one_same (filter (λ d. has_id_among (ids_in h) (forget d)) live)) ∙ ap (λ ds. joined ds n (ids_in h)) joins_same)
 
 -- ---- the list
 

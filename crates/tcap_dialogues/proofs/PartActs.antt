@@ -13,8 +13,8 @@ use Rattle.tcap_end.specs.Message.{receive, send}
 use Rattle.tcap_end.specs.HiddenSteps.{close, expire}
 use Rattle.tcap_end.specs.ReachableEnd.{IsEnd}
 use Rattle.tcap_record.specs.Ends.{other}
-use Rattle.tcap_model.specs.World.{Item, OnItsWay, Sent}
-use Rattle.tcap_model.specs.Run.{abort_for, may_refuse, provider_abort, reply_to, where_so}
+use Rattle.tcap_model.specs.World.{Item, MessageInTransit, Sent}
+use Rattle.tcap_model.specs.Run.{abort_for, may_refuse, provider_abort, reply_to, only_if}
 use Rattle.tcap_model.proofs.RunLaws.{some_is, then_some, where_some}
 use Rattle.tcap_dialogues.specs.Part.{part_of}
 use Rattle.tcap_model.proofs.Acts.{Acts, Says, Hears, Refuses, Misses, Drops, Shuts, Told, Marked, Stays, Seen, newest}
@@ -35,7 +35,7 @@ abort_to (Abort dtid reason) abort is = cc
 -- So does a provider's answer.
 reply_goes : (e : End) (m abort : Message) → reply_to e m ≡ Some abort → (id : List ℕ) × (otid_in m ≡ Some id) × (dtid_in abort ≡ Some id)
 reply_goes e m abort is =
-    let (found, answers, step) = then_some (abort_for m) (λ x. where_so (may_refuse e m x) (Some x)) abort is in
+    let (found, answers, step) = then_some (abort_for m) (λ x. only_if (may_refuse e m x) (Some x)) abort is in
     let same = some_is ((where_some (may_refuse e m found) (Some found) abort step).1) in
     abort_to m abort (answers ∙ ap Some same)
 
@@ -45,7 +45,7 @@ part keeps own peer all s =
     record { at = inside own peer s.at; coming = kept_of keeps (place_of keeps all) s.coming; sent = part_of keeps 0 s.sent }
 
 -- A message in transit to an end is in the list.
-abbrev pub IsListed : Side → List Item → OnItsWay → Type 0
+abbrev pub IsListed : Side → List Item → MessageInTransit → Type 0
 IsListed side all m = slice_get all m.number ≡ Some (Sent (other side) m.message)
 
 -- The act is one of the part, and the IDs of each half agree after it.
@@ -80,7 +80,7 @@ module _ (table : Table) (side : Side) (keeps : ℕ → Bool) (own peer : List �
       by false so thins = Stays (same_seen (thins.apart so) refl (part_left keeps side m s.sent so))
 
   -- a delivery
-  part_hears : (head : OnItsWay) (more : List OnItsWay) (made : End) → s.coming ≡ head ∷ more → IsListed side all head
+  part_hears : (head : MessageInTransit) (more : List MessageInTransit) (made : End) → s.coming ≡ head ∷ more → IsListed side all head
       → receive table s.at head.message ≡ Ok made → Happens (record s { at = made; coming = more })
   part_hears head more made was listed step = record { acts = by (keeps head.number) refl thins; matches = thins.matches }
     where
@@ -94,7 +94,7 @@ module _ (table : Table) (side : Side) (keeps : ℕ → Bool) (own peer : List �
       by false so thins = Stays (same_seen (thins.apart so) (rw (was, so) refl) refl)
 
   -- a provider's reply
-  part_refuses : (head : OnItsWay) (more : List OnItsWay) (abort : Message) (rest : List Item) → s.coming ≡ head ∷ more → IsListed side all head
+  part_refuses : (head : MessageInTransit) (more : List MessageInTransit) (abort : Message) (rest : List Item) → s.coming ≡ head ∷ more → IsListed side all head
       → reply_to s.at head.message ≡ Some abort → (s.sent ++ Sent side abort ∷ []) ++ rest ≡ all
       → Happens (record s { coming = more; sent = s.sent ++ Sent side abort ∷ [] })
   part_refuses head more abort rest was listed step is = record { acts = by (keeps head.number) refl; matches = matches }
@@ -114,7 +114,7 @@ module _ (table : Table) (side : Side) (keeps : ℕ → Bool) (own peer : List �
       by false so = Stays (same_seen refl (rw (was, so) refl) (part_left keeps side abort s.sent (together ∙ so)))
 
   -- a loss
-  part_misses : (head : OnItsWay) (more : List OnItsWay) → s.coming ≡ head ∷ more → Happens (record s { coming = more })
+  part_misses : (head : MessageInTransit) (more : List MessageInTransit) → s.coming ≡ head ∷ more → Happens (record s { coming = more })
   part_misses head more was = record { acts = by (keeps head.number) refl; matches = matches }
     where
       by : (k : Bool) → keeps head.number ≡ k → Passes (record s { coming = more })

@@ -7,7 +7,7 @@ use Rattle.tcap_record.specs.declared.entry.End.{End as Side}
 use Rattle.tcap_record.specs.declared.entry.End.TheVariants as sides
 use Rattle.tcap_end.specs.Table.{Table}
 use Rattle.tcap_record.specs.Ends.{other}
-use Rattle.tcap_model.specs.World.{Item, OnItsWay, Sent, World, channel_from, empty, end_at}
+use Rattle.tcap_model.specs.World.{Item, MessageInTransit, Sent, World, channel_from, empty, end_at}
 use Rattle.tcap_model.specs.Run.{Event, IsLawful, IsLawfulFor, KeepsRules, Runs, after}
 use Rattle.tcap_model.specs.SinceMark.{WasSent}
 use Rattle.tcap_model.proofs.ChannelLaws.{were_sent}
@@ -57,7 +57,7 @@ module _ (table : Table) (side : Side) (keeps : ℕ → Bool) (own peer : List �
       → AllByRecursion (IsListed side all) (seen side w).coming
   listed before w rest ran is = all_weaker (WasSent w (other side)) _ (channel_from (other side) w) here (were_sent table before w ran (other side))
     where
-      here : (m : OnItsWay) → WasSent w (other side) m → slice_get all m.number ≡ Some (Sent (other side) m.message)
+      here : (m : MessageInTransit) → WasSent w (other side) m → slice_get all m.number ≡ Some (Sent (other side) m.message)
       here m was = rw (← is) (get_on w.sent rest m.number (Sent (other side) m.message) was.listed)
 
   -- Each step keeps it.

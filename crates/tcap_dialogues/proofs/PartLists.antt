@@ -5,7 +5,7 @@ use Rattle.std.specs.Prelude.{◌&&◌, ◌||◌, slice_get}
 use Rattle.std.proofs.Math.Seq.{take-append_seam}
 use Rattle.tcap_msg.specs.declared.message.Message.{Message}
 use Rattle.tcap_record.specs.declared.entry.End.{End as Side}
-use Rattle.tcap_model.specs.World.{Item, OnItsWay, Sent}
+use Rattle.tcap_model.specs.World.{Item, MessageInTransit, Sent}
 use Rattle.tcap_dialogues.specs.Part.{carries, part_of}
 
 -- ---- numbers
@@ -78,13 +78,13 @@ part_quiet keeps n (Sent sender message ∷ items) = by (keeps n) (part_quiet ke
 -- ---- messages in transit
 
 -- the messages in the part, with their new numbers
-abbrev pub kept_of : (ℕ → Bool) → (ℕ → ℕ) → List OnItsWay → List OnItsWay
+abbrev pub kept_of : (ℕ → Bool) → (ℕ → ℕ) → List MessageInTransit → List MessageInTransit
 kept_of keeps place [] = []
 kept_of keeps place (m ∷ more) =
     cond (keeps m.number) (record { number = place m.number; message = m.message } ∷ kept_of keeps place more) (kept_of keeps place more)
 
 -- one more message in the part
-pub kept_more : (keeps : ℕ → Bool) (place : ℕ → ℕ) (coming : List OnItsWay) (m : OnItsWay) → keeps m.number ≡ true
+pub kept_more : (keeps : ℕ → Bool) (place : ℕ → ℕ) (coming : List MessageInTransit) (m : MessageInTransit) → keeps m.number ≡ true
     → kept_of keeps place (coming ++ m ∷ []) ≡ kept_of keeps place coming ++ record { number = place m.number; message = m.message } ∷ []
 kept_more keeps place [] m so = rw so refl
 kept_more keeps place (first ∷ coming) m so = by (keeps first.number) (kept_more keeps place coming m so)
@@ -98,7 +98,7 @@ kept_more keeps place (first ∷ coming) m so = by (keeps first.number) (kept_mo
     by false is = is
 
 -- one more message outside the part
-pub kept_none : (keeps : ℕ → Bool) (place : ℕ → ℕ) (coming : List OnItsWay) (m : OnItsWay) → keeps m.number ≡ false
+pub kept_none : (keeps : ℕ → Bool) (place : ℕ → ℕ) (coming : List MessageInTransit) (m : MessageInTransit) → keeps m.number ≡ false
     → kept_of keeps place (coming ++ m ∷ []) ≡ kept_of keeps place coming
 kept_none keeps place [] m so = rw so refl
 kept_none keeps place (first ∷ coming) m so =

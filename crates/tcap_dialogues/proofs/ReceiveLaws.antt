@@ -16,11 +16,11 @@ use Rattle.tcap_end.specs.declared.half.Slot.TheVariants.{Begun, Accepted}
 use Rattle.tcap_end.specs.Table.{Table}
 use Rattle.tcap_end.specs.Half.{Half, closed_half, fresh, is_closed}
 use Rattle.tcap_end.specs.Component.{own_invocation}
-use Rattle.tcap_end.specs.End.{End, KeptHalf, all_closed, named, nothing, put, quiet, with_own, with_peer}
-use Rattle.tcap_end.specs.Dialogue.{first_standing}
+use Rattle.tcap_end.specs.End.{End, KeyedHalf, all_closed, named, nothing, put, quiet, with_own, with_peer}
+use Rattle.tcap_end.specs.Dialogue.{first_dialogue_state}
 use Rattle.tcap_end.specs.Message.{active_half, receive, receive_begin, receive_components, receive_continue, receive_end, receive_over}
 use Rattle.tcap_end.specs.HiddenSteps.{close, expire, may_close, may_expire, without_invocation}
-use Rattle.tcap_end.specs.ReachableEnd.{Has, IsEnd}
+use Rattle.tcap_end.specs.ReachableEnd.{HasHalf, IsEnd}
 use Rattle.tcap_end.proofs.AnsweringLaws.{needs_ok, some_ok, then_ok}
 use Rattle.tcap_end.proofs.ComponentLaws.{Receives, all_receives}
 use Rattle.tcap_end.proofs.FoundLaws.{named_has, own_has}
@@ -44,14 +44,14 @@ module _ (own peer : List ℕ → Bool) (table : Table) (e : End) (k : Bool) (so
       (λ inside_it. needs_so _ (ap is_none (peer_same own peer e otid sound matches (there ∙ inside_it)) ∙ free.0) refl)
     where
       start : Half
-      start = fresh phases.Received None (Some otid) (first_standing dialogue)
+      start = fresh phases.Received None (Some otid) (first_dialogue_state dialogue)
 
       comes : Receives start (receive_components table start components)
       comes = all_receives table components start
 
   -- a Continue that reaches a half
-  over_thins : (next : End) (otid dtid : List ℕ) (dialogue : Option Dialogue) (components : List Component) (f : KeptHalf)
-      → peer otid ≡ k → own dtid ≡ k → Has e f → f.half.own ≡ Some dtid → (p : Phase)
+  over_thins : (next : End) (otid dtid : List ℕ) (dialogue : Option Dialogue) (components : List Component) (f : KeyedHalf)
+      → peer otid ≡ k → own dtid ≡ k → HasHalf e f → f.half.own ≡ Some dtid → (p : Phase)
       → receive_over table e otid dialogue components f p ≡ Ok next
       → Thins own peer k (λ x. receive_over table x otid dialogue components f p) e next
   over_thins next otid dtid dialogue components f there here had of_own phases.Sent is =
@@ -96,7 +96,7 @@ module _ (own peer : List ℕ → Bool) (table : Table) (e : End) (k : Bool) (so
       same : k ≡ true → with_own (inside own peer e) dtid ≡ with_own e dtid
       same inside_it = own_same own peer e dtid sound matches (here ∙ inside_it)
 
-      at : (f : KeptHalf) → with_own e dtid ≡ Some f → (b : Bool) → is_closed f.half.phase ≡ b
+      at : (f : KeyedHalf) → with_own e dtid ≡ Some f → (b : Bool) → is_closed f.half.phase ≡ b
           → (let r : Result End EndFault = Ok (cond b e (put e f.slot f.key (closed_half f.half))) in r) ≡ Ok next
           → Thins own peer k (λ x. Ok (receive_end x (with_own x dtid))) e next
       at f found true shut is = thins_none own peer e next matches is (λ inside_it. rw (same inside_it ∙ found, shut) refl)
@@ -107,7 +107,7 @@ module _ (own peer : List ℕ → Bool) (table : Table) (e : End) (k : Bool) (so
           (agrees_as own peer f.half (closed_half f.half) refl refl (matches.agree f had))
           (λ inside_it. rw (same inside_it ∙ found, shut) refl)
 
-      by : (o : Option KeptHalf) → with_own e dtid ≡ o
+      by : (o : Option KeyedHalf) → with_own e dtid ≡ o
           → (let r : Result End EndFault = Ok (receive_end e o) in r) ≡ Ok next
           → Thins own peer k (λ x. Ok (receive_end x (with_own x dtid))) e next
       by None found is = thins_none own peer e next matches is (λ inside_it. rw (same inside_it ∙ found) refl)

@@ -7,12 +7,12 @@ use Rattle.std.proofs.lemmas.Bool.{false_from_ne_true, or_right, true≢false}
 use Rattle.std.proofs.lemmas.List.{append-nil}
 use Rattle.std.proofs.lemmas.List.Folds.{list_any-append}
 use Rattle.tcap_dialogues.specs.Course.{Course, Courses, firm_in, has_entry}
-use Rattle.tcap_dialogues.specs.Cut.{IdOf, is_among, is_same}
-use Rattle.tcap_dialogues.specs.CutDialogues.{HandsOver, IsGathered, has_id}
-use Rattle.tcap_dialogues.specs.CutState.{AreApart, AreKept, AreLives, AreTaken, IsHeld, IsKnown, IsOut, IsOwned, free_since, freed, is_named, known_at, others, those}
+use Rattle.tcap_dialogues.specs.DialoguesOfList.{IdOf, is_among, is_same}
+use Rattle.tcap_dialogues.specs.CutDialogues.{HandsOver, IsCompleteDialogue, has_id}
+use Rattle.tcap_dialogues.specs.CutState.{AreApart, HasValuesOf, HoldsLive, AreTakenOut, IsCutState, IsIdState, IsTakenOut, IsOwned, free_since, after_done, is_named, known_at, without_name, with_name}
 use Rattle.tcap_dialogues.specs.declared.cut.Cut.{Cut}
-use Rattle.tcap_dialogues.specs.declared.complete_dialogue.Gathered.{Gathered}
-use Rattle.tcap_dialogues.specs.declared.known_ids.Known.{Known}
+use Rattle.tcap_dialogues.specs.declared.complete_dialogue.CompleteDialogue.{CompleteDialogue}
+use Rattle.tcap_dialogues.specs.declared.known_ids.IdState.{IdState}
 use Rattle.tcap_dialogues.specs.declared.live.Live.{Live}
 use Rattle.tcap_dialogues.proofs.CutLists.{finds, first_in, found, in_cases, kept_in, left_in, none_in}
 use Rattle.tcap_dialogues.proofs.GatheredLaws.{none_gathered, one_gathered}
@@ -23,16 +23,16 @@ use Rattle.tcap_dialogues.proofs.LiveLaws.{either}
 module _ (s : Courses) (names : Course → ℕ) (sent : IdOf → Bool) (number : Option ℕ) (apart : AreApart s.live) where
   -- the dialogues with this name, the others, and all after
   abbrev gone : List Course
-  gone = those names number s.live
+  gone = with_name names number s.live
 
   abbrev left : List Course
-  left = others names number s.live
+  left = without_name names number s.live
 
   abbrev now : Courses
-  now = freed names number s
+  now = after_done names number s
 
-  abbrev Known_now : IdOf → Known → Type 0
-  Known_now = IsKnown now names sent
+  abbrev Known_now : IdOf → IdState → Type 0
+  Known_now = IsIdState now names sent
 
   -- a dialogue with this name is live
   listed_gone : (d : Course) → Contains gone d → Contains s.live d
@@ -75,8 +75,8 @@ module _ (s : Courses) (names : Course → ℕ) (sent : IdOf → Bool) (number :
       by false = its ∙ sym (or-true (is_among d.used id))
 
   -- what is known of an ID after
-  module _ (first : ℕ) (early : Bool) (early_is : (d : Course) → Contains gone d → early ≡ d.early) (old : Known) (id : IdOf)
-      (known : IsKnown s names sent id old) where
+  module _ (first : ℕ) (early : Bool) (early_is : (d : Course) → Contains gone d → early ≡ d.early) (old : IdState) (id : IdOf)
+      (known : IsIdState s names sent id old) where
     -- What is known is whether its dialogue used it.
     used_is : (d : Course) → Contains s.live d → is_among d.ids id ≡ true → old.used ≡ is_among d.used id
     used_is d listed its = by old.dialogue known.owned
@@ -115,7 +115,7 @@ module _ (s : Courses) (names : Course → ℕ) (sent : IdOf → Bool) (number :
       begun_so,
     )
 
-    pub known_then : (new : Known) → new ≡ cond (list_any (λ d. is_among d.ids id) gone) (free_since first early old) old → Known_now id new
+    pub known_then : (new : IdState) → new ≡ cond (list_any (λ d. is_among d.ids id) gone) (free_since first early old) old → Known_now id new
     known_then new is = subst (Known_now id) (sym is) (by (list_any (λ d. is_among d.ids id) gone) refl)
       where
         by : (b : Bool) → list_any (λ d. is_among d.ids id) gone ≡ b → Known_now id (cond b (free_since first early old) old)
@@ -136,8 +136,8 @@ module _ (s : Courses) (names : Course → ℕ) (sent : IdOf → Bool) (number :
   -- ---- the dialogue taken out
 
   -- It is the only one with this name.
-  taken_one : (lives : Rattle.std.specs.BTreeMap.BTreeMap ℕ Live) (l : Live) → AreLives s.live names lives → AreTaken gone names (Some l)
-      → (d : Course) × Contains gone d × ((e : Course) → Contains gone e → e ≡ d) × AreKept (d ∷ []) l
+  taken_one : (lives : Rattle.std.specs.BTreeMap.BTreeMap ℕ Live) (l : Live) → HoldsLive s.live names lives → AreTakenOut gone names (Some l)
+      → (d : Course) × Contains gone d × ((e : Course) → Contains gone e → e ≡ d) × HasValuesOf (d ∷ []) l
   taken_one lives l are (kept, named, some) =
       let (d, has, so) = found (λ x. has_entry x l.name) gone some in
       let listed = listed_gone d has in
@@ -155,20 +155,20 @@ module _ (s : Courses) (names : Course → ℕ) (sent : IdOf → Bool) (number :
       alone d e has (inl same) = subst (Contains gone) same has
       alone d e has (inr bad) = absurd (none_in e bad)
 
-  module _ (old : Cut) (held : IsHeld s names sent old) where
+  module _ (old : Cut) (held : IsCutState s names sent old) where
     -- It is handed over.
-    pub one_released : (first : ℕ) (out new : Cut) (l : Live) (g : Gathered) (before : List Gathered) → IsOut number s.live names old out (Some l)
+    pub one_released : (first : ℕ) (out new : Cut) (l : Live) (g : CompleteDialogue) (before : List CompleteDialogue) → IsTakenOut number s.live names old out (Some l)
         → new.live ≡ out.live → new.overs ≡ out.overs
         → ((id : IdOf) → known_at new.ids id ≡ cond (has_id l.a l.b id) (free_since first l.early (known_at out.ids id)) (known_at out.ids id))
-        → ((d : Course) → AreKept (d ∷ []) l → IsGathered d g)
-        → IsHeld now names sent new × HandsOver gone before (before ++ g ∷ [])
+        → ((d : Course) → HasValuesOf (d ∷ []) l → IsCompleteDialogue d g)
+        → IsCutState now names sent new × HandsOver gone before (before ++ g ∷ [])
     one_released first out new l g before is same_live same_overs ids stands =
         let (d, has, only, kept) = taken_one old.live l held.lives is.out in
         let early_is : (e : Course) → Contains gone e → l.early ≡ e.early =
         λ e there. kept.early ∙ or_none d.early ∙ ap (λ x. x.early) (sym (only e there)) in (
           record {
-            lives = subst (AreLives left names) (sym same_live) is.lives;
-            overs = subst (Rattle.tcap_dialogues.specs.CutState.AreOvers left names) (sym same_overs) is.overs;
+            lives = subst (HoldsLive left names) (sym same_live) is.lives;
+            overs = subst (Rattle.tcap_dialogues.specs.CutState.HoldsOver left names) (sym same_overs) is.overs;
             ids = λ id. known_then first l.early early_is (known_at old.ids id) id (held.ids id) (known_at new.ids id)
                 (ids id
                 ∙ ap (λ known. cond (has_id l.a l.b id) (free_since first l.early known) known) (ap (λ k. known_at k.ids id) is.rest)
@@ -178,8 +178,8 @@ module _ (s : Courses) (names : Course → ℕ) (sent : IdOf → Bool) (number :
         )
 
     -- There is none.
-    pub none_released : (out : Cut) (before : List Gathered) → IsOut number s.live names old out None
-        → IsHeld now names sent out × HandsOver gone before before
+    pub none_released : (out : Cut) (before : List CompleteDialogue) → IsTakenOut number s.live names old out None
+        → IsCutState now names sent out × HandsOver gone before before
     none_released out before is = (
       record {
         lives = is.lives;

@@ -14,8 +14,8 @@ use Rattle.tcap_end.specs.declared.half.Slot.TheVariants.{Begun, Accepted}
 use Rattle.tcap_end.specs.Step.{◌>>◌}
 use Rattle.tcap_end.specs.Table.{Table}
 use Rattle.tcap_end.specs.Half.{Half, closed_half, fresh, is_closed}
-use Rattle.tcap_end.specs.End.{End, KeptHalf, is_id, put, with_own, with_peer}
-use Rattle.tcap_end.specs.Dialogue.{first_standing, may_abort, may_be_uni, may_go_on}
+use Rattle.tcap_end.specs.End.{End, KeyedHalf, is_id, put, with_own, with_peer}
+use Rattle.tcap_end.specs.Dialogue.{first_dialogue_state, may_abort, may_be_uni, may_go_on}
 use Rattle.tcap_end.specs.Message.{active_half, is_active, is_received, send, send_abort, send_begin, send_components, send_continue, send_end, send_first_continue, send_next_continue, send_uni, send_uni_components}
 use Rattle.tcap_end.specs.ReachableEnd.{IsEnd}
 use Rattle.tcap_end.proofs.AnsweringLaws.{needs_ok, some_ok, then_ok}
@@ -60,7 +60,7 @@ module _ (own peer : List ℕ → Bool) (table : Table) (e : End) (k : Bool) (so
       (needs_so _ may.0 (then_so_on _ g made refl)))
     where
       start : Half
-      start = fresh phases.Sent (Some otid) None (first_standing dialogue)
+      start = fresh phases.Sent (Some otid) None (first_dialogue_state dialogue)
 
   -- the first Continue
   first_thins : (next : End) (otid dtid : List ℕ) (dialogue : Option Dialogue) (components : List Component) → own otid ≡ k → peer dtid ≡ k
@@ -70,7 +70,7 @@ module _ (own peer : List ℕ → Bool) (table : Table) (e : End) (k : Bool) (so
       let (f, ok, step) = then_ok (ok_or (with_peer e dtid) faults.NoTransaction) _ next is in
       let found = some_ok _ _ f ok in
       let waits = needs_ok (is_received f.half.phase) faults.WrongPhase _ next step in
-      let may = needs_ok (may_go_on f.half.phase f.half.standing dialogue) faults.WrongDialogue _ next waits.1 in
+      let may = needs_ok (may_go_on f.half.phase f.half.dialogue_state dialogue) faults.WrongDialogue _ next waits.1 in
       let (g, made, putting) = then_ok (send_components table (active_half Accepted otid f.half) components) (λ half. Ok (put e f.slot f.key half))
       next may.1 in
       let follows = (all_sends table components (active_half Accepted otid f.half) g made).follows in
@@ -83,13 +83,13 @@ module _ (own peer : List ℕ → Bool) (table : Table) (e : End) (k : Bool) (so
       (then_so_on (λ half. Ok (put (inside own peer e) f.slot f.key half)) g made refl))))
 
   -- a later Continue
-  next_thins : (next : End) (otid dtid : List ℕ) (dialogue : Option Dialogue) (components : List Component) (f : KeptHalf) → own otid ≡ k
+  next_thins : (next : End) (otid dtid : List ℕ) (dialogue : Option Dialogue) (components : List Component) (f : KeyedHalf) → own otid ≡ k
       → with_own e otid ≡ Some f → send_next_continue table e dtid dialogue components f ≡ Ok next
       → Thins own peer k (λ x. send_next_continue table x dtid dialogue components f) e next
   next_thins next otid dtid dialogue components f here found is =
       let active = needs_ok (is_active f.half.phase) faults.WrongPhase _ next is in
       let peers = needs_ok (is_id dtid f.half.peer) faults.NoTransaction _ next active.1 in
-      let may = needs_ok (may_go_on f.half.phase f.half.standing dialogue) faults.WrongDialogue _ next peers.1 in
+      let may = needs_ok (may_go_on f.half.phase f.half.dialogue_state dialogue) faults.WrongDialogue _ next peers.1 in
       let (g, made, putting) = then_ok (send_components table f.half components) (λ half. Ok (put e f.slot f.key half)) next may.1 in
       let follows = (all_sends table components f.half g made).follows in
       let had = own_has e otid sound f found in
@@ -108,7 +108,7 @@ module _ (own peer : List ℕ → Bool) (table : Table) (e : End) (k : Bool) (so
       same : k ≡ true → with_own (inside own peer e) otid ≡ with_own e otid
       same inside_it = own_same own peer e otid sound matches (here ∙ inside_it)
 
-      by : (o : Option KeptHalf) → with_own e otid ≡ o → send_continue table e otid dtid dialogue components o ≡ Ok next
+      by : (o : Option KeyedHalf) → with_own e otid ≡ o → send_continue table e otid dtid dialogue components o ≡ Ok next
           → Thins own peer k (λ x. send_continue table x otid dtid dialogue components (with_own x otid)) e next
       by None found is =
           let thins = first_thins next otid dtid dialogue components here there is in
@@ -134,7 +134,7 @@ module _ (own peer : List ℕ → Bool) (table : Table) (e : End) (k : Bool) (so
       let found = some_ok _ _ f ok in
       let had = peer_has e dtid sound f found in
       let open_one = needs_ok (not (is_closed f.half.phase)) faults.WrongPhase _ next step in
-      let may = needs_ok (may_go_on f.half.phase f.half.standing dialogue) faults.WrongDialogue _ next open_one.1 in
+      let may = needs_ok (may_go_on f.half.phase f.half.dialogue_state dialogue) faults.WrongDialogue _ next open_one.1 in
       let (g, made, putting) = then_ok (send_components table f.half components) (λ half. Ok (put e f.slot f.key (closed_half half))) next may.1 in
       let follows = (all_sends table components f.half g made).follows in
       thins_put own peer e next f.slot f.key (closed_half g) sound matches putting
@@ -153,7 +153,7 @@ module _ (own peer : List ℕ → Bool) (table : Table) (e : End) (k : Bool) (so
       let found = some_ok _ _ f ok in
       let had = peer_has e dtid sound f found in
       let open_one = needs_ok (not (is_closed f.half.phase)) faults.WrongPhase _ next step in
-      let may = needs_ok (may_abort f.half.phase f.half.standing (reason_dialogue reason)) faults.WrongDialogue _ next open_one.1 in
+      let may = needs_ok (may_abort f.half.phase f.half.dialogue_state (reason_dialogue reason)) faults.WrongDialogue _ next open_one.1 in
       thins_put own peer e next f.slot f.key (closed_half f.half) sound matches may.1
       (peer_place own peer e f dtid sound matches had (peer_is e dtid f found) ∙ there)
       (agrees_as own peer f.half (closed_half f.half) refl refl (matches.agree f had))

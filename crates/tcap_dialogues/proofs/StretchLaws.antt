@@ -139,8 +139,8 @@ module _ (table : Table) (side : Side) (front items : List Item) where
           subst (λ (t : Seen). Leads table side blank t) (sym new) leads_nowhere
 
   -- The items after the mark are lawful.
-  pub stretch_keeps : IsLawfulFor side (front ++ Item.Quiet ∷ items) table → IsLawfulFor side items table
-  stretch_keeps (events, (w, ran, sent), kept) =
+  pub segment_keeps : IsLawfulFor side (front ++ Item.Quiet ∷ items) table → IsLawfulFor side items table
+  segment_keeps (events, (w, ran, sent), kept) =
       let all : length w.sent ≡ length (front ++ Item.Quiet ∷ items) = ap length sent in
       let both : length (front ++ Item.Quiet ∷ items) ≡ length front + length (Item.Quiet ∷ items) = length-append front (Item.Quiet ∷ items) in
       let one : length (Item.Quiet ∷ items) ≡ length items + 1 = omega arith in

@@ -8,12 +8,12 @@ use Rattle.std.proofs.lemmas.List.{append-nil, append_assoc}
 use Rattle.std.proofs.lemmas.List.Elements.{Contains-append_cases, Contains-append_left, Contains-append_right}
 use Rattle.std.proofs.lemmas.List.Folds.{list_any-append}
 use Rattle.std.proofs.lemmas.Grind.{flat_map-append}
-use Rattle.tcap_dialogues.specs.Course.{Course, Courses, Heading, begins_one, courses_so_far, firm_in, has_entry, have_one, ids_in, is_alone, is_free, joined_by, own_ids}
-use Rattle.tcap_dialogues.specs.Cut.{IdOf, is_among, is_same}
+use Rattle.tcap_dialogues.specs.Course.{Course, Courses, Heading, begins_new, courses_so_far, firm_in, has_entry, share_id, ids_in, is_alone, is_free, joined_by, own_ids}
+use Rattle.tcap_dialogues.specs.DialoguesOfList.{IdOf, is_among, is_same}
 use Rattle.tcap_dialogues.specs.CutDialogues.{HandsOver}
-use Rattle.tcap_dialogues.specs.CutState.{AreApart, IsCut, IsCutOf, IsHeld, Lingers, freed, is_given_up, is_named, is_past_by, known_at, others, those}
+use Rattle.tcap_dialogues.specs.CutState.{AreApart, IsCut, IsCutOf, IsCutState, Lingers, after_done, is_given_up, is_named, is_past_by, known_at, without_name, with_name}
 use Rattle.tcap_dialogues.specs.declared.cut.Cut.{Cut}
-use Rattle.tcap_dialogues.specs.declared.complete_dialogue.Gathered.{Gathered}
+use Rattle.tcap_dialogues.specs.declared.complete_dialogue.CompleteDialogue.{CompleteDialogue}
 use Rattle.tcap_dialogues.specs.declared.reuse.Reuse.{Reuse}
 use Rattle.tcap_dialogues.proofs.CourseStretch.{apart_so_far, free_is, left_apart, so_far_more, well_so_far}
 use Rattle.tcap_dialogues.proofs.CutLists.{kept_in}
@@ -24,7 +24,7 @@ use Rattle.tcap_dialogues.proofs.TwoNames.{first, named_ones, other_ones, second
 
 -- A cut keeps the same dialogues in another order, and by the same IDs.
 pub held_same : (s t : Courses) (names : Course → ℕ) (sent sent_too : IdOf → Bool) (kept : Cut) → AreSame s.done t.done → AreSame s.live t.live
-    → ((id : IdOf) → sent id ≡ sent_too id) → IsHeld s names sent kept → IsHeld t names sent_too kept
+    → ((id : IdOf) → sent id ≡ sent_too id) → IsCutState s names sent kept → IsCutState t names sent_too kept
 held_same s t names sent sent_too kept done same agree held = record {
   lives = record {
     there = λ d has. held.lives.there d (same.back d has);
@@ -65,8 +65,8 @@ same_behind {X} before xs ys same = record {
 
 module _ (live : List Course) (names : Course → ℕ) (past given : Option ℕ) (free : Course → Bool)
     (is : (d : Course) → Contains live d → free d ≡ (is_named names past d || is_named names given d)) (apart : AreApart live) where
-  pub others_of_apart : AreApart (others names past live)
-  others_of_apart = left_apart live (others names past live) (λ d has. (kept_in (λ e. not (is_named names past e)) live d has).0) apart
+  pub others_of_apart : AreApart (without_name names past live)
+  others_of_apart = left_apart live (without_name names past live) (λ d has. (kept_in (λ e. not (is_named names past e)) live d has).0) apart
 
   -- the dialogues handed over: first those past, and then the one given up
   abbrev past_ones : List Course
@@ -76,7 +76,7 @@ module _ (live : List Course) (names : Course → ℕ) (past given : Option ℕ)
   given_ones = second live names past given free is
 
   -- Both are handed over, and share no entry.
-  pub both_hand_over : (before mid after : List Gathered) → HandsOver past_ones before mid → HandsOver given_ones mid after
+  pub both_hand_over : (before mid after : List CompleteDialogue) → HandsOver past_ones before mid → HandsOver given_ones mid after
       → HandsOver (filter free live) before after
   both_hand_over before mid after (gs, mid_is, are) (hs, after_is, more) = (
     gs ++ hs,
@@ -88,7 +88,7 @@ module _ (live : List Course) (names : Course → ℕ) (past given : Option ℕ)
       disjoint : (d e : Course) (n : ℕ) → Contains past_ones d → Contains given_ones e → has_entry d n ≡ true → has_entry e n ≡ true → ⊥
       disjoint d e n has hers its too =
           let (listed, named) = kept_in (is_named names past) live d has in
-          let (in_others, given_too) = kept_in (is_named names given) (others names past live) e hers in
+          let (in_others, given_too) = kept_in (is_named names given) (without_name names past live) e hers in
           let (there, not_past) = kept_in (λ x. not (is_named names past x)) live e in_others in
           let same : d ≡ e = apart.one_number d e n listed there its too in
           true≢false (sym not_past ∙ ap (λ x. not (is_named names past x)) (sym same) ∙ ap not named)
@@ -161,8 +161,8 @@ module _ (reuse : Reuse) (headings : List Heading) (h : Heading) where
       }))
 
   -- whether the entry begins a new dialogue
-  pub begins_then : (not (is_alone h) && not (list_any (λ d. have_one (ids_in h) d.ids) freed_now.live)) ≡ begins_one reuse n s h
-  begins_then = ap (λ b. not (is_alone h) && not b) (any_left (λ d. have_one (ids_in h) d.ids) (is_free reuse n s h) s.live)
+  pub begins_then : (not (is_alone h) && not (list_any (λ d. share_id (ids_in h) d.ids) freed_now.live)) ≡ begins_new reuse n s h
+  begins_then = ap (λ b. not (is_alone h) && not b) (any_left (λ d. share_id (ids_in h) d.ids) (is_free reuse n s h) s.live)
 
   -- ---- names in the code
 
@@ -184,9 +184,9 @@ module _ (reuse : Reuse) (headings : List Heading) (h : Heading) where
 
   pub then_held : (names : Course → ℕ) (past given : Option ℕ)
       → ((d : Course) → Contains s.live d → is_free reuse n s h d ≡ (is_named names past d || is_named names given d))
-      → (kept : Cut) → IsHeld (freed names given (freed names past s)) names sent kept → IsHeld freed_now names sent kept
+      → (kept : Cut) → IsCutState (after_done names given (after_done names past s)) names sent kept → IsCutState freed_now names sent kept
   then_held names past given is kept held =
-      held_same (freed names given (freed names past s)) freed_now names sent sent kept
+      held_same (after_done names given (after_done names past s)) freed_now names sent sent kept
       (done_ones s.live names past given (is_free reuse n s h) is (apart_so_far reuse headings) s.done)
       (other_ones s.live names past given (is_free reuse n s h) is) (λ id. refl) held
 

@@ -11,7 +11,7 @@ use Rattle.std.proofs.lemmas.Map.Lookups.{exact_bytes}
 use Rattle.tcap_end.specs.declared.half.Slot.{Slot}
 use Rattle.tcap_end.specs.Table.{octets_cmp}
 use Rattle.tcap_end.specs.Half.{Half, is_closed}
-use Rattle.tcap_end.specs.End.{KeptHalf, all_closed, first_half}
+use Rattle.tcap_end.specs.End.{KeyedHalf, all_closed, first_half}
 use Rattle.tcap_end.specs.ReachableEnd.{Rises}
 use Rattle.tcap_end.proofs.MapLaws.{below_all, found_first, found_later}
 use Rattle.tcap_end.proofs.FoundLaws.{half_at, octets_total}
@@ -92,7 +92,7 @@ pub first_thin : (passes : Half → Bool) (test : List ℕ → Bool) (slot : Slo
 first_thin passes test slot [] all = refl
 first_thin passes test slot (e ∷ es) all = by (passes e.1) refl (test e.0) refl (first_thin passes test slot es all.1)
   where
-    first : KeptHalf
+    first : KeyedHalf
     first = record { slot = slot; key = e.0; half = e.1 }
 
     by : (p : Bool) → passes e.1 ≡ p → (b : Bool) → test e.0 ≡ b

@@ -4,7 +4,7 @@ use Rattle.std.specs.Prelude.{◌||◌, not, Contains, filter}
 use Rattle.std.proofs.lemmas.Bool.{cases_Bool, or_left, or_right}
 use Rattle.std.proofs.lemmas.List.Elements.{Contains-append_cases, Contains-append_left, Contains-append_right}
 use Rattle.tcap_dialogues.specs.Course.{Course}
-use Rattle.tcap_dialogues.specs.CutState.{is_named, others, those}
+use Rattle.tcap_dialogues.specs.CutState.{is_named, without_name, with_name}
 use Rattle.tcap_dialogues.proofs.CutLists.{kept_in, left_in}
 use Rattle.tcap_dialogues.proofs.HeldLists.{AreSame}
 
@@ -12,10 +12,10 @@ module _ (live : List Course) (names : Course → ℕ) (a b : Option ℕ) (test 
     (is : (d : Course) → Contains live d → test d ≡ (is_named names a d || is_named names b d)) where
   -- the dialogues with the first name, and those of the rest with the second
   abbrev pub first : List Course
-  first = those names a live
+  first = with_name names a live
 
   abbrev pub second : List Course
-  second = those names b (others names a live)
+  second = with_name names b (without_name names a live)
 
   -- They are those that pass the test.
   pub named_ones : AreSame (first ++ second) (filter test live)
@@ -28,7 +28,7 @@ module _ (live : List Course) (names : Course → ℕ) (a b : Option ℕ) (test 
       there d (inl has) =
           let (listed, named) = kept_in (is_named names a) live d has in left_in test live d listed (is d listed ∙ or_left _ _ named)
       there d (inr has) =
-          let (in_others, named) = kept_in (is_named names b) (others names a live) d has in
+          let (in_others, named) = kept_in (is_named names b) (without_name names a live) d has in
           let (listed, not_a) = kept_in (λ e. not (is_named names a e)) live d in_others in
           left_in test live d listed (is d listed ∙ or_right _ _ named)
 
@@ -37,20 +37,20 @@ module _ (live : List Course) (names : Course → ℕ) (a b : Option ℕ) (test 
       back d listed (inl so) hit = Contains-append_left first second d (left_in (is_named names a) live d listed so)
       back d listed (inr so) hit =
           Contains-append_right first second d
-          (left_in (is_named names b) (others names a live) d (left_in (λ e. not (is_named names a e)) live d listed (ap not so))
+          (left_in (is_named names b) (without_name names a live) d (left_in (λ e. not (is_named names a e)) live d listed (ap not so))
           (sym (ap (λ x. x || is_named names b d) so) ∙ hit))
 
   -- The others are those that fail it.
-  pub other_ones : AreSame (others names b (others names a live)) (filter (λ d. not (test d)) live)
+  pub other_ones : AreSame (without_name names b (without_name names a live)) (filter (λ d. not (test d)) live)
   other_ones = record {
     there = λ d has.
-        let (in_others, not_b) = kept_in (λ e. not (is_named names b e)) (others names a live) d has in
+        let (in_others, not_b) = kept_in (λ e. not (is_named names b e)) (without_name names a live) d has in
         let (listed, not_a) = kept_in (λ e. not (is_named names a e)) live d in_others in
         left_in (λ e. not (test e)) live d listed (ap not (is d listed) ∙ neither (is_named names a d) (is_named names b d) not_a not_b);
     back = λ d has.
         let (listed, so) = kept_in (λ e. not (test e)) live d has in
         let (not_a, not_b) = both_not (is_named names a d) (is_named names b d) (sym (ap not (is d listed)) ∙ so) in
-        left_in (λ e. not (is_named names b e)) (others names a live) d
+        left_in (λ e. not (is_named names b e)) (without_name names a live) d
         (left_in (λ e. not (is_named names a e)) live d listed not_a) not_b;
   }
     where

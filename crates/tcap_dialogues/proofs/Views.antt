@@ -6,7 +6,7 @@ use Rattle.tcap_record.specs.declared.entry.End.{End as Side}
 use Rattle.tcap_record.specs.declared.entry.End.TheVariants as sides
 use Rattle.tcap_end.specs.Table.{Table}
 use Rattle.tcap_end.specs.End.{End, nothing}
-use Rattle.tcap_model.specs.World.{Item, OnItsWay, World}
+use Rattle.tcap_model.specs.World.{Item, MessageInTransit, World}
 use Rattle.tcap_model.specs.Run.{Event, Sends, Receives, Replies, Loses, Expires, Closes, Quiet, Tells, IsLawfulFor, KeepsRules, played}
 use Rattle.tcap_model.proofs.Acts.{Acts, Says, Hears, Refuses, Misses, Drops, Shuts, Told, Marked, Stays, Seen}
 use Rattle.tcap_model.proofs.RunLaws.{played_on}
@@ -17,7 +17,7 @@ abbrev pub blank : Seen
 blank = record { at = nothing; coming = []; sent = [] }
 
 -- Views with equal parts are equal.
-pub same_seen : {e f : End} {c d : List OnItsWay} {l k : List Item} → e ≡ f → c ≡ d → l ≡ k
+pub same_seen : {e f : End} {c d : List MessageInTransit} {l k : List Item} → e ≡ f → c ≡ d → l ≡ k
     → (let s : Seen = record { at = e; coming = c; sent = l } in s) ≡ record { at = f; coming = d; sent = k }
 same_seen ends coming sent = rw (ends, coming, sent) refl
 

@@ -11,7 +11,7 @@ use Rattle.tcap_msg.specs.Parts.{dtid_in, kind_in, otid_in}
 use Rattle.tcap_record.specs.declared.entry.End.{End as Side}
 use Rattle.tcap_record.specs.Ends.{other}
 use Rattle.tcap_model.specs.World.{Item, Sent, is_side}
-use Rattle.tcap_dialogues.specs.Cut.{IdOf, is_among}
+use Rattle.tcap_dialogues.specs.DialoguesOfList.{IdOf, is_among}
 use Rattle.tcap_dialogues.specs.declared.reuse.Reuse.{Reuse}
 use Rattle.tcap_dialogues.specs.declared.reuse.Reuse.TheVariants as reuses
 
@@ -104,8 +104,8 @@ abbrev pub has_entry : Course → ℕ → Bool
 has_entry d n = list_any (λ i. i == n) d.numbers
 
 -- whether one of the IDs is in both lists
-abbrev pub have_one : List IdOf → List IdOf → Bool
-have_one ids those = list_any (is_among those) ids
+abbrev pub share_id : List IdOf → List IdOf → Bool
+share_id ids those = list_any (is_among those) ids
 
 -- The dialogues of a segment so far: those that are done, whose IDs are free, in the order in which they were
 -- completed, and those that are live.
@@ -117,17 +117,17 @@ pub record Courses : Type 0 where
 
 -- whether the heading is a Begin from one of these IDs
 abbrev pub begins_from : Heading → List IdOf → Bool
-begins_from h ids = is_begin h.kind && have_one (own_ids h) ids
+begins_from h ids = is_begin h.kind && share_id (own_ids h) ids
 
 -- Whether the heading is the first of its sender in a dialogue that its peer began. It is then a Continue to an ID from
 -- which the peer's Begin came, and its sender has sent no entry of the dialogue before.
 abbrev pub accepts : Heading → Course → Bool
-accepts h d = is_continue h.kind && have_one (peer_ids h) d.begun && not (list_any (is_side h.sender) d.senders)
+accepts h d = is_continue h.kind && share_id (peer_ids h) d.begun && not (list_any (is_side h.sender) d.senders)
 
 -- whether the sender uses an ID of dialogue d to accept another of these dialogues
 abbrev pub gives_to_another : List Course → Heading → Course → Bool
 gives_to_another others h d =
-    have_one (own_ids h) d.ids && list_any (λ other. accepts h other && not (have_one (own_ids h) other.ids)) others
+    share_id (own_ids h) d.ids && list_any (λ other. accepts h other && not (share_id (own_ids h) other.ids)) others
 
 -- whether a dialogue has a Begin
 abbrev pub has_begin : Course → Bool
@@ -135,14 +135,14 @@ has_begin d = nat_lt 0 (length d.begun)
 
 -- whether an entry of these dialogues has the destination ID of the heading
 abbrev pub names_peer : Courses → Heading → Bool
-names_peer s h = list_any (λ d. have_one (peer_ids h) d.ids) (s.done ++ s.live)
+names_peer s h = list_any (λ d. share_id (peer_ids h) d.ids) (s.done ++ s.live)
 
 -- Whether the sender goes on with another dialogue from an ID of dialogue d, which has a Begin. The Begin of the other
 -- dialogue is not in the segment: the heading is a Continue to an ID that no entry of the segment has, and that may
 -- come from before the segment.
 abbrev pub goes_on_with_another : Courses → Heading → Course → Bool
 goes_on_with_another s h d =
-    have_one (own_ids h) d.ids && is_continue h.kind && has_begin d && (h.under_way || h.known) && not (names_peer s h)
+    share_id (own_ids h) d.ids && is_continue h.kind && has_begin d && (h.under_way || h.known) && not (names_peer s h)
 
 -- whether more than `linger` entries, this one included, have come since a dialogue was over, when the entry with
 -- number n arrives
@@ -208,7 +208,7 @@ with_entry earlier n h ds = record {
   senders = flat_map (λ d. d.senders) ds ++ h.sender ∷ [];
   over = lower (first_over ds) (over_by n h);
   early = list_any (λ d. d.early) ds || not h.under_way;
-  again = list_any (λ d. d.again) ds || have_one (new_ids h ds) earlier.ids;
+  again = list_any (λ d. d.again) ds || share_id (new_ids h ds) earlier.ids;
   unsettled = list_any (λ d. d.unsettled) ds
       || list_any (λ id. is_among earlier.ids id && not (is_among earlier.firm id)) (new_ids h ds);
 }
@@ -218,24 +218,24 @@ with_entry earlier n h ds = record {
 abbrev pub joined_by : ℕ → Heading → List Course → List Course → Courses
 joined_by n h done left = record {
   done = done;
-  live = filter (λ d. not (have_one (ids_in h) d.ids)) left
-      ++ with_entry (earlier_in done) n h (filter (λ d. have_one (ids_in h) d.ids) left) ∷ [];
+  live = filter (λ d. not (share_id (ids_in h) d.ids)) left
+      ++ with_entry (earlier_in done) n h (filter (λ d. share_id (ids_in h) d.ids) left) ∷ [];
 }
 
 -- the dialogues after the entry with number n
-abbrev pub comes : Reuse → ℕ → Heading → Courses → Courses
-comes reuse n h s =
+abbrev pub courses_after : Reuse → ℕ → Heading → Courses → Courses
+courses_after reuse n h s =
     joined_by n h (s.done ++ filter (is_free reuse n s h) s.live) (filter (λ d. not (is_free reuse n s h d)) s.live)
 
 -- whether the entry begins a new dialogue that has IDs
-abbrev pub begins_one : Reuse → ℕ → Courses → Heading → Bool
-begins_one reuse n s h =
-    not (is_alone h) && not (list_any (λ d. have_one (ids_in h) d.ids && not (is_free reuse n s h d)) s.live)
+abbrev pub begins_new : Reuse → ℕ → Courses → Heading → Bool
+begins_new reuse n s h =
+    not (is_alone h) && not (list_any (λ d. share_id (ids_in h) d.ids && not (is_free reuse n s h d)) s.live)
 
 -- the dialogues after these headings, the first of which has number n
 abbrev pub courses_behind : Reuse → Courses → ℕ → List Heading → Courses
 courses_behind reuse s n [] = s
-courses_behind reuse s n (h ∷ hs) = courses_behind reuse (comes reuse n h s) (n + 1) hs
+courses_behind reuse s n (h ∷ hs) = courses_behind reuse (courses_after reuse n h s) (n + 1) hs
 
 -- the dialogues of a segment so far
 abbrev pub courses_so_far : Reuse → List Heading → Courses

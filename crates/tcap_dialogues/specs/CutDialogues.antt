@@ -9,8 +9,8 @@ use Rattle.tcap_record.specs.declared.entry.End.{End as Side}
 use Rattle.tcap_record.specs.declared.entry.End.TheVariants.{A, B}
 use Rattle.tcap_end.specs.Table.{octets_cmp}
 use Rattle.tcap_dialogues.specs.Course.{Course, has_entry}
-use Rattle.tcap_dialogues.specs.Cut.{IdOf, is_among}
-use Rattle.tcap_dialogues.specs.declared.complete_dialogue.Gathered.{Gathered}
+use Rattle.tcap_dialogues.specs.DialoguesOfList.{IdOf, is_among}
+use Rattle.tcap_dialogues.specs.declared.complete_dialogue.CompleteDialogue.{CompleteDialogue}
 
 -- the value for A, or for B
 abbrev pub by_end : {X : Type 0} → Side → X → X → X
@@ -22,11 +22,11 @@ abbrev pub has_id : BTreeSet (List ℕ) → BTreeSet (List ℕ) → IdOf → Boo
 has_id a b id = set.contains octets_cmp (by_end id.end a b) id.octets
 
 -- whether the entry with this number is in a gathered dialogue
-abbrev pub names_entry : Gathered → ℕ → Bool
+abbrev pub names_entry : CompleteDialogue → ℕ → Bool
 names_entry g n = list_any (λ i. i == n) g.numbers.items
 
 -- The gathered dialogue g represents the dialogue d.
-pub record IsGathered (d : Course) (g : Gathered) : Type 0 where
+pub record IsCompleteDialogue (d : Course) (g : CompleteDialogue) : Type 0 where
   -- It has the same entries, in ascending order.
   pub numbers : (n : ℕ) → names_entry g n ≡ has_entry d n
   pub ascending : IsStrictlySortedBy nat_cmp g.numbers.items
@@ -39,15 +39,16 @@ pub record IsGathered (d : Course) (g : Gathered) : Type 0 where
   pub unsettled : g.unsettled ≡ d.unsettled
 
 -- The gathered dialogues represent these dialogues, one for one.
-pub record AreGathered (ds : List Course) (given : List Gathered) : Type 0 where
+pub record AreCompleteDialogues (ds : List Course) (given : List CompleteDialogue) : Type 0 where
   -- Each dialogue is represented.
-  pub each : (d : Course) → Contains ds d → (g : Gathered) × Contains given g × IsGathered d g
+  pub each : (d : Course) → Contains ds d → (g : CompleteDialogue) × Contains given g × IsCompleteDialogue d g
   -- Each gathered dialogue represents one.
-  pub all : (g : Gathered) → Contains given g → (d : Course) × Contains ds d × IsGathered d g
+  pub all : (g : CompleteDialogue) → Contains given g → (d : Course) × Contains ds d × IsCompleteDialogue d g
   -- No two have the same entry.
-  pub apart : (i j n : ℕ) (g h : Gathered) → slice_get given i ≡ Some g → slice_get given j ≡ Some h → names_entry g n ≡ true
+  pub apart : (i j n : ℕ) (g h : CompleteDialogue) → slice_get given i ≡ Some g → slice_get given j ≡ Some h
+      → names_entry g n ≡ true
       → names_entry h n ≡ true → i ≡ j
 
 -- Gathered dialogues that represent these dialogues are appended.
-abbrev pub HandsOver : List Course → List Gathered → List Gathered → Type 0
-HandsOver ds old new = (given : List Gathered) × (new ≡ old ++ given) × AreGathered ds given
+abbrev pub HandsOver : List Course → List CompleteDialogue → List CompleteDialogue → Type 0
+HandsOver ds old new = (given : List CompleteDialogue) × (new ≡ old ++ given) × AreCompleteDialogues ds given

@@ -8,13 +8,13 @@ use Rattle.std.specs.Ordering.{nat_cmp}
 use Rattle.tcap_record.specs.declared.entry.End.{End as Side}
 use Rattle.tcap_model.specs.World.{is_side}
 use Rattle.tcap_dialogues.specs.Course.{Course, Heading, begun_by, has_entry, ids_in, is_begin, lower, over_by, own_ids, peer_ids}
-use Rattle.tcap_dialogues.specs.Cut.{IdOf, is_among}
+use Rattle.tcap_dialogues.specs.DialoguesOfList.{IdOf, is_among}
 use Rattle.tcap_dialogues.specs.CutDialogues.{has_id}
-use Rattle.tcap_dialogues.specs.CutState.{AreKept, AreLives, AreOvers, IsOne, changed, earlier_of, has_sent, higher, is_unsettled, known_at, others, those}
+use Rattle.tcap_dialogues.specs.CutState.{HasValuesOf, HoldsLive, HoldsOver, IsJoinedLive, changed, earlier_of, has_sent, higher, is_unsettled, known_at, without_name, with_name}
 use Rattle.tcap_dialogues.specs.declared.cut.Cut.{Cut}
 use Rattle.tcap_dialogues.specs.declared.known_ids.Change.TheVariants as changes
 use Rattle.tcap_dialogues.specs.declared.known_ids.Ids.{Ids}
-use Rattle.tcap_dialogues.specs.declared.known_ids.Known.{Known}
+use Rattle.tcap_dialogues.specs.declared.known_ids.IdState.{IdState}
 use Rattle.tcap_dialogues.specs.declared.live.Live.{Live}
 
 -- the ID of an end, if there is one
@@ -34,7 +34,7 @@ pub record HasSender (sender : Side) (old new : Live) : Type 0 where
   pub rest : new ≡ record old { a_sent = new.a_sent; b_sent = new.b_sent }
 
 -- A live dialogue has this entry in addition.
-pub record HasEntry (number : ℕ) (h : Heading) (own peer : Known) (old new : Live) : Type 0 where
+pub record HasEntry (number : ℕ) (h : Heading) (own peer : IdState) (old new : Live) : Type 0 where
   pub name : new.name ≡ old.name
   pub numbers : (n : ℕ) → set.contains nat_cmp new.numbers n ≡ set.contains nat_cmp old.numbers n || (number == n)
   pub ids : (id : IdOf) → has_id new.a new.b id ≡ has_id old.a old.b id || is_among (ids_in h) id
@@ -46,7 +46,7 @@ pub record HasEntry (number : ℕ) (h : Heading) (own peer : Known) (old new : L
   pub unsettled : new.unsettled ≡ old.unsettled || (is_unsettled own || is_unsettled peer)
 
 -- what is known of the IDs of an entry after it joins this dialogue
-abbrev pub own_known : Heading → ℕ → Known → Known
+abbrev pub own_known : Heading → ℕ → IdState → IdState
 own_known h name own = record {
   dialogue = Some name;
   used = true;
@@ -57,7 +57,7 @@ own_known h name own = record {
 }
 
 -- The IDs of the entry are known as those of this dialogue, and the knowledge of others stays.
-abbrev pub AreNoted : Heading → ℕ → Known → Known → Ids → Ids → Type 0
+abbrev pub AreNoted : Heading → ℕ → IdState → IdState → Ids → Ids → Type 0
 AreNoted h name own peer old new =
     (id : IdOf) → known_at new id
     ≡ cond (is_among (peer_ids h) id) (changed (changes.JoinTo name) peer)
@@ -67,14 +67,14 @@ AreNoted h name own peer old new =
 
 -- The dialogue with this name was taken out, or there was none.
 pub record TakesOne (number : Option ℕ) (live : List Course) (name : Course → ℕ) (old new : Cut) (taken : Live) : Type 0 where
-  pub lives : AreLives (others name number live) name new.live
-  pub overs : AreOvers (others name number live) name new.overs
-  pub one : IsOne old.count (those name number live) name taken
+  pub lives : HoldsLive (without_name name number live) name new.live
+  pub overs : HoldsOver (without_name name number live) name new.overs
+  pub one : IsJoinedLive old.count (with_name name number live) name taken
   pub rest : new ≡ record old { live = new.live; overs = new.overs }
 
 -- The dialogues are joined into one, whose name is that of one of them or the number of the next entry.
 pub record IsJoined (n : ℕ) (ds : List Course) (old new : Cut) (l : Live) : Type 0 where
-  pub kept : AreKept ds l
+  pub kept : HasValuesOf ds l
   pub entry : (l.name ≡ n) ⊎ (list_any (λ d. has_entry d l.name) ds ≡ true)
   pub ids : (id : IdOf) → known_at new.ids id
       ≡ cond (list_any (λ d. is_among d.ids id) ds) (changed (changes.JoinTo l.name) (known_at old.ids id)) (known_at old.ids id)
@@ -86,7 +86,7 @@ is_over_at None number = false
 is_over_at (Some over) number = over == number
 
 -- This live dialogue is in the cut, and the others stay.
-pub record IsPut (l : Live) (old new : Cut) : Type 0 where
+pub record IsAdded (l : Live) (old new : Cut) : Type 0 where
   pub lives : (number : ℕ) → tree.get nat_cmp new.live number ≡ cond (l.name == number) (Some l) (tree.get nat_cmp old.live number)
   pub overs : (number : ℕ) → tree.get nat_cmp new.overs number
       ≡ cond (is_over_at l.over number) (Some l.name) (tree.get nat_cmp old.overs number)

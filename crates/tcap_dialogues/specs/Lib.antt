@@ -1,5 +1,5 @@
 pub mod Part
-pub mod Cut
+pub mod DialoguesOfList
 pub mod Course
 pub mod HeadingReading
 pub mod CutDialogues

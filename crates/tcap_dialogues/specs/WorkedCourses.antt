@@ -4,7 +4,7 @@ use Rattle.tcap_msg.specs.declared.kind.Kind.TheVariants as kinds
 use Rattle.tcap_record.specs.declared.entry.End.{End as Side}
 use Rattle.tcap_record.specs.declared.entry.End.TheVariants.{A, B}
 use Rattle.tcap_model.specs.WorkedItems.{id}
-use Rattle.tcap_dialogues.specs.Course.{Heading, begins_one, courses_of, courses_so_far}
+use Rattle.tcap_dialogues.specs.Course.{Heading, begins_new, courses_of, courses_so_far}
 use Rattle.tcap_dialogues.specs.HeadingReading.{heading_with}
 use Rattle.tcap_dialogues.specs.declared.reuse.Reuse.{Reuse}
 use Rattle.tcap_dialogues.specs.declared.reuse.Reuse.TheVariants.{Again, Once}
@@ -166,7 +166,7 @@ named_done = refl
 
 -- An entry does if it has an ID, and no live dialogue has one of its IDs once IDs are freed.
 abbrev begins : List Heading → Heading → Bool
-begins hs h = begins_one again (length hs) (courses_so_far again hs) h
+begins hs h = begins_new again (length hs) (courses_so_far again hs) h
 
 pub begins_first : begins [] (begin A 1) ≡ true
 begins_first = refl

@@ -5,7 +5,7 @@ use Rattle.tcap_msg.specs.declared.message.Message.{Message}
 use Rattle.tcap_msg.specs.declared.message.Message.TheVariants.{Begin, Continue}
 use Rattle.tcap_model.specs.World.{Item, Sent}
 use Rattle.tcap_model.specs.WorkedItems.{answer, begin, end_to, id}
-use Rattle.tcap_dialogues.specs.Cut.{dialogues_of}
+use Rattle.tcap_dialogues.specs.DialoguesOfList.{dialogues_of}
 use Rattle.tcap_dialogues.specs.Part.{ShareId, carries, part_of}
 
 -- A's Begin from 03

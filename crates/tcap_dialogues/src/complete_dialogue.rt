@@ -5,7 +5,7 @@ use tcap_msg::TransactionId;
 
 /// A complete dialogue, whose IDs are free or whose segment has ended.
 #[derive(Debug, Drop)]
-pub struct Gathered {
+pub struct CompleteDialogue {
     /// The numbers of its entries in the segment, counted from 0, in ascending order.
     pub numbers: Vec<u64>,
     /// The transaction IDs of end A in its entries.

@@ -4,13 +4,13 @@ ghost use Rattle.std.specs.BTreeSet as set;
 ghost use Rattle.std.specs.Prelude.{◌≡◌, ◌||◌, ℕ, Bool, List, [], ◌∷◌, ◌++◌, length, filter, IfOk, OnOk};
 ghost use Rattle.std.specs.List.{flat_map};
 ghost use Rattle.tcap_end.specs.Table.{octets_cmp};
-ghost use Rattle.tcap_dialogues.specs.Course.{Course, Courses, Heading, begins_one, courses_so_far, is_free, own_ids};
-ghost use Rattle.tcap_dialogues.specs.Cut.{IdOf, is_among};
+ghost use Rattle.tcap_dialogues.specs.Course.{Course, Courses, Heading, begins_new, courses_so_far, is_free, own_ids};
+ghost use Rattle.tcap_dialogues.specs.DialoguesOfList.{IdOf, is_among};
 ghost use Rattle.tcap_dialogues.specs.CutDialogues.{HandsOver};
 ghost use Rattle.tcap_dialogues.specs.HeadingReading.{heading_read};
-ghost use Rattle.tcap_dialogues.specs.CutState.{AreApart, AreLives, AreOvers, IsCut, IsHeld, IsOut, freed, those};
+ghost use Rattle.tcap_dialogues.specs.CutState.{AreApart, HoldsLive, HoldsOver, IsCut, IsCutState, IsTakenOut, after_done, with_name};
 
-use crate::complete_dialogue::Gathered;
+use crate::complete_dialogue::CompleteDialogue;
 use crate::heading::HeadingView;
 use crate::known_ids::{Change, Ids};
 use crate::live::Live;
@@ -22,7 +22,7 @@ use tcap_record::End;
 
 /// The dialogues of a segment between quiet marks, as its entries arrive. A cut keeps the live dialogues and some facts
 /// about each ID of a dialogue that is done. These are the number of the first entry of the last such dialogue, whether
-/// the ID's owner sent a message from it, and whether the ID is firm (see `Known`).
+/// the ID's owner sent a message from it, and whether the ID is firm (see `IdState`).
 #[derive(Debug, Drop)]
 pub struct Cut {
     pub(crate) alloc: Global,
@@ -53,8 +53,8 @@ impl Cut {
 
     /// Takes the live dialogue with this name out, if there is one.
     pub(crate) fn take_out(&mut self, name: Option<u64>) -> Option<Live>
-        ensures { (live : List Course) (names : Course → ℕ) → AreApart live → AreLives live names self.old.live
-            → AreOvers live names self.old.overs → IsOut name live names self.old self.new result }
+        ensures { (live : List Course) (names : Course → ℕ) → AreApart live → HoldsLive live names self.old.live
+            → HoldsOver live names self.old.overs → IsTakenOut name live names self.old self.new result }
     {
         let live = self.live.remove(&name?)?;
         if let Some(number) = live.over {
@@ -64,10 +64,14 @@ impl Cut {
     }
 
     /// Hands over the dialogue with this name, if there is one, and frees its IDs. Fails if memory runs out.
-    fn release(&mut self, name: Option<u64>, done: &mut Vec<Gathered>) -> Result<(), AllocError>
+    fn release(
+        &mut self,
+        name: Option<u64>,
+        done: &mut Vec<CompleteDialogue>,
+    ) -> Result<(), AllocError>
         ensures { (s : Courses) (names : Course → ℕ) (sent : IdOf → Bool) → AreApart s.live
-            → IsHeld s names sent self.old → OnOk result (IsHeld (freed names name s) names sent self.new
-            × HandsOver (those names name s.live) done.old.items done.new.items
+            → IsCutState s names sent self.old → OnOk result (IsCutState (after_done names name s) names sent self.new
+            × HandsOver (with_name names name s.live) done.old.items done.new.items
             × (self.new.reuse ≡ self.old.reuse) × (self.new.count ≡ self.old.count)) }
     {
         let Some(live) = self.take_out(name) else {
@@ -91,14 +95,15 @@ impl Cut {
     pub fn take(
         &mut self,
         heading: HeadingView,
-        done: &mut Vec<Gathered>,
+        done: &mut Vec<CompleteDialogue>,
     ) -> Result<bool, AllocError>
         ensures takes { (reuse : Reuse) (headings : List Heading) → IsCut reuse headings self.old
             → let s = courses_so_far reuse headings in OnOk result (
             IsCut reuse (headings ++ heading_read heading.entry ∷ []) self.new
             × HandsOver (filter (is_free reuse (length headings) s (heading_read heading.entry)) s.live) done.old.items done.new.items) }
         ensures begins { (reuse : Reuse) (headings : List Heading) → IsCut reuse headings self.old
-            → IfOk result (λ begins. begins ≡ begins_one reuse (length headings) (courses_so_far reuse headings) (heading_read heading.entry)) }
+            → IfOk result (λ begins. begins
+            ≡ begins_new reuse (length headings) (courses_so_far reuse headings) (heading_read heading.entry)) }
     {
         let past = self.past();
         let given_up = self.given_up(heading);
@@ -125,7 +130,7 @@ impl Cut {
     /// # Errors
     ///
     /// `AllocError` if memory runs out.
-    pub fn finish(self, done: &mut Vec<Gathered>) -> Result<(), AllocError>
+    pub fn finish(self, done: &mut Vec<CompleteDialogue>) -> Result<(), AllocError>
         ensures { (reuse : Reuse) (headings : List Heading) → IsCut reuse headings self
             → OnOk result (HandsOver (courses_so_far reuse headings).live done.old.items done.new.items) }
     {

@@ -3,10 +3,10 @@
 ghost use Rattle.std.specs.Prelude.{◌≡◌, ◌&&◌, ◌||◌, ℕ, Bool, List, true, Contains, not, is_some};
 ghost use Rattle.std.specs.List.{list_any};
 ghost use Rattle.tcap_model.specs.World.{is_side};
-ghost use Rattle.tcap_dialogues.specs.Course.{Course, Courses, gives_to_another, goes_on_with_another, has_begin, have_one, is_alone, is_begin, is_continue, own_ids};
-ghost use Rattle.tcap_dialogues.specs.Cut.{IdOf};
+ghost use Rattle.tcap_dialogues.specs.Course.{Course, Courses, gives_to_another, goes_on_with_another, has_begin, share_id, is_alone, is_begin, is_continue, own_ids};
+ghost use Rattle.tcap_dialogues.specs.DialoguesOfList.{IdOf};
 ghost use Rattle.tcap_dialogues.specs.HeadingReading.{heading_read};
-ghost use Rattle.tcap_dialogues.specs.CutState.{AreApart, AreLives, AreOvers, IsHeld, Lingers, is_given_up, is_named, is_past_by, is_used_anew};
+ghost use Rattle.tcap_dialogues.specs.CutState.{AreApart, HoldsLive, HoldsOver, IsCutState, Lingers, is_given_up, is_named, is_past_by, is_used_anew};
 
 use crate::cut::Cut;
 use crate::heading::HeadingView;
@@ -40,8 +40,8 @@ impl HeadingView<'_> {
 impl Cut {
     /// Returns the name of the dialogue that has been over for so long that its IDs are free, if there is one.
     pub(crate) fn past(&self) -> Option<u64>
-        ensures { (live : List Course) (names : Course → ℕ) → AreApart live → AreLives live names self.now.live
-            → AreOvers live names self.now.overs
+        ensures { (live : List Course) (names : Course → ℕ) → AreApart live → HoldsLive live names self.now.live
+            → HoldsOver live names self.now.overs
             → ((d : Course) → Contains live d → Lingers self.now.reuse self.now.count d.over) → (d : Course) → Contains live d
             → is_past_by self.now.reuse self.now.count d ≡ is_named names result d }
     {
@@ -54,7 +54,8 @@ impl Cut {
 
     /// Returns whether the live dialogue with this name is over.
     fn is_over(&self, name: u64) -> bool
-        ensures { (live : List Course) (names : Course → ℕ) → AreLives live names self.now.live → (d : Course) → Contains live d
+        ensures { (live : List Course) (names : Course → ℕ) → HoldsLive live names self.now.live → (d : Course)
+            → Contains live d
             → names d ≡ name → result ≡ is_some d.over }
     {
         match self.live.get(&name) {
@@ -65,7 +66,8 @@ impl Cut {
 
     /// Returns whether an end sent an entry of the live dialogue with this name.
     fn has_sent(&self, name: u64, end: End) -> bool
-        ensures { (live : List Course) (names : Course → ℕ) → AreLives live names self.now.live → (d : Course) → Contains live d
+        ensures { (live : List Course) (names : Course → ℕ) → HoldsLive live names self.now.live → (d : Course)
+            → Contains live d
             → names d ≡ name → result ≡ list_any (is_side «end») d.senders }
     {
         match self.live.get(&name) {
@@ -76,7 +78,8 @@ impl Cut {
 
     /// Returns whether the live dialogue with this name has a Begin.
     fn has_begin(&self, name: u64) -> bool
-        ensures { (live : List Course) (names : Course → ℕ) → AreLives live names self.now.live → (d : Course) → Contains live d
+        ensures { (live : List Course) (names : Course → ℕ) → HoldsLive live names self.now.live → (d : Course)
+            → Contains live d
             → names d ≡ name → result ≡ has_begin d }
     {
         match self.live.get(&name) {
@@ -89,8 +92,9 @@ impl Cut {
     /// the peer began and the Continue accepts, or one whose Begin is not in the segment.
     fn continues_another(&self, heading: HeadingView, name: u64) -> bool
         ensures { (s : Courses) (names : Course → ℕ) (sent : IdOf → Bool) (d : Course) → AreApart s.live
-            → IsHeld s names sent self.now → Contains s.live d → names d ≡ name
-            → have_one (own_ids (heading_read heading.entry)) d.ids ≡ true → is_continue (heading_read heading.entry).kind ≡ true
+            → IsCutState s names sent self.now → Contains s.live d → names d ≡ name
+            → share_id (own_ids (heading_read heading.entry)) d.ids ≡ true
+            → is_continue (heading_read heading.entry).kind ≡ true
             → result ≡ gives_to_another s.live (heading_read heading.entry) d || goes_on_with_another s (heading_read heading.entry) d }
     {
         let known = self.ids.get_some(heading.sender.other(), heading.dtid);
@@ -105,8 +109,8 @@ impl Cut {
     /// Returns whether an entry uses its own ID, which belongs to this dialogue, for another dialogue.
     fn uses_anew(&self, heading: HeadingView, name: u64) -> bool
         ensures { (s : Courses) (names : Course → ℕ) (sent : IdOf → Bool) (d : Course) → AreApart s.live
-            → IsHeld s names sent self.now → Contains s.live d → names d ≡ name
-            → have_one (own_ids (heading_read heading.entry)) d.ids ≡ true
+            → IsCutState s names sent self.now → Contains s.live d → names d ≡ name
+            → share_id (own_ids (heading_read heading.entry)) d.ids ≡ true
             → result ≡ is_used_anew s (heading_read heading.entry) d }
     {
         if heading.is_begin() {
@@ -122,7 +126,7 @@ impl Cut {
     /// one.
     pub(crate) fn given_up(&self, heading: HeadingView) -> Option<u64>
         ensures { (s : Courses) (names : Course → ℕ) (sent : IdOf → Bool) → AreApart s.live
-            → IsHeld s names sent self.now → (d : Course) → Contains s.live d
+            → IsCutState s names sent self.now → (d : Course) → Contains s.live d
             → is_given_up self.now.reuse s (heading_read heading.entry) d ≡ is_named names result d }
     {
         let Reuse::Again(_) = self.reuse else {

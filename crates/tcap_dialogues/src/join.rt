@@ -3,15 +3,15 @@
 ghost use Rattle.std.specs.List.{list_any};
 ghost use Rattle.std.specs.Prelude.{◌≡◌, ◌+◌, ◌<◌, ◌&&◌, ◌||◌, ℕ, Bool, List, ◌++◌, true, cond, not, Contains, Some, IfOk, OnOk};
 ghost use Rattle.tcap_msg.specs.Meaning.{id_of};
-ghost use Rattle.tcap_dialogues.specs.Course.{Course, Courses, has_entry, have_one, ids_in, is_alone, joined_by, own_ids};
-ghost use Rattle.tcap_dialogues.specs.Cut.{IdOf, is_among};
+ghost use Rattle.tcap_dialogues.specs.Course.{Course, Courses, has_entry, share_id, ids_in, is_alone, joined_by, own_ids};
+ghost use Rattle.tcap_dialogues.specs.DialoguesOfList.{IdOf, is_among};
 ghost use Rattle.tcap_dialogues.specs.HeadingReading.{heading_read};
-ghost use Rattle.tcap_dialogues.specs.CutState.{AreApart, AreLives, AreOvers, IsCutOf, IsHeld, IsOne, known_at};
-ghost use Rattle.tcap_dialogues.specs.CutUpdate.{AreNoted, IsJoined, IsPut, TakesOne, ids_at};
+ghost use Rattle.tcap_dialogues.specs.CutState.{AreApart, HoldsLive, HoldsOver, IsCutOf, IsCutState, IsJoinedLive, known_at};
+ghost use Rattle.tcap_dialogues.specs.CutUpdate.{AreNoted, IsJoined, IsAdded, TakesOne, ids_at};
 
 use crate::cut::Cut;
 use crate::heading::HeadingView;
-use crate::known_ids::{Change, Ids, Known};
+use crate::known_ids::{Change, IdState, Ids};
 use crate::live::Live;
 use std::alloc::AllocError;
 use tcap_msg::TransactionIdView;
@@ -23,7 +23,7 @@ impl Ids {
         &mut self,
         end: End,
         id: Option<TransactionIdView>,
-        known: Known,
+        known: IdState,
     ) -> Result<(), AllocError>
         ensures { OnOk result ((other : IdOf) → known_at self.new other
             ≡ cond (is_among (ids_at «end» (id_of id.entry)) other) known (known_at self.old other)) }
@@ -40,19 +40,19 @@ impl Ids {
         &mut self,
         heading: HeadingView,
         name: u64,
-        own: Known,
-        peer: Known,
+        own: IdState,
+        peer: IdState,
     ) -> Result<(), AllocError>
         ensures { OnOk result (AreNoted (heading_read heading.entry) name own peer self.old self.new) }
     {
-        let own = Known {
+        let own = IdState {
             dialogue: Some(name),
             used: true,
             begun: own.begun | heading.is_begin(),
             sent: true,
             ..own
         };
-        let peer = Known {
+        let peer = IdState {
             dialogue: Some(name),
             ..peer
         };
@@ -64,8 +64,8 @@ impl Ids {
 impl Cut {
     /// Takes the dialogue with this name out, or creates an empty one, whose name is the number of the next entry.
     fn take_or_new(&mut self, name: Option<u64>) -> Live
-        ensures { (live : List Course) (names : Course → ℕ) → AreApart live → AreLives live names self.old.live
-            → AreOvers live names self.old.overs → TakesOne name live names self.old self.new result }
+        ensures { (live : List Course) (names : Course → ℕ) → AreApart live → HoldsLive live names self.old.live
+            → HoldsOver live names self.old.overs → TakesOne name live names self.old self.new result }
     {
         match self.take_out(name) {
             Some(live) => live,
@@ -75,7 +75,7 @@ impl Cut {
 
     /// Puts a dialogue back. Fails if memory runs out.
     fn put(&mut self, live: Live) -> Result<(), AllocError>
-        ensures { OnOk result (IsPut live self.old self.new) }
+        ensures { OnOk result (IsAdded live self.old self.new) }
     {
         if let Some(number) = live.over {
             self.overs.insert(number, live.name)?;
@@ -86,7 +86,8 @@ impl Cut {
 
     /// Joins the second dialogue to the first. Fails if memory runs out.
     fn absorbed(&mut self, mut one: Live, other: Live) -> Result<Live, AllocError>
-        ensures { (ds es : List Course) (names : Course → ℕ) → IsOne self.old.count ds names one → IsOne self.old.count es names other
+        ensures { (ds es : List Course) (names : Course → ℕ) → IsJoinedLive self.old.count ds names one
+            → IsJoinedLive self.old.count es names other
             → ((d : Course) (id : IdOf) → Contains (ds ++ es) d → is_among d.ids id ≡ true
             → (known_at self.old.ids id).dialogue ≡ Some (names d))
             → IfOk result (IsJoined self.old.count (ds ++ es) self.old self.new) }
@@ -99,7 +100,8 @@ impl Cut {
 
     /// Joins two dialogues: the smaller one to the larger one. Fails if memory runs out.
     fn joined(&mut self, one: Live, other: Live) -> Result<Live, AllocError>
-        ensures { (ds es : List Course) (names : Course → ℕ) → IsOne self.old.count ds names one → IsOne self.old.count es names other
+        ensures { (ds es : List Course) (names : Course → ℕ) → IsJoinedLive self.old.count ds names one
+            → IsJoinedLive self.old.count es names other
             → ((d : Course) (id : IdOf) → Contains (ds ++ es) d → is_among d.ids id ≡ true
             → (known_at self.old.ids id).dialogue ≡ Some (names d))
             → IfOk result (IsJoined self.old.count (ds ++ es) self.old self.new) }
@@ -114,12 +116,13 @@ impl Cut {
     /// Joins an entry to the live dialogues that have one of its IDs, or begins a new one. Returns whether it begins a
     /// new one that has IDs. Fails if memory runs out, or after 2^64 - 1 entries.
     pub(crate) fn join(&mut self, heading: HeadingView) -> Result<bool, AllocError>
-        ensures { (s : Courses) (names : Course → ℕ) (sent : IdOf → Bool) → AreApart s.live → IsHeld s names sent self.old
+        ensures { (s : Courses) (names : Course → ℕ) (sent : IdOf → Bool) → AreApart s.live
+            → IsCutState s names sent self.old
             → let h = heading_read heading.entry in let new = joined_by self.old.count h s.done s.live in AreApart new.live
             → ((d : Course) (i : ℕ) → Contains s.live d → has_entry d i ≡ true → i < self.old.count)
             → IfOk result (λ begins.
             IsCutOf self.old.reuse (self.old.count + 1) new (λ id. sent id || is_among (own_ids h) id) self.new
-            × (begins ≡ not (is_alone h) && not (list_any (λ d. have_one (ids_in h) d.ids) s.live))) }
+            × (begins ≡ not (is_alone h) && not (list_any (λ d. share_id (ids_in h) d.ids) s.live))) }
     {
         let Some(next) = self.count.checked_add(1) else {
             return Err(AllocError);

@@ -7,9 +7,9 @@ ghost use Rattle.std.specs.Str.{bytes_eq};
 ghost use Rattle.tcap_end.specs.Table.{octets_cmp};
 ghost use Rattle.tcap_model.specs.World.{is_side};
 ghost use Rattle.tcap_msg.specs.Meaning.{id_of};
-ghost use Rattle.tcap_dialogues.specs.Cut.{IdOf, is_same};
+ghost use Rattle.tcap_dialogues.specs.DialoguesOfList.{IdOf, is_same};
 ghost use Rattle.tcap_dialogues.specs.CutDialogues.{has_id};
-ghost use Rattle.tcap_dialogues.specs.CutState.{changed, earlier_of, free_since, gone_since, is_unsettled, known_at, known_by, known_in, known_of, nothing};
+ghost use Rattle.tcap_dialogues.specs.CutState.{changed, earlier_of, free_since, free_id_since, is_unsettled, known_at, known_by, known_in, known_of, nothing};
 
 use std::alloc::{AllocError, Global};
 use std::collections::{BTreeMap, BTreeSet};
@@ -18,7 +18,7 @@ use tcap_record::End;
 
 /// The facts known about a transaction ID.
 #[derive(Clone, Copy, Debug)]
-pub(crate) struct Known {
+pub(crate) struct IdState {
     /// The name of the live dialogue that has the ID.
     pub(crate) dialogue: Option<u64>,
     /// Whether the ID is the originating ID of an entry of this dialogue.
@@ -36,7 +36,7 @@ pub(crate) struct Known {
 
 /// The facts known about a transaction ID that no live dialogue has.
 #[derive(Clone, Copy, Debug)]
-pub(crate) struct Gone {
+pub(crate) struct FreeIdState {
     /// The number of the first entry of the last dialogue that had the ID: the highest such number.
     pub(crate) last: u64,
     /// Whether the owner sent a message from the ID, or a dialogue that had it began after the under-way directive.
@@ -59,9 +59,9 @@ pub(crate) enum Change {
     JoinTo(u64),
 }
 
-impl Known {
+impl IdState {
     /// Nothing is known of the ID.
-    pub(crate) const NOTHING: Known = Known {
+    pub(crate) const NOTHING: IdState = IdState {
         dialogue: None,
         used: false,
         begun: false,
@@ -89,10 +89,10 @@ impl Known {
     }
 
     /// Returns what is known of the ID after its dialogue is done.
-    fn gone(self, first: u64, early: bool) -> Gone
-        ensures { result ≡ gone_since first early self }
+    fn gone(self, first: u64, early: bool) -> FreeIdState
+        ensures { result ≡ free_id_since first early self }
     {
-        Gone {
+        FreeIdState {
             last: match self.last {
                 Some(last) if first < last => last,
                 _ => first,
@@ -107,9 +107,9 @@ impl Known {
 #[derive(Debug, Drop)]
 pub(crate) struct EndIds {
     /// The IDs that live dialogues have.
-    live: BTreeMap<TransactionId, Known>,
+    live: BTreeMap<TransactionId, IdState>,
     /// The IDs of dialogues that are done.
-    done: BTreeMap<TransactionId, Gone>,
+    done: BTreeMap<TransactionId, FreeIdState>,
 }
 
 impl EndIds {
@@ -124,22 +124,22 @@ impl EndIds {
     }
 
     /// Returns what is known of an ID that no live dialogue has.
-    fn get_done(&self, id: TransactionIdView) -> Known
+    fn get_done(&self, id: TransactionIdView) -> IdState
         ensures { result ≡ known_by None (tree.get octets_cmp self.now.done id.entry.octets.now) }
     {
         match self.done.get(&id.to_transaction_id()) {
-            Some(gone) => Known {
+            Some(gone) => IdState {
                 last: Some(gone.last),
                 firm: gone.firm,
                 sent: gone.sent,
-                ..Known::NOTHING
+                ..IdState::NOTHING
             },
-            None => Known::NOTHING,
+            None => IdState::NOTHING,
         }
     }
 
     /// Returns what is known of an ID.
-    fn get(&self, id: TransactionIdView) -> Known
+    fn get(&self, id: TransactionIdView) -> IdState
         ensures { result ≡ known_in self.now id.entry.octets.now }
     {
         match self.live.get(&id.to_transaction_id()) {
@@ -149,7 +149,7 @@ impl EndIds {
     }
 
     /// Sets what is known of an ID. Fails if memory runs out.
-    fn set(&mut self, id: TransactionIdView, known: Known) -> Result<(), AllocError>
+    fn set(&mut self, id: TransactionIdView, known: IdState) -> Result<(), AllocError>
         ensures { OnOk result ((octets : List ℕ) → known_in self.new octets
             ≡ cond (bytes_eq octets id.entry.octets.now) known (known_in self.old octets)) }
     {
@@ -221,7 +221,7 @@ impl Ids {
     }
 
     /// Returns what is known of an ID of an end.
-    pub(crate) fn get(&self, end: End, id: TransactionIdView) -> Known
+    pub(crate) fn get(&self, end: End, id: TransactionIdView) -> IdState
         ensures { result ≡ known_at self.now (record { end = «end»; octets = id.entry.octets.now }) }
     {
         match end {
@@ -231,12 +231,12 @@ impl Ids {
     }
 
     /// Returns what is known of an ID of an end, or nothing if there is no ID.
-    pub(crate) fn get_some(&self, end: End, id: Option<TransactionIdView>) -> Known
+    pub(crate) fn get_some(&self, end: End, id: Option<TransactionIdView>) -> IdState
         ensures { result ≡ known_of self.now «end» (id_of id.entry) }
     {
         match id {
             Some(id) => self.get(end, id),
-            None => Known::NOTHING,
+            None => IdState::NOTHING,
         }
     }
 
@@ -245,7 +245,7 @@ impl Ids {
         &mut self,
         end: End,
         id: TransactionIdView,
-        known: Known,
+        known: IdState,
     ) -> Result<(), AllocError>
         ensures { OnOk result ((other : IdOf) → known_at self.new other
             ≡ cond (is_same other (record { end = «end»; octets = id.entry.octets.now })) known (known_at self.old other)) }
@@ -265,7 +265,7 @@ impl Ids {
             Change::JoinTo(name) => {
                 let known = self.get(end, id);
                 let dialogue = Some(name);
-                self.set(end, id, Known { dialogue, ..known })
+                self.set(end, id, IdState { dialogue, ..known })
             }
             Change::Free { first, early } => match end {
                 End::A => self.a.free(id, first, early),

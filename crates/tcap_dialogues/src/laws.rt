@@ -10,10 +10,10 @@ ghost use Rattle.tcap_model.specs.World.{Sent, has_quiet};
 ghost use Rattle.tcap_dialogues.specs.Course.{Course, Heading, bare, courses_of, courses_so_far, has_entry, headings_of, is_free};
 ghost use Rattle.tcap_dialogues.specs.declared.reuse.Reuse.{Reuse};
 ghost use Rattle.tcap_dialogues.specs.declared.reuse.Reuse.TheVariants as reuses;
-ghost use Rattle.tcap_dialogues.specs.Cut.{Dialogue, IdOf, dialogues_of, is_among, is_of};
-ghost use Rattle.tcap_dialogues.specs.CutDialogues.{AreGathered};
+ghost use Rattle.tcap_dialogues.specs.DialoguesOfList.{Dialogue, IdOf, dialogues_of, is_among, is_of};
+ghost use Rattle.tcap_dialogues.specs.CutDialogues.{AreCompleteDialogues};
 ghost use Rattle.tcap_dialogues.specs.Part.{IsClosed, part_of};
-ghost use Rattle.tcap_dialogues.specs.declared.complete_dialogue.Gathered.{Gathered};
+ghost use Rattle.tcap_dialogues.specs.declared.complete_dialogue.CompleteDialogue.{CompleteDialogue};
 
 /// Shows that a lawful end may have sent its part of each part of a list, with the quiet marks, if this part shares no
 /// transaction ID with the rest (Q.774 3.3). So a fault in a dialogue is a fault in the record.
@@ -30,7 +30,7 @@ pub fn part_is_lawful()
 {}
 
 /// Shows that an end may have sent the items after a quiet mark alone, since all IDs are free again after the mark.
-pub fn stretch_keeps_rules()
+pub fn segment_keeps_rules()
     ensures { (side : Side) (before items : List Item) (table : Table)
         → IsLawfulFor side (before ++ Item.Quiet ∷ items) table → IsLawfulFor side items table }
 {}
@@ -101,11 +101,13 @@ pub fn once_is_the_cut()
 /// over so far represent those that are done. They still do with those handed over at the next entry, and at the end
 /// they represent all dialogues of the segment.
 pub fn handed_over_are_all()
-    ensures next { (reuse : Reuse) (headings : List Heading) (before given : List Gathered)
-        → AreGathered (courses_so_far reuse headings).done before → (h : Heading)
-        → let s = courses_so_far reuse headings in AreGathered (filter (is_free reuse (length headings) s h) s.live) given
-        → AreGathered (courses_so_far reuse (headings ++ h ∷ [])).done (before ++ given) }
-    ensures end { (reuse : Reuse) (headings : List Heading) (before given : List Gathered)
-        → AreGathered (courses_so_far reuse headings).done before → AreGathered (courses_so_far reuse headings).live given
-        → AreGathered (courses_of reuse headings) (before ++ given) }
+    ensures next { (reuse : Reuse) (headings : List Heading) (before given : List CompleteDialogue)
+        → AreCompleteDialogues (courses_so_far reuse headings).done before → (h : Heading)
+        → let s = courses_so_far reuse headings in AreCompleteDialogues
+        (filter (is_free reuse (length headings) s h) s.live) given
+        → AreCompleteDialogues (courses_so_far reuse (headings ++ h ∷ [])).done (before ++ given) }
+    ensures end { (reuse : Reuse) (headings : List Heading) (before given : List CompleteDialogue)
+        → AreCompleteDialogues (courses_so_far reuse headings).done before
+        → AreCompleteDialogues (courses_so_far reuse headings).live given
+        → AreCompleteDialogues (courses_of reuse headings) (before ++ given) }
 {}

@@ -12,7 +12,7 @@ pub mod laws;
 mod live;
 mod reuse;
 
-pub use complete_dialogue::Gathered;
+pub use complete_dialogue::CompleteDialogue;
 pub use cut::Cut;
 pub use heading::{HeadingView, heading_of_message, read_heading};
 pub use reuse::Reuse;

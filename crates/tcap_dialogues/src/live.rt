@@ -3,14 +3,14 @@
 ghost use Rattle.std.specs.Prelude.{◌≡◌, List, [], ◌∷◌, ◌++◌, length, nat_lt, IfOk, OnOk};
 ghost use Rattle.tcap_msg.specs.Meaning.{id_of};
 ghost use Rattle.tcap_dialogues.specs.Course.{Course, begun_by, lower, over_by};
-ghost use Rattle.tcap_dialogues.specs.CutDialogues.{IsGathered};
+ghost use Rattle.tcap_dialogues.specs.CutDialogues.{IsCompleteDialogue};
 ghost use Rattle.tcap_dialogues.specs.HeadingReading.{heading_read};
-ghost use Rattle.tcap_dialogues.specs.CutState.{AreKept, has_sent, higher};
+ghost use Rattle.tcap_dialogues.specs.CutState.{HasValuesOf, has_sent, higher};
 ghost use Rattle.tcap_dialogues.specs.CutUpdate.{HasEntry, HasId, HasSender, ids_at};
 
-use crate::complete_dialogue::Gathered;
+use crate::complete_dialogue::CompleteDialogue;
 use crate::heading::HeadingView;
-use crate::known_ids::Known;
+use crate::known_ids::IdState;
 use std::alloc::{AllocError, Global};
 use std::collections::BTreeSet;
 use tcap_msg::{Kind, TransactionId, TransactionIdView};
@@ -89,7 +89,7 @@ impl HeadingView<'_> {
 impl Live {
     /// Creates a dialogue without entries.
     pub(crate) fn new(alloc: Global, name: u64) -> Live
-        ensures { AreKept [] result × (result.name ≡ name) }
+        ensures { HasValuesOf [] result × (result.name ≡ name) }
     {
         Live {
             name,
@@ -118,8 +118,8 @@ impl Live {
 
     /// Adds the entries and IDs of another dialogue. Fails if memory runs out.
     pub(crate) fn absorb(&mut self, other: Live) -> Result<(), AllocError>
-        ensures { (ds es : List Course) → AreKept ds self.old → AreKept es other
-            → OnOk result (AreKept (ds ++ es) self.new × (self.new.name ≡ self.old.name)) }
+        ensures { (ds es : List Course) → HasValuesOf ds self.old → HasValuesOf es other
+            → OnOk result (HasValuesOf (ds ++ es) self.new × (self.new.name ≡ self.old.name)) }
     {
         self.numbers.extend(other.numbers)?;
         self.a.extend(other.a)?;
@@ -163,8 +163,8 @@ impl Live {
         &mut self,
         number: u64,
         heading: HeadingView,
-        own: Known,
-        peer: Known,
+        own: IdState,
+        peer: IdState,
     ) -> Result<(), AllocError>
         ensures { OnOk result (HasEntry number (heading_read heading.entry) own peer self.old self.new) }
     {
@@ -188,11 +188,11 @@ impl Live {
     }
 
     /// Converts this to a complete dialogue. Fails if memory runs out.
-    pub(crate) fn gathered(self, alloc: Global) -> Result<Gathered, AllocError>
-        ensures { (d : Course) → AreKept (d ∷ []) self → IfOk result (IsGathered d) }
+    pub(crate) fn gathered(self, alloc: Global) -> Result<CompleteDialogue, AllocError>
+        ensures { (d : Course) → HasValuesOf (d ∷ []) self → IfOk result (IsCompleteDialogue d) }
     {
         let numbers = self.numbers.into_iter().collect(alloc)?;
-        Ok(Gathered {
+        Ok(CompleteDialogue {
             numbers,
             a: self.a,
             b: self.b,

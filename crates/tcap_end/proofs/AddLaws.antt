@@ -17,8 +17,8 @@ use Rattle.tcap_end.specs.Table.{octets_cmp}
 use Rattle.tcap_end.specs.Half.{Half}
 use Rattle.tcap_end.specs.HalfState.{half_of, other_id}
 use Rattle.tcap_end.specs.End.{End, put}
-use Rattle.tcap_end.specs.ReachableEnd.{Has, Rises, halves_of}
-use Rattle.tcap_end.specs.Halves.{Indexes, IsAt, IsHeld, IsNew, IsOpen, end_of, half_at, half_in, halves_at, kept_half, places_of}
+use Rattle.tcap_end.specs.ReachableEnd.{HasHalf, Rises, halves_of}
+use Rattle.tcap_end.specs.Halves.{Indexes, IsAt, IsHeld, IsNew, IsOpen, end_of, half_at, half_in, halves_at, keyed_half, places_of}
 use Rattle.tcap_lists.proofs.MapLaws.{found_inserted, found_other, kept_at, rises_inserted}
 use Rattle.tcap_end.proofs.FoundLaws.{octets_total}
 use Rattle.tcap_end.proofs.FindLaws.{half_there, has_there}
@@ -67,7 +67,7 @@ halves_inserted slab slot key place (e ∷ es) = by (octets_cmp key e.0) refl (h
     by Greater is rest = ap (λ hs. (e.0, half_at slab slot e.0 e.1) ∷ hs) rest
 
 -- A half of the end has a place.
-had_at : (s : Halves) (slot : Slot) (key : List ℕ) (h : Half) → Has (end_of s) (kept_half slot key h)
+had_at : (s : Halves) (slot : Slot) (key : List ℕ) (h : Half) → HasHalf (end_of s) (keyed_half slot key h)
     → (p : Place) × IsAt slot key p s × (half_at s.slab slot key p ≡ h)
 had_at s slot key h had = by (kept_at octets_cmp (places_of slot s) key) refl (sym (half_there s slot key) ∙ had)
   where
@@ -186,17 +186,17 @@ module _ {s next : Halves} {key : List ℕ} {m : ℕ} {h : HalfState} (held : Is
       by (inr apart) = subst (λ (es : List (List ℕ × Place)). kept_at octets_cmp es q ≡ Some p) (sym (c.there other apart)) found
 
   -- A half is the new one, or was there before.
-  had_was : (other : Slot) (q : List ℕ) (g : Half) → Has (end_of next) (kept_half other q g)
-      → (IsAdded other q × (g ≡ half_of h)) ⊎ Has (end_of s) (kept_half other q g)
+  had_was : (other : Slot) (q : List ℕ) (g : Half) → HasHalf (end_of next) (keyed_half other q g)
+      → (IsAdded other q × (g ≡ half_of h)) ⊎ HasHalf (end_of s) (keyed_half other q g)
   had_was other q g had = let at = had_at next other q g had in by at.0 at.2 (place_was other q at.0 at.1)
     where
       by : (p : Place) → half_at next.slab other q p ≡ g → (IsAdded other q × (p ≡ Open m)) ⊎ IsAt other q p s
-          → (IsAdded other q × (g ≡ half_of h)) ⊎ Has (end_of s) (kept_half other q g)
+          → (IsAdded other q × (g ≡ half_of h)) ⊎ HasHalf (end_of s) (keyed_half other q g)
       by p half (inl now) = inl (now.0, sym half ∙ ap (half_at next.slab other q) now.1 ∙ ap half_in c.under)
       by p half (inr was) = inr (has_there s other q p was ∙ ap Some (sym (half_stays held next.slab c.slab other q p was) ∙ half))
 
   -- A half that was there before stays.
-  had_is : (other : Slot) (q : List ℕ) (g : Half) → Has (end_of s) (kept_half other q g) → Has (end_of next) (kept_half other q g)
+  had_is : (other : Slot) (q : List ℕ) (g : Half) → HasHalf (end_of s) (keyed_half other q g) → HasHalf (end_of next) (keyed_half other q g)
   had_is other q g had =
       let at = had_at s other q g had in
       has_there next other q at.0 (place_is other q at.0 at.1)
@@ -248,8 +248,8 @@ module _ {s next : Halves} {key : List ℕ} {m : ℕ} {h : HalfState} (held : Is
             ((serves id q).1 (before_it now.0 now.2 (had_was at q now.0 now.1))),
       )
         where
-          before_it : (g : Half) → of g ≡ Some id → (IsAdded at q × (g ≡ half_of h)) ⊎ Has (end_of s) (kept_half at q g)
-              → (g : Half) × Has (end_of s) (kept_half at q g) × (of g ≡ Some id)
+          before_it : (g : Half) → of g ≡ Some id → (IsAdded at q × (g ≡ half_of h)) ⊎ HasHalf (end_of s) (keyed_half at q g)
+              → (g : Half) × HasHalf (end_of s) (keyed_half at q g) × (of g ≡ Some id)
           before_it g its (inl new_one) = let bad = sym its ∙ ap of new_one.1 ∙ none new_one.0.0 in cc
           before_it g its (inr was) = (g, was, its)
 

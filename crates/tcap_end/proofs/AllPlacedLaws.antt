@@ -17,8 +17,8 @@ use Rattle.tcap_end.specs.Table.{octets_cmp}
 use Rattle.tcap_end.specs.Half.{Half, is_closed}
 use Rattle.tcap_end.specs.HalfState.{half_of}
 use Rattle.tcap_end.specs.End.{End, all_closed}
-use Rattle.tcap_end.specs.ReachableEnd.{Has}
-use Rattle.tcap_end.specs.Halves.{AllPlaced, IsAt, IsHeld, IsOpen, end_of, half_at, half_in, halves_at, places_of, kept_half}
+use Rattle.tcap_end.specs.ReachableEnd.{HasHalf}
+use Rattle.tcap_end.specs.Halves.{AllPlaced, IsAt, IsHeld, IsOpen, end_of, half_at, half_in, halves_at, places_of, keyed_half}
 use Rattle.tcap_lists.proofs.MapLaws.{found_new, found_other, kept_at}
 use Rattle.tcap_end.proofs.FoundLaws.{octets_total}
 use Rattle.tcap_end.proofs.PlacedLaws.{elsewhere, has_open, over_slab, slots_eq}
@@ -188,7 +188,7 @@ one_open key h ((q, g) ∷ es) found is_open = by (is_at (octets_cmp key) q) fou
         ap (λ (x : Half). cond (is_closed x.phase) (all_closed es) false) halves ∙ ap (λ b. cond b (all_closed es) false) is_open
     by false is rest = behind (is_closed g.phase) (all_closed es) (rest is)
 
-not_all : (e : End) (slot : Slot) (key : List ℕ) (h : Half) → Has e (kept_half slot key h) → is_closed h.phase ≡ false
+not_all : (e : End) (slot : Slot) (key : List ℕ) (h : Half) → HasHalf e (keyed_half slot key h) → is_closed h.phase ≡ false
     → all_closed e.begun && all_closed e.accepted ≡ false
 not_all e Begun key h had is_open = ap (λ b. b && all_closed e.accepted) (one_open key h e.begun had is_open)
 not_all e Accepted key h had is_open =

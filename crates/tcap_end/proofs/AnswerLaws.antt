@@ -14,8 +14,8 @@ use Rattle.slab.proofs.SlabLemmas.{Updates-with_value}
 use Rattle.tcap_parts.specs.declared.component.Component.{Component}
 use Rattle.tcap_end.specs.declared.half.Slot.{Slot}
 use Rattle.tcap_end.specs.declared.half.Slot.TheVariants.{Begun, Accepted}
-use Rattle.tcap_end.specs.declared.half_components.Way.{Way}
-use Rattle.tcap_end.specs.declared.half_components.Way.TheVariants.{Out, In}
+use Rattle.tcap_end.specs.declared.half_components.Direction.{Direction}
+use Rattle.tcap_end.specs.declared.half_components.Direction.TheVariants.{Out, In}
 use Rattle.tcap_end.specs.declared.half_state.HalfState.{HalfState}
 use Rattle.tcap_end.specs.declared.halves.Halves.{Halves}
 use Rattle.tcap_end.specs.declared.halves.Place.{Place}
@@ -25,9 +25,9 @@ use Rattle.tcap_end.specs.Half.{Half, is_closed}
 use Rattle.tcap_end.specs.HalfState.{half_of, other_id}
 use Rattle.tcap_end.specs.Message.{active_half, receive_components}
 use Rattle.tcap_end.specs.ComponentSteps.{components_by}
-use Rattle.tcap_end.specs.End.{End, KeptHalf, put}
-use Rattle.tcap_end.specs.ReachableEnd.{Has, IsKept, halves_of}
-use Rattle.tcap_end.specs.Halves.{AllPlaced, Indexes, IsAt, IsHeld, IsOpen, end_of, index_of, kept_half, places_of}
+use Rattle.tcap_end.specs.End.{End, KeyedHalf, put}
+use Rattle.tcap_end.specs.ReachableEnd.{HasHalf, IsHalfKey, halves_of}
+use Rattle.tcap_end.specs.Halves.{AllPlaced, Indexes, IsAt, IsHeld, IsOpen, end_of, index_of, keyed_half, places_of}
 use Rattle.tcap_lists.proofs.MapLaws.{found_inserted, found_new, found_other, kept_at}
 use Rattle.tcap_end.proofs.FoundLaws.{octets_total}
 use Rattle.tcap_end.proofs.HalfLaws.{Follows}
@@ -66,12 +66,12 @@ taken_out k v (e ∷ es) none = by (octets_cmp k e.0) refl none (taken_out k v e
 
 -- An index has no entry for an ID that no half has.
 pub not_led : (of : Half → Option (List ℕ)) (index : List (List ℕ × List ℕ)) (e : End) (slot : Slot) (id : List ℕ)
-    → ((f : KeptHalf) → Has e f → of f.half ≢ Some id) → Indexes index slot of e → kept_at octets_cmp index id ≡ None
+    → ((f : KeyedHalf) → HasHalf e f → of f.half ≢ Some id) → Indexes index slot of e → kept_at octets_cmp index id ≡ None
 not_led of index e slot id unused serves = by (kept_at octets_cmp index id) refl
   where
     by : (o : Option (List ℕ)) → kept_at octets_cmp index id ≡ o → kept_at octets_cmp index id ≡ None
     by None is = is
-    by (Some key) is = let it = (serves id key).0 is in absurd (unused (kept_half slot key it.0) it.1 it.2)
+    by (Some key) is = let it = (serves id key).0 is in absurd (unused (keyed_half slot key it.0) it.1 it.2)
 
 put_here : (e : End) (slot : Slot) (key : List ℕ) (g : Half)
     → halves_of slot (put e slot key g) ≡ insert_entry octets_cmp (halves_of slot e) key g
@@ -79,33 +79,33 @@ put_here e Begun key g = refl
 put_here e Accepted key g = refl
 
 module _ (of : Half → Option (List ℕ)) (index : List (List ℕ × List ℕ)) (e : End) (slot : Slot) (key id : List ℕ) (h g : Half)
-    (had : Has e (kept_half slot key h)) (unknown : of h ≡ None) (gained : of g ≡ Some id)
-    (unused : (f : KeptHalf) → Has e f → of f.half ≢ Some id) (serves : Indexes index slot of e) where
+    (had : HasHalf e (keyed_half slot key h)) (unknown : of h ≡ None) (gained : of g ≡ Some id)
+    (unused : (f : KeyedHalf) → HasHalf e f → of f.half ≢ Some id) (serves : Indexes index slot of e) where
   -- A half with that ID is kept there.
   abbrev Leads : List ℕ → List ℕ → Type 0
-  Leads q p = (x : Half) × Has (put e slot key g) (kept_half slot p x) × (of x ≡ Some q)
+  Leads q p = (x : Half) × HasHalf (put e slot key g) (keyed_half slot p x) × (of x ≡ Some q)
 
-  stays : (q p : List ℕ) (x : Half) → Has e (kept_half slot p x) → of x ≡ Some q → Has (put e slot key g) (kept_half slot p x)
+  stays : (q p : List ℕ) (x : Half) → HasHalf e (keyed_half slot p x) → of x ≡ Some q → HasHalf (put e slot key g) (keyed_half slot p x)
   stays q p x there its =
       subst (λ (hs : List (List ℕ × Half)). kept_at octets_cmp hs p ≡ Some x) (sym (put_here e slot key g))
       (found_other octets_total exact_bytes p key g x (halves_of slot e) apart there)
     where
       apart : p ≢ key
       apart is =
-          let same = subst (λ (y : List ℕ). Has e (kept_half slot y x)) is there in
+          let same = subst (λ (y : List ℕ). HasHalf e (keyed_half slot y x)) is there in
           let halves : x ≡ h = cc in
           let bad = sym its ∙ ap of halves ∙ unknown in cc
 
   leads : (q p : List ℕ) → kept_at octets_cmp (insert_entry octets_cmp index id key) q ≡ Some p → Leads q p
   leads q p found = by (found_inserted octets_total exact_bytes q id key p index found)
     where
-      here : Has (put e slot key g) (kept_half slot key g)
+      here : HasHalf (put e slot key g) (keyed_half slot key g)
       here = subst (λ (hs : List (List ℕ × Half)). kept_at octets_cmp hs key ≡ Some g) (sym (put_here e slot key g))
           (found_new octets_total key g (halves_of slot e))
 
       by : ((q ≡ id) × (p ≡ key)) ⊎ (kept_at octets_cmp index q ≡ Some p) → Leads q p
       by (inl new) =
-          (g, subst (λ (y : List ℕ). Has (put e slot key g) (kept_half slot y g)) (sym new.1) here, gained ∙ ap Some (sym new.0))
+          (g, subst (λ (y : List ℕ). HasHalf (put e slot key g) (keyed_half slot y g)) (sym new.1) here, gained ∙ ap Some (sym new.0))
       by (inr was) = let it = (serves q p).0 was in (it.0, stays q p it.0 it.1 it.2, it.2)
 
   led : (q p : List ℕ) → Leads q p → kept_at octets_cmp (insert_entry octets_cmp index id key) q ≡ Some p
@@ -121,7 +121,7 @@ module _ (of : Half → Option (List ℕ)) (index : List (List ℕ × List ℕ))
           subst (λ (y : List ℕ). kept_at octets_cmp (insert_entry octets_cmp index id key) y ≡ Some p) (sym ids)
           (found_new octets_total id key index ∙ ap Some (sym new.0))
       by (inr was) =
-          found_other octets_total exact_bytes q id key p index (λ is. unused (kept_half slot p there.0) was (there.2 ∙ ap Some is))
+          found_other octets_total exact_bytes q id key p index (λ is. unused (keyed_half slot p there.0) was (there.2 ∙ ap Some is))
           ((serves q p).1 (there.0, was, there.2))
 
   -- With an entry for the new ID, the index is exact after the half is put.
@@ -131,7 +131,7 @@ module _ (of : Half → Option (List ℕ)) (index : List (List ℕ × List ℕ))
 -- ---- components
 
 -- Components change neither the phase, the IDs nor the dialogue state.
-pub steps_follow : (way : Way) (table : Table) (components : List Component) (h g : Half) → components_by way table h components ≡ Ok g
+pub steps_follow : (way : Direction) (table : Table) (components : List Component) (h g : Half) → components_by way table h components ≡ Ok g
     → Follows h g
 steps_follow Out table components h g made = (all_sends table components h g (sym (sends_out table h components) ∙ made)).follows
 steps_follow In table components h g made =
@@ -223,7 +223,7 @@ module _ {slot : Slot} {index : List (List ℕ × List ℕ)} {s t : Halves} (r :
 -- The half is still open and kept by the same ID, and now has the other ID.
 record Gains (slot : Slot) (id : List ℕ) (h g : Half) : Type 0 where
   open_half : is_closed g.phase ≡ false
-  kept : (key : List ℕ) → IsKept slot key h → IsKept slot key g
+  kept : (key : List ℕ) → IsHalfKey slot key h → IsHalfKey slot key g
   gained : other_id slot g ≡ Some id
 
 active_gains : (slot : Slot) (id : List ℕ) (h g : Half) → Follows (active_half slot id h) g → Gains slot id h g
@@ -233,7 +233,7 @@ active_gains Accepted id h g follows =
     record { open_half = ap is_closed follows.phase; kept = λ q by_peer. follows.peer ∙ by_peer; gained = follows.own }
 
 -- The ID by which a half is kept is the other ID of the other slot.
-kept_id : (at slot : Slot) (key : List ℕ) (h g : Half) → at ≢ slot → IsKept slot key h → IsKept slot key g → other_id at g ≡ other_id at h
+kept_id : (at slot : Slot) (key : List ℕ) (h g : Half) → at ≢ slot → IsHalfKey slot key h → IsHalfKey slot key g → other_id at g ≡ other_id at h
 kept_id Begun Begun key h g apart kept too = absurd (apart refl)
 kept_id Begun Accepted key h g apart kept too = too ∙ sym kept
 kept_id Accepted Begun key h g apart kept too = too ∙ sym kept
@@ -257,7 +257,7 @@ module _ (s next : Halves) (slot : Slot) (key id : List ℕ) (k : ℕ) (h g : Ha
   updates : Updates s.slab next.slab k (Some g)
   updates = rw r.halves.0 (Updates-with_value s.slab k g (rw was refl))
 
-  by_key : IsKept slot key (half_of h)
+  by_key : IsHalfKey slot key (half_of h)
   by_key = kept_by s slot key k h held is was
 
   here : IsOpen slot key k next
@@ -275,8 +275,8 @@ module _ (s next : Halves) (slot : Slot) (key id : List ℕ) (k : ℕ) (h g : Ha
       by (inr apart) = let old = held.places other q j there in (old.0, updates.others j apart ∙ old.1, old.2, old.3, old.4)
 
   -- The stored end is still sound, if no half had the ID and the index has an entry for it.
-  pub held_gains : ((x : Half) → Has (end_of s) (kept_half slot key x) → other_id slot x ≡ None)
-      → ((f : KeptHalf) → Has (end_of s) f → other_id slot f.half ≢ Some id) → IsHeld next
+  pub held_gains : ((x : Half) → HasHalf (end_of s) (keyed_half slot key x) → other_id slot x ≡ None)
+      → ((f : KeyedHalf) → HasHalf (end_of s) f → other_id slot f.half ≢ Some id) → IsHeld next
   held_gains unknown unused = record {
     begun = rw r.halves.1 held.begun;
     accepted = rw r.halves.2 held.accepted;
@@ -287,7 +287,7 @@ module _ (s next : Halves) (slot : Slot) (key id : List ℕ) (k : ℕ) (h g : Ha
     by_peer = serves Begun (slots_eq Begun slot);
   }
     where
-      had : Has (end_of s) (kept_half slot key (half_of h))
+      had : HasHalf (end_of s) (keyed_half slot key (half_of h))
       had = has_open s slot key k h is was
 
       next_is : end_of next ≡ put (end_of s) slot key (half_of g)

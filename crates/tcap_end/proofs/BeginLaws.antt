@@ -8,11 +8,11 @@ use Rattle.tcap_end.specs.declared.half.Slot.TheVariants.{Begun, Accepted}
 use Rattle.tcap_end.specs.Step.{◌>>=◌}
 use Rattle.tcap_end.specs.Table.{Table}
 use Rattle.tcap_end.specs.Begins.{begin, fresh_in, may_begin_in}
-use Rattle.tcap_end.specs.Dialogue.{first_standing}
+use Rattle.tcap_end.specs.Dialogue.{first_dialogue_state}
 use Rattle.tcap_end.specs.End.{End, named, put}
 use Rattle.tcap_end.specs.Half.{Half}
 use Rattle.tcap_end.specs.Halves.{name_in, other_slot}
-use Rattle.tcap_end.specs.ComponentSteps.{components_by, way_of}
+use Rattle.tcap_end.specs.ComponentSteps.{components_by, direction_of}
 use Rattle.tcap_end.proofs.WayLaws.{receives_in, sends_out}
 
 module _ (table : Table) (e : End) (otid : List ℕ) (dialogue : Option Dialogue) (components : List Component) where
@@ -30,7 +30,7 @@ module _ (table : Table) (e : End) (otid : List ℕ) (dialogue : Option Dialogue
 
   -- No half has it, and the Begin may carry the portion.
   pub begins : {half : Half} (slot : Slot) → named e (name_in slot otid) ≡ None → may_begin_in slot dialogue ≡ true
-      → half ≡ fresh_in slot otid (first_standing dialogue) → begin slot table e otid dialogue components
-      ≡ (components_by (way_of (other_slot slot)) table half components >>= λ g. Ok (put e slot otid g))
+      → half ≡ fresh_in slot otid (first_dialogue_state dialogue) → begin slot table e otid dialogue components
+      ≡ (components_by (direction_of (other_slot slot)) table half components >>= λ g. Ok (put e slot otid g))
   begins {half} Begun none may same = rw (sends_out table half components, same, none, may) refl
   begins {half} Accepted none may same = rw (receives_in table half components, same, none) refl

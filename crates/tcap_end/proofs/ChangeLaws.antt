@@ -7,7 +7,7 @@ use Rattle.slab.specs.Slab.{Slab, Updates, get, with_value}
 use Rattle.slab.proofs.SlabLemmas.{Updates-with_value}
 use Rattle.tcap_end.specs.declared.fault.EndFault.{EndFault}
 use Rattle.tcap_end.specs.declared.half.Phase.TheVariants as phases
-use Rattle.tcap_end.specs.declared.half.Standing.TheVariants as standings
+use Rattle.tcap_end.specs.declared.half.DialogueState.TheVariants as dialogue_states
 use Rattle.tcap_end.specs.declared.half.Slot.{Slot}
 use Rattle.tcap_end.specs.declared.half.Slot.TheVariants.{Begun, Accepted}
 use Rattle.tcap_end.specs.declared.half_state.HalfState.{HalfState}
@@ -19,8 +19,8 @@ use Rattle.tcap_end.specs.Table.{octets_cmp}
 use Rattle.tcap_end.specs.Half.{Half, closed_half, fresh, is_closed}
 use Rattle.tcap_end.specs.HalfState.{half_of}
 use Rattle.tcap_end.specs.End.{End, put}
-use Rattle.tcap_end.specs.ReachableEnd.{Has, IsKept, Rises, halves_of}
-use Rattle.tcap_end.specs.Halves.{AnswersOver, Becomes, Indexes, IsAt, IsHeld, IsOpen, closed_at, end_of, half_at, half_in, halves_at, places_of, kept_half}
+use Rattle.tcap_end.specs.ReachableEnd.{HasHalf, IsHalfKey, Rises, halves_of}
+use Rattle.tcap_end.specs.Halves.{AnswersOver, Becomes, Indexes, IsAt, IsHeld, IsOpen, closed_at, end_of, half_at, half_in, halves_at, places_of, keyed_half}
 use Rattle.tcap_lists.proofs.MapLaws.{found_inserted, found_new, insert_again, keys_eq, kept_at, rises_inserted}
 use Rattle.tcap_end.proofs.FoundLaws.{octets_total}
 use Rattle.tcap_end.proofs.HalfLaws.{Follows}
@@ -115,7 +115,7 @@ module _ {s next : Halves} {slot : Slot} {key : List ℕ} {k : ℕ} {place : Pla
 
   -- The stored end is still sound, if the new place has the IDs of the old half and leads to no number or to an open
   -- half.
-  pub held_changed : (h : Half) → Has (end_of s) (kept_half slot key h)
+  pub held_changed : (h : Half) → HasHalf (end_of s) (keyed_half slot key h)
       → (half_at next.slab slot key place).own ≡ h.own → (half_at next.slab slot key place).peer ≡ h.peer
       → ((j : ℕ) → place ≡ Open j → IsOpen slot key j next) → IsHeld next
   held_changed h had own peer opens = record {
@@ -213,7 +213,7 @@ module _ (s : Halves) (slot : Slot) (key : List ℕ) (k : ℕ) (h : HalfState)
       changed : get (with_value s.slab k g) k ≡ Some g
       changed = (changes_on g).slab.changed
 
-      kept : (at : Slot) → IsKept at key (half_of h) → IsKept at key (half_of g)
+      kept : (at : Slot) → IsHalfKey at key (half_of h) → IsHalfKey at key (half_of g)
       kept Begun by_own = follows.own ∙ by_own
       kept Accepted by_peer = follows.peer ∙ by_peer
 
@@ -272,7 +272,7 @@ closes_begun s next slab begun slot key k h held is was freed slot_is entries ne
     closed : Closes Begun key s after
     closed = closes s after Begun key k h h.peer held at_begun was
         (record { slab = freed; here = entries; there = there; by_own = refl; by_peer = refl })
-        (ap (λ own. fresh phases.Closed own h.peer standings.Without) (sym (kept_by s Begun key k h held at_begun was)))
+        (ap (λ own. fresh phases.Closed own h.peer dialogue_states.Without) (sym (kept_by s Begun key k h held at_begun was)))
 
 -- a half whose end received the Begin
 pub closes_accepted : (s next : Halves) (slab : Slab HalfState) (accepted : BTreeMap (List ℕ) Place) (slot : Slot)
@@ -295,4 +295,4 @@ closes_accepted s next slab accepted slot key k h held is was freed slot_is entr
     closed : Closes Accepted key s after
     closed = closes s after Accepted key k h h.own held at_accepted was
         (record { slab = freed; here = entries; there = there; by_own = refl; by_peer = refl })
-        (ap (λ peer. fresh phases.Closed h.own peer standings.Without) (sym (kept_by s Accepted key k h held at_accepted was)))
+        (ap (λ peer. fresh phases.Closed h.own peer dialogue_states.Without) (sym (kept_by s Accepted key k h held at_accepted was)))

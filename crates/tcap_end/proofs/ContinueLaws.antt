@@ -7,31 +7,31 @@ use Rattle.tcap_end.specs.declared.half.Phase.{Phase}
 use Rattle.tcap_end.specs.declared.half.Phase.TheVariants as phases
 use Rattle.tcap_end.specs.declared.half.Slot.{Slot}
 use Rattle.tcap_end.specs.declared.half.Slot.TheVariants.{Begun, Accepted}
-use Rattle.tcap_end.specs.declared.half_components.Way.TheVariants.{In}
+use Rattle.tcap_end.specs.declared.half_components.Direction.TheVariants.{In}
 use Rattle.tcap_end.specs.Step.{◌>>=◌}
 use Rattle.tcap_end.specs.Dialogue.{answers_request}
-use Rattle.tcap_end.specs.End.{End, KeptHalf, is_id, put, with_own, with_peer}
+use Rattle.tcap_end.specs.End.{End, KeyedHalf, is_id, put, with_own, with_peer}
 use Rattle.tcap_end.specs.Half.{closed_half, is_closed}
 use Rattle.tcap_end.specs.Message.{active_half, receive_continue, receive_end, receive_over}
-use Rattle.tcap_end.specs.ReachableEnd.{FitsPhase, Has, IsEnd, IsKept}
+use Rattle.tcap_end.specs.ReachableEnd.{FitsPhase, HasHalf, IsEnd, IsHalfKey}
 use Rattle.tcap_end.specs.Table.{Table}
-use Rattle.tcap_end.specs.ComponentSteps.{components_by, way_of}
+use Rattle.tcap_end.specs.ComponentSteps.{components_by, direction_of}
 use Rattle.tcap_end.proofs.WayLaws.{receives_in}
 
 -- ---- a Continue
 
 -- A half in Sent does not know its peer's ID.
-pub sent_peer : (e : End) (f : KeptHalf) → IsEnd e → Has e f → f.half.phase ≡ phases.Sent → f.half.peer ≡ None
+pub sent_peer : (e : End) (f : KeyedHalf) → IsEnd e → HasHalf e f → f.half.phase ≡ phases.Sent → f.half.peer ≡ None
 sent_peer e f sound had is = (subst (λ (p : Phase). FitsPhase p f.half) is (sound.halves f had).phase).1
 
-pub sent_begun : (e : End) (f : KeptHalf) → IsEnd e → Has e f → f.half.phase ≡ phases.Sent → f.slot ≡ Begun
+pub sent_begun : (e : End) (f : KeyedHalf) → IsEnd e → HasHalf e f → f.half.phase ≡ phases.Sent → f.slot ≡ Begun
 sent_begun e f sound had is = by f.slot (sound.kept f had)
   where
-    by : (slot : Slot) → IsKept slot f.key f.half → slot ≡ Begun
+    by : (slot : Slot) → IsHalfKey slot f.key f.half → slot ≡ Begun
     by Begun kept = refl
     by Accepted kept = let none = sent_peer e f sound had is in cc
 
-module _ {f : KeptHalf} (table : Table) (e : End) (otid dtid : List ℕ) (dialogue : Option Dialogue) (components : List Component)
+module _ {f : KeyedHalf} (table : Table) (e : End) (otid dtid : List ℕ) (dialogue : Option Dialogue) (components : List Component)
     (is : with_own e dtid ≡ Some f) where
   -- The half is closed, or in Received.
   pub over_closed : is_closed f.half.phase ≡ true → receive_continue table e otid dtid dialogue components ≡ Err faults.NoTransaction
@@ -59,13 +59,13 @@ module _ {f : KeptHalf} (table : Table) (e : End) (otid dtid : List ℕ) (dialog
       → receive_continue table e otid dtid dialogue components ≡ Err faults.IdUsed
   over_used sent used = rw (is, sent, used) refl
 
-  pub over_unanswered : f.half.phase ≡ phases.Sent → with_peer e otid ≡ None → answers_request f.half.standing dialogue ≡ false
+  pub over_unanswered : f.half.phase ≡ phases.Sent → with_peer e otid ≡ None → answers_request f.half.dialogue_state dialogue ≡ false
       → receive_continue table e otid dtid dialogue components ≡ Err faults.WrongDialogue
   over_unanswered sent none not_answered = rw (is, sent, none, not_answered) refl
 
-  pub over_first : f.half.phase ≡ phases.Sent → with_peer e otid ≡ None → answers_request f.half.standing dialogue ≡ true → f.slot ≡ Begun
+  pub over_first : f.half.phase ≡ phases.Sent → with_peer e otid ≡ None → answers_request f.half.dialogue_state dialogue ≡ true → f.slot ≡ Begun
       → receive_continue table e otid dtid dialogue components
-      ≡ (components_by (way_of f.slot) table (active_half f.slot otid f.half) components >>= λ g. Ok (put e f.slot f.key g))
+      ≡ (components_by (direction_of f.slot) table (active_half f.slot otid f.half) components >>= λ g. Ok (put e f.slot f.key g))
   over_first sent none answered at =
       rw (is, at, receives_in table (active_half Begun otid f.half) components, sent, none, answered) refl
 
@@ -81,9 +81,9 @@ module _ {f : KeptHalf} (table : Table) (e : End) (otid dtid : List ℕ) (dialog
 
 -- ---- an End or an Abort
 
-pub end_closes : {o : Option KeptHalf} {f : KeptHalf} (e : End) → o ≡ Some f → is_closed f.half.phase ≡ false
+pub end_closes : {o : Option KeyedHalf} {f : KeyedHalf} (e : End) → o ≡ Some f → is_closed f.half.phase ≡ false
     → receive_end e o ≡ put e f.slot f.key (closed_half f.half)
 end_closes e is is_open = rw (is, is_open) refl
 
-pub end_dropped : {o : Option KeptHalf} {f : KeptHalf} (e : End) → o ≡ Some f → is_closed f.half.phase ≡ true → receive_end e o ≡ e
+pub end_dropped : {o : Option KeyedHalf} {f : KeyedHalf} (e : End) → o ≡ Some f → is_closed f.half.phase ≡ true → receive_end e o ≡ e
 end_dropped e is shut = rw (is, shut) refl

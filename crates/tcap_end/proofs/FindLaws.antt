@@ -17,9 +17,9 @@ use Rattle.tcap_end.specs.declared.halves.Place.TheVariants.{Open, Closed}
 use Rattle.tcap_end.specs.Table.{octets_cmp}
 use Rattle.tcap_end.specs.Half.{Half, is_closed}
 use Rattle.tcap_end.specs.HalfState.{half_of, kept_id}
-use Rattle.tcap_end.specs.End.{End, KeptHalf, first_half, half_where, is_id, named}
-use Rattle.tcap_end.specs.ReachableEnd.{Has, IsEnd, IsKept, IsSame, halves_of}
-use Rattle.tcap_end.specs.Halves.{Indexes, IsAt, IsNumbered, IsHeld, IsOpen, closed_at, end_of, half_at, half_in, halves_at, index_of, kept_half, name_in, other_slot, places_of}
+use Rattle.tcap_end.specs.End.{End, KeyedHalf, first_half, half_where, is_id, named}
+use Rattle.tcap_end.specs.ReachableEnd.{HasHalf, IsEnd, IsHalfKey, IsSame, halves_of}
+use Rattle.tcap_end.specs.Halves.{Indexes, IsAt, IsNumbered, IsHeld, IsOpen, closed_at, end_of, half_at, half_in, halves_at, index_of, keyed_half, name_in, other_slot, places_of}
 use Rattle.tcap_lists.proofs.MapLaws.{kept_at}
 use Rattle.tcap_end.proofs.FoundLaws.{none_own, none_peer, own_has, peer_has}
 
@@ -45,17 +45,17 @@ half_there s Accepted key = halves_there s.slab Accepted key s.accepted.entries
 
 -- The half of each place is kept by the end.
 pub has_there : (s : Halves) (slot : Slot) (key : List ℕ) (place : Place)
-    → IsAt slot key place s → Has (end_of s) (kept_half slot key (half_at s.slab slot key place))
+    → IsAt slot key place s → HasHalf (end_of s) (keyed_half slot key (half_at s.slab slot key place))
 has_there s slot key place there = half_there s slot key ∙ ap (option_map (half_at s.slab slot key)) there
 
 -- A half that the end keeps is that of its place.
 pub had_there : (s : Halves) (slot : Slot) (key : List ℕ) (place : Place) (h : Half)
-    → IsAt slot key place s → Has (end_of s) (kept_half slot key h) → h ≡ half_at s.slab slot key place
+    → IsAt slot key place s → HasHalf (end_of s) (keyed_half slot key h) → h ≡ half_at s.slab slot key place
 had_there s slot key place h there had = let one = sym had ∙ has_there s slot key place there in cc
 
 -- Without a place, the end keeps no half.
 pub none_there : {P : Type 0} (s : Halves) (slot : Slot) (key : List ℕ) (h : Half)
-    → kept_at octets_cmp (places_of slot s) key ≡ None → Has (end_of s) (kept_half slot key h) → P
+    → kept_at octets_cmp (places_of slot s) key ≡ None → HasHalf (end_of s) (keyed_half slot key h) → P
 none_there s slot key h none had =
     let bad = sym had ∙ half_there s slot key ∙ ap (option_map (half_at s.slab slot key)) none in cc
 
@@ -93,7 +93,7 @@ still_numbered s t found begun accepted is = subst kept (sym (same found.slot)) 
 
 -- the state under the number of an open place
 pub open_there : (s : Halves) (slot : Slot) (key : List ℕ) (k : ℕ) (h : Half) (r : Option (Bor HalfState)) → IsHeld s
-    → IsAt slot key (Open k) s → option_copied r ≡ get s.slab k → Has (end_of s) (kept_half slot key h)
+    → IsAt slot key (Open k) s → option_copied r ≡ get s.slab k → HasHalf (end_of s) (keyed_half slot key h)
     → MatchOption r (is_closed h.phase ≡ true) (λ half. (half_of half.now ≡ h) × (is_closed h.phase ≡ false))
 open_there s slot key k h r held there is had = by r (is ∙ state.1)
   where
@@ -113,17 +113,17 @@ closed_is Begun key other = refl
 closed_is Accepted key other = refl
 
 pub closed_there : (s : Halves) (slot : Slot) (key : List ℕ) (other : Option (List ℕ)) (h : Half)
-    → IsAt slot key (Closed other) s → Has (end_of s) (kept_half slot key h) → is_closed h.phase ≡ true
+    → IsAt slot key (Closed other) s → HasHalf (end_of s) (keyed_half slot key h) → is_closed h.phase ≡ true
 closed_there s slot key other h there had = rw (had_there s slot key (Closed other) h there had) (closed_is slot key other)
 
 -- ---- the half that is found passes the test
 
-first_passes : (passes : Half → Bool) (slot : Slot) (es : List (List ℕ × Half)) (f : KeptHalf)
+first_passes : (passes : Half → Bool) (slot : Slot) (es : List (List ℕ × Half)) (f : KeyedHalf)
     → first_half passes slot es ≡ Some f → passes f.half ≡ true
 first_passes passes slot [] f is = cc
 first_passes passes slot ((key, half) ∷ es) f is = by (passes half) refl is (first_passes passes slot es f)
   where
-    first : KeptHalf
+    first : KeyedHalf
     first = record { slot = slot; key = key; half = half }
 
     by : (b : Bool) → passes half ≡ b → cond b (Some first) (first_half passes slot es) ≡ Some f
@@ -131,10 +131,10 @@ first_passes passes slot ((key, half) ∷ es) f is = by (passes half) refl is (f
     by true so is rest = let same : first ≡ f = cc in rw (← same) so
     by false so is rest = rest is
 
-found_passes : (passes : Half → Bool) (e : End) (f : KeptHalf) → half_where passes e ≡ Some f → passes f.half ≡ true
+found_passes : (passes : Half → Bool) (e : End) (f : KeyedHalf) → half_where passes e ≡ Some f → passes f.half ≡ true
 found_passes passes e f is = by (first_half passes Begun e.begun) refl
   where
-    by : (o : Option KeptHalf) → first_half passes Begun e.begun ≡ o → passes f.half ≡ true
+    by : (o : Option KeyedHalf) → first_half passes Begun e.begun ≡ o → passes f.half ≡ true
     by None none = first_passes passes Accepted e.accepted f (rw none at is)
     by (Some g) some = first_passes passes Begun e.begun f (let same = rw some at is in some ∙ same)
 
@@ -145,25 +145,25 @@ same_id id (Some other) is = ap Some (sym ((bytes_eq-Decides id other).0 is))
 -- ---- the half that has an ID
 
 -- At most one half has the ID, and the search finds it.
-pub record Finds (id_in : Half → Option (List ℕ)) (e : End) (id : List ℕ) (found : Option KeptHalf) : Type 0 where
-  pub had : (g : KeptHalf) → found ≡ Some g → Has e g × (id_in g.half ≡ Some id)
-  pub one : (f : KeptHalf) → Has e f → id_in f.half ≡ Some id → (h : Half) × (found ≡ Some (kept_half f.slot f.key h))
+pub record Finds (id_in : Half → Option (List ℕ)) (e : End) (id : List ℕ) (found : Option KeyedHalf) : Type 0 where
+  pub had : (g : KeyedHalf) → found ≡ Some g → HasHalf e g × (id_in g.half ≡ Some id)
+  pub one : (f : KeyedHalf) → HasHalf e f → id_in f.half ≡ Some id → (h : Half) × (found ≡ Some (keyed_half f.slot f.key h))
 
 module _ (id_in : Half → Option (List ℕ)) (e : End) (id : List ℕ) where
-  abbrev found : Option KeptHalf
+  abbrev found : Option KeyedHalf
   found = half_where (λ h. is_id id (id_in h)) e
 
-  finds : ((g : KeptHalf) → found ≡ Some g → Has e g)
-      → ((f : KeptHalf) → found ≡ None → Has e f → id_in f.half ≡ Some id → true ≡ false)
-      → ((f g : KeptHalf) (id : List ℕ) → Has e f → Has e g → id_in f.half ≡ Some id → id_in g.half ≡ Some id → IsSame f g)
+  finds : ((g : KeyedHalf) → found ≡ Some g → HasHalf e g)
+      → ((f : KeyedHalf) → found ≡ None → HasHalf e f → id_in f.half ≡ Some id → true ≡ false)
+      → ((f g : KeyedHalf) (id : List ℕ) → HasHalf e f → HasHalf e g → id_in f.half ≡ Some id → id_in g.half ≡ Some id → IsSame f g)
       → Finds id_in e id found
   finds has none unique = record { had = had; one = λ f there its. by f there its found refl }
     where
-      had : (g : KeptHalf) → found ≡ Some g → Has e g × (id_in g.half ≡ Some id)
+      had : (g : KeyedHalf) → found ≡ Some g → HasHalf e g × (id_in g.half ≡ Some id)
       had g is = (has g is, same_id id (id_in g.half) (found_passes (λ h. is_id id (id_in h)) e g is))
 
-      by : (f : KeptHalf) → Has e f → id_in f.half ≡ Some id → (o : Option KeptHalf) → found ≡ o
-          → (h : Half) × (found ≡ Some (kept_half f.slot f.key h))
+      by : (f : KeyedHalf) → HasHalf e f → id_in f.half ≡ Some id → (o : Option KeyedHalf) → found ≡ o
+          → (h : Half) × (found ≡ Some (keyed_half f.slot f.key h))
       by f there its None nothing = let bad = none f nothing there its in cc
       by f there its (Some g) some =
           let same = unique f g id there (has g some) its (had g some).1 in (g.half, some ∙ rw (same.0, same.1) refl)
@@ -173,36 +173,36 @@ id_finds Begun e id sound = finds (λ h. h.own) e id (own_has e id sound) (λ f.
 id_finds Accepted e id sound = finds (λ h. h.peer) e id (peer_has e id sound) (λ f. none_peer e id f) sound.one_peer
 
 -- A half has the ID by which it is kept.
-pub is_its : (slot : Slot) (key : List ℕ) (h : Half) → IsKept slot key h → kept_id slot h ≡ Some key
+pub is_its : (slot : Slot) (key : List ℕ) (h : Half) → IsHalfKey slot key h → kept_id slot h ≡ Some key
 is_its Begun key h own = own
 is_its Accepted key h peer = peer
 
 -- ---- places and indexes agree with the search
 
 -- If a place has this ID, its half is found.
-pub at_place : (id_in : Half → Option (List ℕ)) (s : Halves) (slot : Slot) (id : List ℕ) (o : Option KeptHalf)
-    → Finds id_in (end_of s) id o → ((h : Half) → Has (end_of s) (kept_half slot id h) → id_in h ≡ Some id)
-    → is_some (kept_at octets_cmp (places_of slot s) id) ≡ true → (h : Half) × (o ≡ Some (kept_half slot id h))
+pub at_place : (id_in : Half → Option (List ℕ)) (s : Halves) (slot : Slot) (id : List ℕ) (o : Option KeyedHalf)
+    → Finds id_in (end_of s) id o → ((h : Half) → HasHalf (end_of s) (keyed_half slot id h) → id_in h ≡ Some id)
+    → is_some (kept_at octets_cmp (places_of slot s) id) ≡ true → (h : Half) × (o ≡ Some (keyed_half slot id h))
 at_place id_in s slot id o law kept some = by (kept_at octets_cmp (places_of slot s) id) refl some
   where
     by : (p : Option Place) → kept_at octets_cmp (places_of slot s) id ≡ p → is_some p ≡ true
-        → (h : Half) × (o ≡ Some (kept_half slot id h))
+        → (h : Half) × (o ≡ Some (keyed_half slot id h))
     by None there is = cc
     by (Some place) there is =
         let had = has_there s slot id place there in
-        law.one (kept_half slot id (half_at s.slab slot id place)) had (kept (half_at s.slab slot id place) had)
+        law.one (keyed_half slot id (half_at s.slab slot id place)) had (kept (half_at s.slab slot id place) had)
 
 -- If the index has this ID, the half that it leads to is found.
-pub led_on : (id_in : Half → Option (List ℕ)) (e : End) (slot : Slot) (id key : List ℕ) (o : Option KeptHalf)
+pub led_on : (id_in : Half → Option (List ℕ)) (e : End) (slot : Slot) (id key : List ℕ) (o : Option KeyedHalf)
     (index : List (List ℕ × List ℕ)) → Finds id_in e id o → Indexes index slot id_in e → kept_at octets_cmp index id ≡ Some key
-    → (h : Half) × (o ≡ Some (kept_half slot key h))
-led_on id_in e slot id key o index law leads is = let it = (leads id key).0 is in law.one (kept_half slot key it.0) it.1 it.2
+    → (h : Half) × (o ≡ Some (keyed_half slot key h))
+led_on id_in e slot id key o index law leads is = let it = (leads id key).0 is in law.one (keyed_half slot key it.0) it.1 it.2
 
 -- If neither the places nor the index have this ID, no half is found.
-pub nowhere : (id_in : Half → Option (List ℕ)) (s : Halves) (slot other : Slot) (id : List ℕ) (o : Option KeptHalf)
+pub nowhere : (id_in : Half → Option (List ℕ)) (s : Halves) (slot other : Slot) (id : List ℕ) (o : Option KeyedHalf)
     (index : List (List ℕ × List ℕ))
     → Finds id_in (end_of s) id o → Indexes index other id_in (end_of s)
-    → ((f : KeptHalf) → Has (end_of s) f → id_in f.half ≡ Some id → ((f.slot ≡ slot) × (f.key ≡ id)) ⊎ (f.slot ≡ other))
+    → ((f : KeyedHalf) → HasHalf (end_of s) f → id_in f.half ≡ Some id → ((f.slot ≡ slot) × (f.key ≡ id)) ⊎ (f.slot ≡ other))
     → is_some (kept_at octets_cmp (places_of slot s) id) ≡ false → kept_at octets_cmp index id ≡ None → o ≡ None
 nowhere id_in s slot other id o index law leads parts unkept unled = by o refl
   where
@@ -210,12 +210,12 @@ nowhere id_in s slot other id o index law leads parts unkept unled = by o refl
     no_place None is = refl
     no_place (Some place) is = cc
 
-    no_half : (f : KeptHalf) → Has (end_of s) f → id_in f.half ≡ Some id → ((f.slot ≡ slot) × (f.key ≡ id)) ⊎ (f.slot ≡ other) → o ≡ None
+    no_half : (f : KeyedHalf) → HasHalf (end_of s) f → id_in f.half ≡ Some id → ((f.slot ≡ slot) × (f.key ≡ id)) ⊎ (f.slot ≡ other) → o ≡ None
     no_half f had its (inl kept) =
         none_there s slot id f.half (no_place (kept_at octets_cmp (places_of slot s) id) unkept) (rw (kept.0, kept.1) at had)
     no_half f had its (inr led) = let bad = sym unled ∙ (leads id f.key).1 (f.half, rw led at had, its) in cc
 
-    by : (p : Option KeptHalf) → o ≡ p → o ≡ None
+    by : (p : Option KeyedHalf) → o ≡ p → o ≡ None
     by None is = is
     by (Some f) is = let it = law.had f is in no_half f it.0 it.1 (parts f it.0 it.1)
 
@@ -231,11 +231,11 @@ found_some s slot key f told = rw (told.0, told.1) at (by f.number told.2)
     by (Some k) it = ap is_some it
 
 -- If the index has the ID, a place is found.
-pub led_found : (id_in : Half → Option (List ℕ)) (s : Halves) (slot : Slot) (id key : List ℕ) (o : Option KeptHalf) (r : Option HalfKey)
-    → Finds id_in (end_of s) id o → (h : Half) × (o ≡ Some (kept_half slot key h))
+pub led_found : (id_in : Half → Option (List ℕ)) (s : Halves) (slot : Slot) (id key : List ℕ) (o : Option KeyedHalf) (r : Option HalfKey)
+    → Finds id_in (end_of s) id o → (h : Half) × (o ≡ Some (keyed_half slot key h))
     → MatchOption r (kept_at octets_cmp (places_of slot s) key ≡ None) (λ f. (f.slot ≡ slot) × (f.key ≡ key) × IsNumbered f s)
-    → MatchOption r (o ≡ None) (λ f. (h : Half) × (o ≡ Some (kept_half f.slot f.key h)))
-led_found id_in s slot id key o None law led none = none_there s slot key led.0 none (law.had (kept_half slot key led.0) led.1).0
+    → MatchOption r (o ≡ None) (λ f. (h : Half) × (o ≡ Some (keyed_half f.slot f.key h)))
+led_found id_in s slot id key o None law led none = none_there s slot key led.0 none (law.had (keyed_half slot key led.0) led.1).0
 led_found id_in s slot id key o (Some f) law led told = rw (told.0, told.1) led
 
 -- The index of the other slot leads to its halves.
@@ -245,11 +245,11 @@ index_serves Begun s held = held.by_own
 index_serves Accepted s held = held.by_peer
 
 -- A half with such an ID is kept by it, or in the other slot.
-pub id_parts : (slot : Slot) (e : End) (id : List ℕ) → IsEnd e → (f : KeptHalf) → Has e f → kept_id slot f.half ≡ Some id
+pub id_parts : (slot : Slot) (e : End) (id : List ℕ) → IsEnd e → (f : KeyedHalf) → HasHalf e f → kept_id slot f.half ≡ Some id
     → ((f.slot ≡ slot) × (f.key ≡ id)) ⊎ (f.slot ≡ other_slot slot)
 id_parts slot e id sound f had its = by slot f.slot (sound.kept f had) its
   where
-    by : (slot at : Slot) → IsKept at f.key f.half → kept_id slot f.half ≡ Some id
+    by : (slot at : Slot) → IsHalfKey at f.key f.half → kept_id slot f.half ≡ Some id
         → ((at ≡ slot) × (f.key ≡ id)) ⊎ (at ≡ other_slot slot)
     by Begun Begun kept its = inl (refl, cc)
     by Begun Accepted kept its = inr refl

@@ -7,11 +7,11 @@ use Rattle.std.specs.Ordering.{int_cmp}
 use Rattle.tcap_parts.specs.declared.dialogue.Dialogue.{Dialogue}
 use Rattle.tcap_end.specs.declared.half.Phase.{Phase}
 use Rattle.tcap_end.specs.declared.half.Phase.TheVariants as phases
-use Rattle.tcap_end.specs.declared.half.Standing.{Standing}
-use Rattle.tcap_end.specs.declared.half.Standing.TheVariants as standings
+use Rattle.tcap_end.specs.declared.half.DialogueState.{DialogueState}
+use Rattle.tcap_end.specs.declared.half.DialogueState.TheVariants as dialogue_states
 use Rattle.tcap_end.specs.declared.own_invocations.OwnInvocation.{OwnInvocation}
 use Rattle.tcap_end.specs.Half.{Answer, Half, Invocation, closed_half, fresh}
-use Rattle.tcap_end.specs.Dialogue.{confirm, first_standing, is_request}
+use Rattle.tcap_end.specs.Dialogue.{confirm, first_dialogue_state, is_request}
 use Rattle.tcap_end.specs.Message.{active_half, is_active, is_received}
 use Rattle.tcap_end.specs.declared.half.Slot.TheVariants.{Begun, Accepted}
 use Rattle.tcap_end.specs.ReachableEnd.{FitsPhase, HasItems, IsHalf, Rises}
@@ -28,7 +28,7 @@ pub record Follows (h g : Half) : Type 0 where
   pub phase : g.phase ≡ h.phase
   pub own : g.own ≡ h.own
   pub peer : g.peer ≡ h.peer
-  pub standing : g.standing ≡ h.standing
+  pub dialogue_state : g.dialogue_state ≡ h.dialogue_state
   pub out : Rises int_cmp h.out → Rises int_cmp g.out
   pub inn : IsListed h.inn → IsListed g.inn
   pub grants : IsListed h.grants → IsListed g.grants
@@ -38,7 +38,7 @@ follows_lists : (h : Half) (out : List (ℤ × OwnInvocation)) (inn : List (ℤ 
     → (Rises int_cmp h.out → Rises int_cmp out) → (IsListed h.inn → IsListed inn) → (IsListed h.grants → IsListed grants)
     → Follows h (record h { out = out; inn = inn; grants = grants })
 follows_lists h out inn grants of_out of_inn of_grants =
-    record { phase = refl; own = refl; peer = refl; standing = refl; out = of_out; inn = of_inn; grants = of_grants }
+    record { phase = refl; own = refl; peer = refl; dialogue_state = refl; out = of_out; inn = of_inn; grants = of_grants }
 
 pub follows_self : (h : Half) → Follows h h
 follows_self h = follows_lists h h.out h.inn h.grants (λ is. is) (λ is. is) (λ is. is)
@@ -60,7 +60,7 @@ follows_then h g k first second = record {
   phase = second.phase ∙ first.phase;
   own = second.own ∙ first.own;
   peer = second.peer ∙ first.peer;
-  standing = second.standing ∙ first.standing;
+  dialogue_state = second.dialogue_state ∙ first.dialogue_state;
   out = λ is. second.out (first.out is);
   inn = λ is. second.inn (first.inn is);
   grants = λ is. second.grants (first.grants is);
@@ -82,10 +82,10 @@ StaysInn _ h g = Unit {0}
 
 fits_follows : (p : Phase) (h g : Half) → Follows h g → StaysOut p h g → StaysInn p h g → FitsPhase p h → FitsPhase p g
 fits_follows phases.Sent h g f out inn fits =
-    (rw (f.own) (fits.0), f.peer ∙ fits.1, rw (f.standing) (fits.2), inn.0 fits.3, inn.1 fits.4)
-fits_follows phases.Received h g f out inn fits = (f.own ∙ fits.0, rw (f.peer) (fits.1), rw (f.standing) (fits.2), out fits.3)
-fits_follows phases.Active h g f out inn fits = (rw (f.own) (fits.0), rw (f.peer) (fits.1), rw (f.standing) (fits.2))
-fits_follows phases.Closed h g f out inn fits = (f.standing ∙ fits.0, out fits.1, inn.0 fits.2, inn.1 fits.3)
+    (rw (f.own) (fits.0), f.peer ∙ fits.1, rw (f.dialogue_state) (fits.2), inn.0 fits.3, inn.1 fits.4)
+fits_follows phases.Received h g f out inn fits = (f.own ∙ fits.0, rw (f.peer) (fits.1), rw (f.dialogue_state) (fits.2), out fits.3)
+fits_follows phases.Active h g f out inn fits = (rw (f.own) (fits.0), rw (f.peer) (fits.1), rw (f.dialogue_state) (fits.2))
+fits_follows phases.Closed h g f out inn fits = (f.dialogue_state ∙ fits.0, out fits.1, inn.0 fits.2, inn.1 fits.3)
 
 -- A half is sound after a step that keeps its phase.
 pub half_follows : (p : Phase) (h g : Half) → h.phase ≡ p → IsHalf h → Follows h g → StaysOut p h g → StaysInn p h g → IsHalf g
@@ -100,26 +100,26 @@ half_follows p h g is half f out inn =
 
 -- ---- halves that begin, are answered, lose an invocation, close
 
-asked_not_confirmed : (b : Bool) → cond b standings.Asked standings.Without ≢ standings.Confirmed
+asked_not_confirmed : (b : Bool) → cond b dialogue_states.Requested dialogue_states.Without ≢ dialogue_states.Confirmed
 asked_not_confirmed true is = cc
 asked_not_confirmed false is = cc
 
-confirmed_not_asked : (standing : Standing) → confirm standing ≢ standings.Asked
-confirmed_not_asked standings.Without is = cc
-confirmed_not_asked standings.Asked is = cc
-confirmed_not_asked standings.Confirmed is = cc
+confirmed_not_asked : (dialogue_state : DialogueState) → confirm dialogue_state ≢ dialogue_states.Requested
+confirmed_not_asked dialogue_states.Without is = cc
+confirmed_not_asked dialogue_states.Requested is = cc
+confirmed_not_asked dialogue_states.Confirmed is = cc
 
-fresh_half : (phase : Phase) (own peer : Option (List ℕ)) (standing : Standing)
-    → FitsPhase phase (fresh phase own peer standing) → IsHalf (fresh phase own peer standing)
+fresh_half : (phase : Phase) (own peer : Option (List ℕ)) (dialogue_state : DialogueState)
+    → FitsPhase phase (fresh phase own peer dialogue_state) → IsHalf (fresh phase own peer dialogue_state)
 unfolding IsStrictlySortedBy
-fresh_half phase own peer standing fits = record { phase = fits; out = tt; inn = (tt, tt); grants = (tt, tt) }
+fresh_half phase own peer dialogue_state fits = record { phase = fits; out = tt; inn = (tt, tt); grants = (tt, tt) }
 
 pub half_sent : (own : List ℕ) (dialogue : Option Dialogue)
-    → IsHalf (fresh phases.Sent (Some own) None (first_standing dialogue))
+    → IsHalf (fresh phases.Sent (Some own) None (first_dialogue_state dialogue))
 half_sent own dialogue = fresh_half _ _ _ _ (refl, refl, asked_not_confirmed (is_request dialogue), refl, refl)
 
 pub half_received : (peer : List ℕ) (dialogue : Option Dialogue)
-    → IsHalf (fresh phases.Received None (Some peer) (first_standing dialogue))
+    → IsHalf (fresh phases.Received None (Some peer) (first_dialogue_state dialogue))
 half_received peer dialogue = fresh_half _ _ _ _ (refl, refl, asked_not_confirmed (is_request dialogue), refl)
 
 pub half_closed : (h : Half) → IsHalf (closed_half h)
@@ -129,12 +129,12 @@ half_closed h = fresh_half _ _ _ _ (refl, refl, refl, refl)
 pub half_answered : (own : List ℕ) (h : Half) → h.phase ≡ phases.Received → IsHalf h → IsHalf (active_half Accepted own h)
 half_answered own h is half =
     let fits = rw is at half.phase in
-    record { phase = (refl, fits.1, confirmed_not_asked h.standing); out = half.out; inn = half.inn; grants = half.grants }
+    record { phase = (refl, fits.1, confirmed_not_asked h.dialogue_state); out = half.out; inn = half.inn; grants = half.grants }
 
 pub half_learned : (peer : List ℕ) (h : Half) → h.phase ≡ phases.Sent → IsHalf h → IsHalf (active_half Begun peer h)
 half_learned peer h is half =
     let fits = rw is at half.phase in
-    record { phase = (fits.0, refl, confirmed_not_asked h.standing); out = half.out; inn = half.inn; grants = half.grants }
+    record { phase = (fits.0, refl, confirmed_not_asked h.dialogue_state); out = half.out; inn = half.inn; grants = half.grants }
 
 stays_out : (p : Phase) (h g : Half) → (h.out ≡ [] → g.out ≡ []) → StaysOut p h g
 stays_out phases.Sent h g stays = tt

@@ -11,7 +11,7 @@ use Rattle.tcap_end.specs.declared.half.Phase.TheVariants as phases
 use Rattle.tcap_end.specs.declared.own_invocations.OwnInvocation.{OwnInvocation}
 use Rattle.tcap_end.specs.declared.own_invocations.Outs.{Outs}
 use Rattle.tcap_end.specs.Component.{own_invocation}
-use Rattle.tcap_end.specs.End.{End, KeptHalf, named, put}
+use Rattle.tcap_end.specs.End.{End, KeyedHalf, named, put}
 use Rattle.tcap_end.specs.Half.{Half, closed_half, is_closed}
 use Rattle.tcap_end.specs.HiddenSteps.{close, expire, may_close, may_expire, without_invocation, open_named}
 use Rattle.tcap_end.specs.OwnInvocations.{HasPlace, kept_outs}
@@ -29,7 +29,7 @@ closed_never table phases.Active is = cc
 closed_never table phases.Closed is = refl
 
 -- A half that may not close is refused, and so is a closed one; any other half closes.
-module _ {f : KeptHalf} (table : Table) (e : End) (name : HalfName) (is : named e name ≡ Some f) where
+module _ {f : KeyedHalf} (table : Table) (e : End) (name : HalfName) (is : named e name ≡ Some f) where
   pub stays_open : may_close table f.half.phase ≡ false → close table e name ≡ Err faults.CannotClose
   stays_open may_not = rw (is, may_not) refl
 
@@ -40,7 +40,7 @@ module _ {f : KeptHalf} (table : Table) (e : End) (name : HalfName) (is : named 
   half_closes may = rw (is, may) refl
 
 -- the view of the half with a name, if it is open and if it is closed
-module _ {f : KeptHalf} (e : End) (name : HalfName) (is : named e name ≡ Some f) where
+module _ {f : KeyedHalf} (e : End) (name : HalfName) (is : named e name ≡ Some f) where
   pub knows_open : is_closed f.half.phase ≡ false → open_named e name ≡ Some f.half
   knows_open open_half = rw (is, open_half) refl
 
@@ -75,7 +75,7 @@ pub sent_may : (table : Table) (i : OwnInvocation) → i.state ≡ states.Operat
 sent_may table i is = rw is refl
 
 -- The step is refused if the half is closed or the invocation may not expire; else the invocation ends.
-module _ {f : KeptHalf} (table : Table) (e : End) (name : HalfName) (id : ℤ) (is : named e name ≡ Some f) where
+module _ {f : KeyedHalf} (table : Table) (e : End) (name : HalfName) (id : ℤ) (is : named e name ≡ Some f) where
   pub closed_stays : is_closed f.half.phase ≡ true → expire table e name id ≡ Err faults.CannotExpire
   closed_stays shut = rw (is, shut) refl
 

@@ -8,7 +8,7 @@ use Rattle.tcap_end.specs.declared.own_invocations.Outs.{Outs}
 use Rattle.tcap_end.specs.Half.{Answer, Invocation, with_newest}
 use Rattle.tcap_lists.specs.Lists.{HasRow, KeepsRows, one_less, rows_of}
 use Rattle.tcap_end.specs.OwnInvocations.{HasPlace}
-use Rattle.tcap_end.specs.HalfState.{CanUndo, IsUndone, Keeps, StillUndoes, kept_of, undone}
+use Rattle.tcap_end.specs.HalfState.{CanUndo, IsUndone, KeepsParts, StillUndoes, kept_of, undone}
 use Rattle.tcap_end.proofs.BackLaws.{less_again}
 use Rattle.tcap_lists.proofs.ListLaws.{whole_rows}
 use Rattle.tcap_end.proofs.UndoLaws.{keeps_then, undoes_more, undoes_too}
@@ -17,18 +17,18 @@ use Rattle.tcap_end.proofs.UndoLaws.{keeps_then, undoes_more, undoes_too}
 pub keeps_all : {K : Type 0} (l : Lists K) → KeepsRows l l
 keeps_all l = record { rows = λ id has. has; kinds = λ id number some. refl }
 
-pub keeps_out : (h : HalfState) (out : Outs) → ((id : ℤ) → HasPlace id h.out → HasPlace id out) → Keeps h (record h { out = out })
+pub keeps_out : (h : HalfState) (out : Outs) → ((id : ℤ) → HasPlace id h.out → HasPlace id out) → KeepsParts h (record h { out = out })
 keeps_out h out has = record { slot = refl; out = has; inn = keeps_all h.inn; grants = keeps_all h.grants }
 
-pub keeps_inn : (h : HalfState) (inn : Lists Invocation) → KeepsRows h.inn inn → Keeps h (record h { inn = inn })
+pub keeps_inn : (h : HalfState) (inn : Lists Invocation) → KeepsRows h.inn inn → KeepsParts h (record h { inn = inn })
 keeps_inn h inn has = record { slot = refl; out = λ id there. there; inn = has; grants = keeps_all h.grants }
 
-pub keeps_grants : (h : HalfState) (grants : Lists Answer) → KeepsRows h.grants grants → Keeps h (record h { grants = grants })
+pub keeps_grants : (h : HalfState) (grants : Lists Answer) → KeepsRows h.grants grants → KeepsParts h (record h { grants = grants })
 keeps_grants h grants has = record { slot = refl; out = λ id there. there; inn = keeps_all h.inn; grants = has }
 
 -- Whether a change was noted or undone, the changes still undo what they undid.
 pub still_noted : {A E : Type 0} (r : Result A E) (change : Change) (changes more : List Change) (h mid next : HalfState)
-    → undone change mid ≡ kept_of h → Keeps h mid → CanUndo change mid
+    → undone change mid ≡ kept_of h → KeepsParts h mid → CanUndo change mid
     → OnOk r ((next ≡ mid) × (more ≡ change ∷ changes)) → OnErr r (IsUndone change mid next × (more ≡ changes))
     → StillUndoes changes h more next
 still_noted (Ok _) change changes more h mid next back keeps can ok err =
@@ -43,7 +43,7 @@ read_noted (Ok _) changes more mid next read b ok same = ap read ok.0 ∙ same
 read_noted (Err _) changes more mid next read b ok same = tt
 
 -- The stored parts did not change.
-pub still_same : (changes : List Change) (h next : HalfState) → kept_of next ≡ kept_of h → Keeps h next → StillUndoes changes h changes next
+pub still_same : (changes : List Change) (h next : HalfState) → kept_of next ≡ kept_of h → KeepsParts h next → StillUndoes changes h changes next
 still_same changes h next same keeps = λ start u. undoes_too changes h next start same keeps u
 
 -- ---- a change of one part, noted or undone

@@ -17,8 +17,8 @@ use Rattle.tcap_end.specs.Table.{octets_cmp}
 use Rattle.tcap_end.specs.Half.{Half}
 use Rattle.tcap_end.specs.HalfState.{half_of}
 use Rattle.tcap_end.specs.End.{End, put}
-use Rattle.tcap_end.specs.ReachableEnd.{Has, IsKept, Rises, halves_of}
-use Rattle.tcap_end.specs.Halves.{Indexes, IsAt, IsHeld, IsOpen, end_of, half_at, half_in, halves_at, places_of, kept_half}
+use Rattle.tcap_end.specs.ReachableEnd.{HasHalf, IsHalfKey, Rises, halves_of}
+use Rattle.tcap_end.specs.Halves.{Indexes, IsAt, IsHeld, IsOpen, end_of, half_at, half_in, halves_at, places_of, keyed_half}
 use Rattle.tcap_lists.proofs.MapLaws.{behind_first, below_first, found_first, found_inserted, found_later, found_new, found_other, keys_eq, kept_at, tied}
 use Rattle.tcap_end.proofs.FoundLaws.{octets_total}
 use Rattle.tcap_end.proofs.FindLaws.{had_there, has_there}
@@ -112,23 +112,23 @@ elsewhere s next slot begun accepted Accepted apart = entries_are (accepted (λ 
 
 -- the half under a number
 pub the_open : (s : Halves) (slot : Slot) (key : List ℕ) (k : ℕ) (h : Half) (was : HalfState) → IsAt slot key (Open k) s
-    → get s.slab k ≡ Some was → Has (end_of s) (kept_half slot key h) → h ≡ half_of was
+    → get s.slab k ≡ Some was → HasHalf (end_of s) (keyed_half slot key h) → h ≡ half_of was
 the_open s slot key k h was is under had = had_there s slot key (Open k) h is had ∙ ap half_in under
 
 pub has_open : (s : Halves) (slot : Slot) (key : List ℕ) (k : ℕ) (was : HalfState) → IsAt slot key (Open k) s
-    → get s.slab k ≡ Some was → Has (end_of s) (kept_half slot key (half_of was))
+    → get s.slab k ≡ Some was → HasHalf (end_of s) (keyed_half slot key (half_of was))
 has_open s slot key k was is under =
-    subst (λ (o : Option HalfState). Has (end_of s) (kept_half slot key (half_in o))) under (has_there s slot key (Open k) is)
+    subst (λ (o : Option HalfState). HasHalf (end_of s) (keyed_half slot key (half_in o))) under (has_there s slot key (Open k) is)
 
 -- The half is kept by its ID.
 pub kept_by : (s : Halves) (slot : Slot) (key : List ℕ) (k : ℕ) (h : HalfState) → IsHeld s → IsAt slot key (Open k) s
-    → get s.slab k ≡ Some h → IsKept slot key (half_of h)
+    → get s.slab k ≡ Some h → IsHalfKey slot key (half_of h)
 kept_by s slot key k h held is was = by (held.places slot key k is)
   where
-    by : IsOpen slot key k s → IsKept slot key (half_of h)
-    by there = let same : there.0 ≡ h = cc in subst (λ (x : HalfState). IsKept slot key (half_of x)) same there.4
+    by : IsOpen slot key k s → IsHalfKey slot key (half_of h)
+    by there = let same : there.0 ≡ h = cc in subst (λ (x : HalfState). IsHalfKey slot key (half_of x)) same there.4
 
-one_key : (slot : Slot) (key q : List ℕ) (h : Half) → IsKept slot key h → IsKept slot q h → q ≡ key
+one_key : (slot : Slot) (key q : List ℕ) (h : Half) → IsHalfKey slot key h → IsHalfKey slot q h → q ≡ key
 one_key Begun key q h kept too = cc
 one_key Accepted key q h kept too = cc
 
@@ -137,8 +137,8 @@ one_open : (s : Halves) (slot other : Slot) (key q : List ℕ) (k : ℕ) → IsO
 one_open s slot other key q k first second =
     let same : second.0 ≡ first.0 = cc in
     let slots : other ≡ slot = sym second.2 ∙ ap (λ (h : HalfState). h.slot) same ∙ first.2 in
-    let kept = subst (λ (h : HalfState). IsKept other q (half_of h)) same second.4 in
-    (slots, one_key slot key q (half_of first.0) first.4 (subst (λ (x : Slot). IsKept x q (half_of first.0)) slots kept))
+    let kept = subst (λ (h : HalfState). IsHalfKey other q (half_of h)) same second.4 in
+    (slots, one_key slot key q (half_of first.0) first.4 (subst (λ (x : Slot). IsHalfKey x q (half_of first.0)) slots kept))
 
 -- A number has only one place.
 pub one_place : (s : Halves) (slot other : Slot) (key q : List ℕ) (k : ℕ) → IsHeld s → IsAt slot key (Open k) s
@@ -159,7 +159,7 @@ put_is Accepted key g e next here there =
 
 -- Each half with an ID has a counterpart in the other end, with the same ID.
 abbrev Alike : Slot → (Half → Option (List ℕ)) → End → End → Type 0
-Alike place of e next = (q : List ℕ) (x : Half) → Has e (kept_half place q x) → (y : Half) × Has next (kept_half place q y) × (of y ≡ of x)
+Alike place of e next = (q : List ℕ) (x : Half) → HasHalf e (keyed_half place q x) → (y : Half) × HasHalf next (keyed_half place q y) × (of y ≡ of x)
 
 alike_put : (of : Half → Option (List ℕ)) (es : List (List ℕ × Half)) (key : List ℕ) (h g : Half)
     → kept_at octets_cmp es key ≡ Some h → of g ≡ of h → (q : List ℕ) (x : Half) → kept_at octets_cmp es q ≡ Some x
@@ -186,14 +186,14 @@ alike_back of es key h g had same q x found = by (found_inserted octets_total ex
     by (inr old) = (x, old, refl)
 
 put_alike : (of : Half → Option (List ℕ)) (e : End) (slot place : Slot) (key : List ℕ) (h g : Half)
-    → Has e (kept_half slot key h) → of g ≡ of h → Alike place of e (put e slot key g)
+    → HasHalf e (keyed_half slot key h) → of g ≡ of h → Alike place of e (put e slot key g)
 put_alike of e Begun Begun key h g had same q x found = alike_put of e.begun key h g had same q x found
 put_alike of e Begun Accepted key h g had same q x found = (x, found, refl)
 put_alike of e Accepted Begun key h g had same q x found = (x, found, refl)
 put_alike of e Accepted Accepted key h g had same q x found = alike_put of e.accepted key h g had same q x found
 
 alike_before : (of : Half → Option (List ℕ)) (e : End) (slot place : Slot) (key : List ℕ) (h g : Half)
-    → Has e (kept_half slot key h) → of g ≡ of h → Alike place of (put e slot key g) e
+    → HasHalf e (keyed_half slot key h) → of g ≡ of h → Alike place of (put e slot key g) e
 alike_before of e Begun Begun key h g had same q x found = alike_back of e.begun key h g had same q x found
 alike_before of e Begun Accepted key h g had same q x found = (x, found, refl)
 alike_before of e Accepted Begun key h g had same q x found = (x, found, refl)
@@ -201,7 +201,7 @@ alike_before of e Accepted Accepted key h g had same q x found = alike_back of e
 
 -- The index is exact after a half is put that has the ID of the half in its place.
 pub indexes_put : (of : Half → Option (List ℕ)) (index : List (List ℕ × List ℕ)) (e : End) (slot place : Slot) (key : List ℕ) (h g : Half)
-    → Has e (kept_half slot key h) → of g ≡ of h → Indexes index place of e → Indexes index place of (put e slot key g)
+    → HasHalf e (keyed_half slot key h) → of g ≡ of h → Indexes index place of e → Indexes index place of (put e slot key g)
 indexes_put of index e slot place key h g had same serves id q = (
   λ found.
       let was = (serves id q).0 found in

@@ -19,7 +19,7 @@ use Rattle.tcap_end.specs.Step.{◌>>◌, ◌>>=◌}
 use Rattle.tcap_end.specs.End.{End, nothing, quiet}
 use Rattle.tcap_end.specs.Message.{send as send_message, receive as receive_message}
 use Rattle.tcap_end.specs.Reply.{refuse_begin as refuses_begin, refuse_continue as refuses_continue}
-use Rattle.tcap_end.specs.HiddenSteps.{expire, close, open_halves, quiet_unseen}
+use Rattle.tcap_end.specs.HiddenSteps.{expire, close, open_halves, quiet_after_closings}
 use Rattle.tcap_end.specs.Fault.{fault_number}
 
 abbrev operation : ℕ → Bool → Operation
@@ -309,7 +309,7 @@ unidirectional_components = refl
 
 -- the number of halves that close at a quiet mark after these calls, or the first reason
 abbrev mark : Table → List Call → End → Result ℕ EndFault
-mark t [] e = quiet_unseen t e >>= λ left. Ok (length (open_halves e))
+mark t [] e = quiet_after_closings t e >>= λ left. Ok (length (open_halves e))
 mark t (call ∷ calls) e = call e >>= mark t calls
 
 abbrev prearranging : Table
@@ -333,5 +333,5 @@ both_close = refl
 pub ended_half_is_closed : mark table (send v1 ∷ receive v3 ∷ []) nothing ≡ Ok 0
 ended_half_is_closed = refl
 
-pub given_up_frees : play nothing (send v7 ∷ quiet_unseen table ∷ send v7 ∷ []) ≡ 0 ∷ 0 ∷ 0 ∷ []
+pub given_up_frees : play nothing (send v7 ∷ quiet_after_closings table ∷ send v7 ∷ []) ≡ 0 ∷ 0 ∷ 0 ∷ []
 given_up_frees = refl

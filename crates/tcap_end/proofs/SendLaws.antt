@@ -24,7 +24,7 @@ use Rattle.tcap_end.specs.Table.{Table}
 use Rattle.tcap_end.specs.Half.{Half, Invocation, listed, one_fits, with_listed, without_oldest, without_oldest_of}
 use Rattle.tcap_end.specs.Component.{allows, allows_for, class_reports, may_answer, names, send_answer, send_reject}
 use Rattle.tcap_end.specs.OldestPlace.{place_of, rejected_place}
-use Rattle.tcap_end.specs.HalfState.{GoesBack, Kept, half_in, without_grant, without_inn}
+use Rattle.tcap_end.specs.HalfState.{GoesBack, StoredHalf, half_in, without_grant, without_inn}
 use Rattle.tcap_lists.specs.Lists.{KeepsRows, items_of, kind_of, rows_of, with_place}
 use Rattle.tcap_lists.specs.Row.{fits_in}
 use Rattle.tcap_end.specs.OwnInvocations.{kept_outs, with_out}
@@ -94,7 +94,7 @@ any_too fits other (item ∷ items) so e = by (fits item) refl e (any_too fits o
 any_of : {A : Type 0} (fits : A → Bool) (items : List A) → list_any fits items ≡ true → list_any (λ item. true) items ≡ true
 any_of fits items = any_too fits (λ item. true) items (λ item is. refl)
 
-module _ (table : Table) (k : Kept) (whole : Whole k.inn) (is_result : Bool) (id : ℤ) (last : Bool) (named : Option Code) where
+module _ (table : Table) (k : StoredHalf) (whole : Whole k.inn) (is_result : Bool) (id : ℤ) (last : Bool) (named : Option Code) where
   -- The answer is for another operation.
   pub is_wrong : is_some (place_of (fits_in (may_answer table is_result None)) (listed id k.inn)) ≡ true
       → place_of (fits_in (may_answer table is_result named)) (listed id k.inn) ≡ None
@@ -125,7 +125,7 @@ named_too table is_result named item = by (class_reports table is_result item.co
     by true same is = refl
     by false same is = is
 
-pub answers_one : (table : Table) (k : Kept) → Whole k.inn → (is_result last : Bool) (id : ℤ) (named : Option Code) (at : ℕ)
+pub answers_one : (table : Table) (k : StoredHalf) → Whole k.inn → (is_result last : Bool) (id : ℤ) (named : Option Code) (at : ℕ)
     → place_of (fits_in (may_answer table is_result named)) (listed id k.inn) ≡ Some at
     → send_answer table (half_in k) is_result last id named ≡ Ok (cond last (half_in (without_inn id at k)) (half_in k))
 answers_one table k whole is_result last id named at is =
@@ -137,7 +137,7 @@ answers_one table k whole is_result last id named at is =
 
 -- ---- the item that a Reject removes
 
-module _ (k : Kept) (inn : Whole k.inn) (grants : Whole k.grants) (id : ℤ) where
+module _ (k : StoredHalf) (inn : Whole k.inn) (grants : Whole k.grants) (id : ℤ) where
   none_in : {A : Type 0} (fits : A → Bool) (m : List (ℤ × List (Option A))) → Whole m → place_of (fits_in fits) (listed id m) ≡ None
       → one_fits id fits (items_of m) ≡ false
   none_in fits m whole e = one_in id fits m whole ∙ ap is_some e

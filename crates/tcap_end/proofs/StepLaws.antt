@@ -16,12 +16,12 @@ use Rattle.tcap_end.specs.declared.half.Phase.TheVariants as phases
 use Rattle.tcap_end.specs.declared.half.Slot.TheVariants.{Begun, Accepted}
 use Rattle.tcap_end.specs.Table.{Table}
 use Rattle.tcap_end.specs.Half.{Half, closed_half, fresh, is_closed}
-use Rattle.tcap_end.specs.End.{End, KeptHalf, is_id, named, put, with_own, with_peer}
+use Rattle.tcap_end.specs.End.{End, KeyedHalf, is_id, named, put, with_own, with_peer}
 use Rattle.tcap_end.specs.Step.{◌>>◌}
-use Rattle.tcap_end.specs.Dialogue.{first_standing, may_go_on}
+use Rattle.tcap_end.specs.Dialogue.{first_dialogue_state, may_go_on}
 use Rattle.tcap_end.specs.Message.{active_half, is_active, receive, receive_begin, receive_components, receive_continue, receive_end, receive_over, send, send_abort, send_begin, send_components, send_continue, send_end, send_first_continue, send_next_continue, send_uni, send_uni_components}
 use Rattle.tcap_end.specs.HiddenSteps.{close, expire, may_close, without_invocation}
-use Rattle.tcap_end.specs.ReachableEnd.{Has, IsEnd, IsHalf}
+use Rattle.tcap_end.specs.ReachableEnd.{HasHalf, IsEnd, IsHalf}
 use Rattle.tcap_end.proofs.AnsweringLaws.{needs_ok, ok_same, some_ok, then_ok}
 use Rattle.tcap_end.proofs.HalfLaws.{active_is, half_answered, half_closed, half_follows, half_learned, half_received, half_sent, half_without, received_is}
 use Rattle.tcap_end.proofs.ComponentLaws.{Receives, all_receives, all_sends}
@@ -76,14 +76,14 @@ begin_comes table e next otid dialogue components sound is =
     (put_received e otid _ sound half (none_is (with_peer e otid) step.0) comes.follows.peer comes.follows.own) step.1
   where
     start : Half
-    start = fresh phases.Received None (Some otid) (first_standing dialogue)
+    start = fresh phases.Received None (Some otid) (first_dialogue_state dialogue)
 
     comes : Receives start (receive_components table start components)
     comes = all_receives table components start
 
 -- A Continue answers a Begin, or is received over an active half.
-half_comes : (table : Table) (e next : End) (otid : List ℕ) (dialogue : Option Dialogue) (components : List Component) (f : KeptHalf)
-    → IsEnd e → Has e f → receive_over table e otid dialogue components f f.half.phase ≡ Ok next → Goes e next
+half_comes : (table : Table) (e next : End) (otid : List ℕ) (dialogue : Option Dialogue) (components : List Component) (f : KeyedHalf)
+    → IsEnd e → HasHalf e f → receive_over table e otid dialogue components f f.half.phase ≡ Ok next → Goes e next
 half_comes table e next otid dialogue components f sound had is = by f.half.phase refl is
   where
     half : IsHalf f.half
@@ -114,7 +114,7 @@ continue_comes table e next otid dtid dialogue components sound is =
     let (f, ok, step) = then_ok (ok_or (with_own e dtid) faults.NoTransaction) _ next is in
     half_comes table e next otid dialogue components f sound (own_has e dtid sound f (some_ok _ _ f ok)) step
 
-end_comes : (e : End) (o : Option KeptHalf) → ((f : KeptHalf) → o ≡ Some f → Has e f) → IsEnd e → Goes e (receive_end e o)
+end_comes : (e : End) (o : Option KeyedHalf) → ((f : KeyedHalf) → o ≡ Some f → HasHalf e f) → IsEnd e → Goes e (receive_end e o)
 end_comes e None had sound = goes_nowhere e sound
 end_comes e (Some f) had sound = by (is_closed f.half.phase) refl
   where
@@ -149,7 +149,7 @@ begin_goes table e next otid dialogue components sound is =
     (put_sent e otid g sound half (none_is (with_own e otid) free.0) goes.follows.own goes.follows.peer) put
   where
     start : Half
-    start = fresh phases.Sent (Some otid) None (first_standing dialogue)
+    start = fresh phases.Sent (Some otid) None (first_dialogue_state dialogue)
 
 first_goes : (table : Table) (e next : End) (otid dtid : List ℕ) (dialogue : Option Dialogue) (components : List Component)
     → with_own e otid ≡ None → IsEnd e → send_first_continue table e otid dtid dialogue components ≡ Ok next → Goes e next
@@ -168,12 +168,12 @@ first_goes table e next otid dtid dialogue components none sound is =
     goes_this e _ next
     (put_answered e f otid g sound had (rw at refl) goes_on none fits.0 goes.follows.own goes.follows.peer) put
 
-next_goes : (table : Table) (e next : End) (dtid : List ℕ) (dialogue : Option Dialogue) (components : List Component) (f : KeptHalf)
-    → Has e f → IsEnd e → send_next_continue table e dtid dialogue components f ≡ Ok next → Goes e next
+next_goes : (table : Table) (e next : End) (dtid : List ℕ) (dialogue : Option Dialogue) (components : List Component) (f : KeyedHalf)
+    → HasHalf e f → IsEnd e → send_next_continue table e dtid dialogue components f ≡ Ok next → Goes e next
 next_goes table e next dtid dialogue components f had sound is =
     let active = needs_ok (is_active f.half.phase) faults.WrongPhase _ next is in
     let peer = needs_ok (is_id dtid f.half.peer) faults.NoTransaction _ next active.1 in
-    let may = needs_ok (may_go_on f.half.phase f.half.standing dialogue) faults.WrongDialogue _ next peer.1 in
+    let may = needs_ok (may_go_on f.half.phase f.half.dialogue_state dialogue) faults.WrongDialogue _ next peer.1 in
     let at = active_is f.half.phase active.0 in
     let (g, made, put) = then_ok (send_components table f.half components) (λ half. Ok (put e f.slot f.key half)) next may.1 in
     let goes = all_sends table components f.half g made in
@@ -181,7 +181,7 @@ next_goes table e next dtid dialogue components f had sound is =
     goes_this e _ next (put_open e f g sound had (rw at refl) goes_on goes.follows.own goes.follows.peer) put
 
 continue_goes : (table : Table) (e next : End) (otid dtid : List ℕ) (dialogue : Option Dialogue) (components : List Component)
-    (o : Option KeptHalf) → with_own e otid ≡ o → IsEnd e → send_continue table e otid dtid dialogue components o ≡ Ok next → Goes e next
+    (o : Option KeyedHalf) → with_own e otid ≡ o → IsEnd e → send_continue table e otid dtid dialogue components o ≡ Ok next → Goes e next
 continue_goes table e next otid dtid dialogue components None found sound is =
     first_goes table e next otid dtid dialogue components found sound is
 continue_goes table e next otid dtid dialogue components (Some f) found sound is =

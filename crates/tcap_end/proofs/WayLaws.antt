@@ -2,7 +2,7 @@
 use Rattle.std.proofs.Common.{◌≡◌, List, [], ◌∷◌, Result, Ok, Err, refl}
 use Rattle.tcap_parts.specs.declared.component.Component.{Component}
 use Rattle.tcap_end.specs.declared.fault.EndFault.{EndFault}
-use Rattle.tcap_end.specs.declared.half_components.Way.TheVariants.{Out, In}
+use Rattle.tcap_end.specs.declared.half_components.Direction.TheVariants.{Out, In}
 use Rattle.tcap_end.specs.Step.{◌>>=◌}
 use Rattle.tcap_end.specs.Table.{Table}
 use Rattle.tcap_end.specs.Half.{Half}

@@ -6,7 +6,7 @@ use Rattle.tcap_end.specs.declared.fault.EndFault.{EndFault}
 use Rattle.tcap_end.specs.declared.half.Phase.TheVariants as phases
 use Rattle.tcap_end.specs.declared.half.Slot.{Slot}
 use Rattle.tcap_end.specs.declared.half.Slot.TheVariants.{Begun, Accepted}
-use Rattle.tcap_end.specs.declared.half.Standing.{Standing}
+use Rattle.tcap_end.specs.declared.half.DialogueState.{DialogueState}
 use Rattle.tcap_end.specs.Table.{Table}
 use Rattle.tcap_end.specs.Half.{Half, fresh}
 use Rattle.tcap_end.specs.End.{End}
@@ -24,6 +24,6 @@ may_begin_in Begun dialogue = may_begin dialogue
 may_begin_in Accepted dialogue = true
 
 -- the half before the components of the Begin
-abbrev pub fresh_in : Slot → List ℕ → Standing → Half
-fresh_in Begun id standing = fresh phases.Sent (Some id) None standing
-fresh_in Accepted id standing = fresh phases.Received None (Some id) standing
+abbrev pub fresh_in : Slot → List ℕ → DialogueState → Half
+fresh_in Begun id dialogue_state = fresh phases.Sent (Some id) None dialogue_state
+fresh_in Accepted id dialogue_state = fresh phases.Received None (Some id) dialogue_state

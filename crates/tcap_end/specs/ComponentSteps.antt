@@ -4,20 +4,20 @@ use Rattle.tcap_parts.specs.declared.component.Component.{Component}
 use Rattle.tcap_end.specs.declared.fault.EndFault.{EndFault}
 use Rattle.tcap_end.specs.declared.half.Slot.{Slot}
 use Rattle.tcap_end.specs.declared.half.Slot.TheVariants.{Begun, Accepted}
-use Rattle.tcap_end.specs.declared.half_components.Way.{Way}
-use Rattle.tcap_end.specs.declared.half_components.Way.TheVariants.{Out, In}
+use Rattle.tcap_end.specs.declared.half_components.Direction.{Direction}
+use Rattle.tcap_end.specs.declared.half_components.Direction.TheVariants.{Out, In}
 use Rattle.tcap_end.specs.Step.{◌>>=◌}
 use Rattle.tcap_end.specs.Table.{Table}
 use Rattle.tcap_end.specs.Half.{Half}
 use Rattle.tcap_end.specs.Component.{send_component, receive_component}
 
 -- A half sends (Out) or receives (In) a component. A received component is never refused.
-abbrev pub component_by : Way → Table → Half → Component → Result Half EndFault
+abbrev pub component_by : Direction → Table → Half → Component → Result Half EndFault
 component_by Out table h component = send_component table h component
 component_by In table h component = Ok (receive_component table h component)
 
 -- A half sends or receives components, one by one.
-abbrev pub components_by : Way → Table → Half → List Component → Result Half EndFault
+abbrev pub components_by : Direction → Table → Half → List Component → Result Half EndFault
 components_by way table h [] = Ok h
 components_by way table h (component ∷ more) = do
   next ← component_by way table h component
@@ -25,6 +25,6 @@ components_by way table h (component ∷ more) = do
 
 -- the direction of the Continue that answers a half's Begin: received if the half sent the Begin, sent if it received
 -- it
-abbrev pub way_of : Slot → Way
-way_of Begun = In
-way_of Accepted = Out
+abbrev pub direction_of : Slot → Direction
+direction_of Begun = In
+direction_of Accepted = Out

@@ -5,8 +5,8 @@ use Rattle.tcap_parts.specs.declared.dialogue.Dialogue.TheVariants.{Request, Res
 use Rattle.tcap_parts.specs.declared.dialogue.Source.TheVariants.{User, Provider}
 use Rattle.tcap_end.specs.declared.half.Phase.{Phase}
 use Rattle.tcap_end.specs.declared.half.Phase.TheVariants as phases
-use Rattle.tcap_end.specs.declared.half.Standing.{Standing}
-use Rattle.tcap_end.specs.declared.half.Standing.TheVariants as standings
+use Rattle.tcap_end.specs.declared.half.DialogueState.{DialogueState}
+use Rattle.tcap_end.specs.declared.half.DialogueState.TheVariants as dialogue_states
 
 -- whether the portion is a dialogue request, AARQ
 abbrev pub is_request : Option Dialogue → Bool
@@ -41,13 +41,13 @@ is_uni (Some (Uni context info)) = true
 is_uni _ = false
 
 -- the dialogue state after a Begin with this portion
-abbrev pub first_standing : Option Dialogue → Standing
-first_standing dialogue = cond (is_request dialogue) standings.Asked standings.Without
+abbrev pub first_dialogue_state : Option Dialogue → DialogueState
+first_dialogue_state dialogue = cond (is_request dialogue) dialogue_states.Requested dialogue_states.Without
 
 -- the dialogue state after the Continue that answers the Begin
-abbrev pub confirm : Standing → Standing
-confirm standings.Asked = standings.Confirmed
-confirm standing = standing
+abbrev pub confirm : DialogueState → DialogueState
+confirm dialogue_states.Requested = dialogue_states.Confirmed
+confirm dialogue_state = dialogue_state
 
 -- whether a Begin may carry this portion
 abbrev pub may_begin : Option Dialogue → Bool
@@ -58,19 +58,19 @@ abbrev pub may_be_uni : Option Dialogue → Bool
 may_be_uni dialogue = is_none dialogue || is_uni dialogue
 
 -- whether a Continue or an End may carry this portion, sent by a half in this phase and dialogue state
-abbrev pub may_go_on : Phase → Standing → Option Dialogue → Bool
-may_go_on phases.Received standings.Asked dialogue = accepts_dialogue dialogue
-may_go_on phase standing dialogue = is_none dialogue
+abbrev pub may_go_on : Phase → DialogueState → Option Dialogue → Bool
+may_go_on phases.Received dialogue_states.Requested dialogue = accepts_dialogue dialogue
+may_go_on phase dialogue_state dialogue = is_none dialogue
 
 -- whether an Abort without a cause may carry this portion, sent by a half in this phase and dialogue state
-abbrev pub may_abort : Phase → Standing → Option Dialogue → Bool
-may_abort phases.Received standings.Asked dialogue = is_none dialogue || refuses_dialogue dialogue
+abbrev pub may_abort : Phase → DialogueState → Option Dialogue → Bool
+may_abort phases.Received dialogue_states.Requested dialogue = is_none dialogue || refuses_dialogue dialogue
     || is_user_abort dialogue
-may_abort phase standings.Confirmed dialogue = is_none dialogue || is_user_abort dialogue
-may_abort phase standing dialogue = is_none dialogue
+may_abort phase dialogue_states.Confirmed dialogue = is_none dialogue || is_user_abort dialogue
+may_abort phase dialogue_state dialogue = is_none dialogue
 
 -- whether a half that sent a Begin can receive a Continue with this portion: after a request, the Continue must carry
 -- a response of any content. The abnormal procedures for a missing response are left out.
-abbrev pub answers_request : Standing → Option Dialogue → Bool
-answers_request standings.Asked dialogue = is_response dialogue
+abbrev pub answers_request : DialogueState → Option Dialogue → Bool
+answers_request dialogue_states.Requested dialogue = is_response dialogue
 answers_request _ dialogue = true

@@ -23,7 +23,7 @@ abbrev pub nothing : End
 nothing = record { begun = []; accepted = [] }
 
 -- a half, with the list in which the end keeps it, and the ID that the list has it by: its key
-pub record KeptHalf : Type 0 where
+pub record KeyedHalf : Type 0 where
   pub slot : Slot
   pub key : List ℕ
   pub half : Half
@@ -34,29 +34,29 @@ is_id id None = false
 is_id id (Some other) = bytes_eq id other
 
 -- the first half in a list that passes a test, with its ID there
-abbrev pub first_half : (Half → Bool) → Slot → List (List ℕ × Half) → Option KeptHalf
+abbrev pub first_half : (Half → Bool) → Slot → List (List ℕ × Half) → Option KeyedHalf
 first_half passes slot [] = None
 first_half passes slot ((key, half) ∷ more) =
     cond (passes half) (Some (record { slot = slot; key = key; half = half })) (first_half passes slot more)
 
 -- the first half of an end that passes a test, with the place where it is kept
-abbrev pub half_where : (Half → Bool) → End → Option KeptHalf
+abbrev pub half_where : (Half → Bool) → End → Option KeyedHalf
 half_where passes e = by_begun (first_half passes Begun e.begun)
   where
-    by_begun : Option KeptHalf → Option KeptHalf
+    by_begun : Option KeyedHalf → Option KeyedHalf
     by_begun None = first_half passes Accepted e.accepted
     by_begun (Some kept) = Some kept
 
 -- the half with that own transaction ID
-abbrev pub with_own : End → List ℕ → Option KeptHalf
+abbrev pub with_own : End → List ℕ → Option KeyedHalf
 with_own e id = half_where (λ h. is_id id h.own) e
 
 -- the half with that peer's transaction ID
-abbrev pub with_peer : End → List ℕ → Option KeptHalf
+abbrev pub with_peer : End → List ℕ → Option KeyedHalf
 with_peer e id = half_where (λ h. is_id id h.peer) e
 
 -- the half with that name
-abbrev pub named : End → HalfName → Option KeptHalf
+abbrev pub named : End → HalfName → Option KeyedHalf
 named e (names.Own id) = with_own e id
 named e (names.Peer id) = with_peer e id
 

@@ -3,8 +3,8 @@ use Rattle.std.specs.Prelude.{ℕ, ℤ, Bool, true, false, List, [], ◌∷◌, 
 use Rattle.tcap_parts.specs.declared.code.Code.{Code}
 use Rattle.tcap_end.specs.declared.half.Phase.{Phase}
 use Rattle.tcap_end.specs.declared.half.Phase.TheVariants as phases
-use Rattle.tcap_end.specs.declared.half.Standing.{Standing}
-use Rattle.tcap_end.specs.declared.half.Standing.TheVariants as standings
+use Rattle.tcap_end.specs.declared.half.DialogueState.{DialogueState}
+use Rattle.tcap_end.specs.declared.half.DialogueState.TheVariants as dialogue_states
 use Rattle.tcap_end.specs.declared.own_invocations.OwnInvocation.{OwnInvocation}
 pub use Rattle.tcap_lists.specs.Items.{listed, listed_by, one_fits, with_listed, with_newest, without_oldest, without_oldest_of}
 
@@ -25,18 +25,18 @@ pub record Half : Type 0 where
   pub phase : Phase
   pub own : Option (List ℕ)
   pub peer : Option (List ℕ)
-  pub standing : Standing
+  pub dialogue_state : DialogueState
   pub out : List (ℤ × OwnInvocation)
   pub inn : List (ℤ × List Invocation)
   pub grants : List (ℤ × List Answer)
 
 -- a half with no invocations and no answers
-abbrev pub fresh : Phase → Option (List ℕ) → Option (List ℕ) → Standing → Half
-fresh phase own peer standing = record { phase = phase; own = own; peer = peer; standing = standing; out = []; inn = []; grants = [] }
+abbrev pub fresh : Phase → Option (List ℕ) → Option (List ℕ) → DialogueState → Half
+fresh phase own peer dialogue_state = record { phase = phase; own = own; peer = peer; dialogue_state = dialogue_state; out = []; inn = []; grants = [] }
 
 -- A closed half keeps only its transaction IDs.
 abbrev pub closed_half : Half → Half
-closed_half h = fresh phases.Closed h.own h.peer standings.Without
+closed_half h = fresh phases.Closed h.own h.peer dialogue_states.Without
 
 -- whether a phase is Closed
 abbrev pub is_closed : Phase → Bool

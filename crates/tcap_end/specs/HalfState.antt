@@ -7,7 +7,7 @@ use Rattle.tcap_end.specs.declared.half.InvocationState.TheVariants as states
 use Rattle.tcap_end.specs.declared.half.Phase.{Phase}
 use Rattle.tcap_end.specs.declared.half.Slot.{Slot}
 use Rattle.tcap_end.specs.declared.half.Slot.TheVariants.{Begun, Accepted}
-use Rattle.tcap_end.specs.declared.half.Standing.{Standing}
+use Rattle.tcap_end.specs.declared.half.DialogueState.{DialogueState}
 use Rattle.tcap_lists.specs.declared.lists.Lists.{Lists}
 use Rattle.tcap_end.specs.declared.own_invocations.OwnInvocation.{OwnInvocation}
 use Rattle.tcap_end.specs.Half.{Answer, Half, Invocation, listed}
@@ -15,34 +15,34 @@ use Rattle.tcap_lists.specs.Lists.{HasRow, KeepsRows, items_of, kind_of, one_les
 use Rattle.tcap_end.specs.OwnInvocations.{HasPlace, kept_outs, with_state, with_out}
 
 -- The stored parts of a half. The rows of `inn` and `grants` still have the empty places of removed items.
-pub record Kept : Type 0 where
+pub record StoredHalf : Type 0 where
   pub phase : Phase
   pub own : Option (List ℕ)
   pub peer : Option (List ℕ)
-  pub standing : Standing
+  pub dialogue_state : DialogueState
   pub out : List (ℤ × OwnInvocation)
   pub inn : List (ℤ × List (Option Invocation))
   pub grants : List (ℤ × List (Option Answer))
 
 -- the stored parts of a state
-abbrev pub kept_of : HalfState → Kept
+abbrev pub kept_of : HalfState → StoredHalf
 kept_of h = record {
   phase = h.phase;
   own = h.own;
   peer = h.peer;
-  standing = h.standing;
+  dialogue_state = h.dialogue_state;
   out = kept_outs h.out;
   inn = rows_of h.inn;
   grants = rows_of h.grants;
 }
 
 -- the half that these parts mean: without the empty places
-abbrev pub half_in : Kept → Half
+abbrev pub half_in : StoredHalf → Half
 half_in kept = record {
   phase = kept.phase;
   own = kept.own;
   peer = kept.peer;
-  standing = kept.standing;
+  dialogue_state = kept.dialogue_state;
   out = kept.out;
   inn = items_of kept.inn;
   grants = items_of kept.grants;
@@ -53,14 +53,14 @@ abbrev pub half_of : HalfState → Half
 half_of h = half_in (kept_of h)
 
 -- All places, rows and kinds of the first state are in the second, and both have the same slot.
-pub record Keeps (h next : HalfState) : Type 0 where
+pub record KeepsParts (h next : HalfState) : Type 0 where
   pub slot : next.slot ≡ h.slot
   pub out : (id : ℤ) → HasPlace id h.out → HasPlace id next.out
   pub inn : KeepsRows h.inn next.inn
   pub grants : KeepsRows h.grants next.grants
 
 -- the stored parts before a change
-abbrev pub undone : Change → HalfState → Kept
+abbrev pub undone : Change → HalfState → StoredHalf
 undone (Out id was) h = record (kept_of h) { out = with_out id was (kept_outs h.out) }
 undone (Waits id) h = record (kept_of h) { out = with_state id states.OperationSent (kept_outs h.out) }
 undone (InnTaken id at kind) h = record (kept_of h) { inn = with_place id at (kind_of id kind h.inn) (rows_of h.inn) }
@@ -86,7 +86,7 @@ CanUndo (GrantJoined id) h = HasRow id h.grants
 
 -- The change was undone in the second state.
 abbrev pub IsUndone : Change → HalfState → HalfState → Type 0
-IsUndone change h next = (kept_of next ≡ undone change h) × Keeps h next
+IsUndone change h next = (kept_of next ≡ undone change h) × KeepsParts h next
 
 -- The changes can be undone, the latest first, and undoing all of them leads to that half.
 abbrev pub Undoes : List Change → HalfState → Half → Type 0
@@ -99,11 +99,11 @@ abbrev pub StillUndoes : List Change → HalfState → List Change → HalfState
 StillUndoes changes h more next = (start : Half) → Undoes changes h start → Undoes more next start
 
 -- the parts with a place of an ID's row of received invocations empty
-abbrev pub without_inn : ℤ → ℕ → Kept → Kept
+abbrev pub without_inn : ℤ → ℕ → StoredHalf → StoredHalf
 without_inn id at kept = record kept { inn = with_place id at None kept.inn }
 
 -- the parts with a place of an ID's row of received answers empty
-abbrev pub without_grant : ℤ → ℕ → Kept → Kept
+abbrev pub without_grant : ℤ → ℕ → StoredHalf → StoredHalf
 without_grant id at kept = record kept { grants = with_place id at None kept.grants }
 
 -- the transaction ID of a half in that slot that is not its key

@@ -7,7 +7,7 @@ use Rattle.tcap_end.specs.declared.fault.EndFault.{EndFault}
 use Rattle.tcap_end.specs.declared.half.HalfName.{HalfName}
 use Rattle.tcap_end.specs.declared.half.HalfName.TheVariants as names
 use Rattle.tcap_end.specs.declared.half.Phase.TheVariants as phases
-use Rattle.tcap_end.specs.declared.half.Standing.TheVariants as standings
+use Rattle.tcap_end.specs.declared.half.DialogueState.TheVariants as dialogue_states
 use Rattle.tcap_end.specs.declared.half.Slot.{Slot}
 use Rattle.tcap_end.specs.declared.half.Slot.TheVariants.{Begun, Accepted}
 use Rattle.tcap_end.specs.declared.half_state.HalfState.{HalfState}
@@ -19,13 +19,13 @@ use Rattle.tcap_end.specs.Table.{Table, octets_cmp}
 use Rattle.tcap_end.specs.Half.{Half, fresh, is_closed}
 use Rattle.tcap_end.specs.Step.{AnswersInMemory, ◌>>=◌}
 use Rattle.tcap_end.specs.HalfState.{half_of, other_id}
-use Rattle.tcap_end.specs.End.{End, KeptHalf, put}
+use Rattle.tcap_end.specs.End.{End, KeyedHalf, put}
 use Rattle.tcap_end.specs.HiddenSteps.{may_close}
-use Rattle.tcap_end.specs.ReachableEnd.{Has, IsKept, Rises}
+use Rattle.tcap_end.specs.ReachableEnd.{HasHalf, IsHalfKey, Rises}
 
 -- the half in an entry of the slab; an empty entry reads as a closed half without IDs
 abbrev pub half_in : Option HalfState → Half
-half_in None = fresh phases.Closed None None standings.Without
+half_in None = fresh phases.Closed None None dialogue_states.Without
 half_in (Some h) = half_of h
 
 -- the entry of the slab for a place, or None if the place is that of a closed half
@@ -35,8 +35,8 @@ open_at slab (Closed other) = None
 
 -- a closed half with this key, and its other ID
 abbrev pub closed_at : Slot → List ℕ → Option (List ℕ) → Half
-closed_at Begun key other = fresh phases.Closed (Some key) other standings.Without
-closed_at Accepted key other = fresh phases.Closed other (Some key) standings.Without
+closed_at Begun key other = fresh phases.Closed (Some key) other dialogue_states.Without
+closed_at Accepted key other = fresh phases.Closed other (Some key) dialogue_states.Without
 
 -- the half at a place
 abbrev pub half_at : Slab HalfState → Slot → List ℕ → Place → Half
@@ -65,17 +65,17 @@ IsAt slot key place s = lookup (is_at (octets_cmp key)) (places_of slot s) ≡ S
 abbrev pub IsOpen : Slot → List ℕ → ℕ → Halves → Type 0
 IsOpen slot key k s =
     (h : HalfState) × (get s.slab k ≡ Some h) × (h.slot ≡ slot) × (is_closed h.phase ≡ false)
-    × IsKept slot key (half_of h)
+    × IsHalfKey slot key (half_of h)
 
 -- a half with its slot and its key
-abbrev pub kept_half : Slot → List ℕ → Half → KeptHalf
-kept_half slot key h = record { slot = slot; key = key; half = h }
+abbrev pub keyed_half : Slot → List ℕ → Half → KeyedHalf
+keyed_half slot key h = record { slot = slot; key = key; half = h }
 
 -- An index maps each ID that `id_in` finds in a half of this slot to the key of that half. It maps no other ID.
 abbrev pub Indexes : List (List ℕ × List ℕ) → Slot → (Half → Option (List ℕ)) → End → Type 0
 Indexes index slot id_in e = (id key : List ℕ)
     → (lookup (is_at (octets_cmp id)) index ≡ Some key)
-    ↔ ((h : Half) × Has e (kept_half slot key h) × (id_in h ≡ Some id))
+    ↔ ((h : Half) × HasHalf e (keyed_half slot key h) × (id_in h ≡ Some id))
 
 -- What holds for each stored end: the maps are sorted, each open place leads to an open half, and the indexes are
 -- exact.
@@ -92,14 +92,14 @@ HasOpen slot key s = (k : ℕ) × IsAt slot key (Open k) s
 
 -- The half with this key was changed as `change` says. Nothing else changed.
 abbrev pub Becomes : Slot → List ℕ → (Half → Half) → Halves → Halves → Type 0
-Becomes slot key change s next = (h : Half) → Has (end_of s) (kept_half slot key h)
+Becomes slot key change s next = (h : Half) → HasHalf (end_of s) (keyed_half slot key h)
     → end_of next ≡ put (end_of s) slot key (change h)
 
 -- A call over the half with this key returns what the step on that half gives, unless memory ran out. On Ok the half
 -- after the step is stored there, and nothing else changed.
 abbrev pub AnswersOver : Slot → List ℕ → (Half → Result Half EndFault) → Result (Unit {0}) EndFault → Halves → Halves
     → Type 0
-AnswersOver slot key step result s next = (h : Half) → Has (end_of s) (kept_half slot key h)
+AnswersOver slot key step result s next = (h : Half) → HasHalf (end_of s) (keyed_half slot key h)
     → AnswersInMemory (step h >>= λ g. Ok (put (end_of s) slot key g)) result (end_of next)
 
 -- A found half is at its place: open under its number, or closed if it has none.
@@ -126,7 +126,7 @@ index_of Accepted s = s.by_own.entries
 pub record IsNew (key : List ℕ) (h : HalfState) (s : Halves) : Type 0 where
   pub free : lookup (is_at (octets_cmp key)) (places_of h.slot s) ≡ None
   pub open_half : is_closed h.phase ≡ false
-  pub kept : IsKept h.slot key (half_of h)
+  pub kept : IsHalfKey h.slot key (half_of h)
   pub alone : other_id h.slot (half_of h) ≡ None
 
 -- Each half in the slab has a place that leads to it.

@@ -16,7 +16,7 @@ use Rattle.tcap_end.specs.Step.{needs, ◌>>◌, ◌>>=◌}
 use Rattle.tcap_end.specs.Table.{Table, expires_of}
 use Rattle.tcap_end.specs.Half.{Half, closed_half, is_closed}
 use Rattle.tcap_end.specs.Component.{own_invocation}
-use Rattle.tcap_end.specs.End.{End, KeptHalf, named, put, quiet}
+use Rattle.tcap_end.specs.End.{End, KeyedHalf, named, put, quiet}
 
 -- whether an own invocation may expire: in Wait for Reject always, in Operation Sent if the table allows it
 abbrev pub may_expire : Table → Option OwnInvocation → Bool
@@ -32,7 +32,7 @@ abbrev pub without_invocation : ℤ → Half → Half
 without_invocation id h = record h { out = remove_entry (is_at (int_cmp id)) h.out }
 
 -- the half, if it is open
-abbrev pub open_kept : KeptHalf → Option Half
+abbrev pub open_kept : KeyedHalf → Option Half
 open_kept kept = cond (is_closed kept.half.phase) None (Some kept.half)
 
 -- the open half with that name
@@ -77,5 +77,5 @@ close_each table [] e = Ok e
 close_each table (name ∷ more) e = close table e name >>= close_each table more
 
 -- A quiet mark before which all open halves close without a message, or the reason why one of them may not.
-abbrev pub quiet_unseen : Table → End → Result End EndFault
-quiet_unseen table e = close_each table (open_halves e) e >>= quiet
+abbrev pub quiet_after_closings : Table → End → Result End EndFault
+quiet_after_closings table e = close_each table (open_halves e) e >>= quiet

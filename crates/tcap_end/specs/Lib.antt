@@ -21,4 +21,4 @@ pub mod RowJoin
 pub mod HalfState
 pub mod Halves
 pub mod Begins
-pub mod Kinds
+pub mod AbortReason

@@ -23,8 +23,8 @@ use Rattle.tcap_end.specs.Class.{reports_neither}
 use Rattle.tcap_end.specs.Table.{Table, class_of}
 use Rattle.tcap_end.specs.Half.{Half, fresh, closed_half, is_closed}
 use Rattle.tcap_end.specs.Component.{send_component, receive_component}
-use Rattle.tcap_end.specs.Dialogue.{answers_request, confirm, first_standing, may_abort, may_be_uni, may_begin, may_go_on}
-use Rattle.tcap_end.specs.End.{End, KeptHalf, is_id, with_own, with_peer, put}
+use Rattle.tcap_end.specs.Dialogue.{answers_request, confirm, first_dialogue_state, may_abort, may_be_uni, may_begin, may_go_on}
+use Rattle.tcap_end.specs.End.{End, KeyedHalf, is_id, with_own, with_peer, put}
 
 -- ---- components, one after the other (Q.774 3.2)
 
@@ -71,8 +71,8 @@ is_received _ = false
 -- the half after the Continue that answers its Begin: it is active, and has the ID that it lacked. A half that sent
 -- its Begin learns the peer's ID; a half that received it gets its own ID.
 abbrev pub active_half : Slot → List ℕ → Half → Half
-active_half Begun id h = record h { phase = phases.Active; peer = Some id; standing = confirm h.standing }
-active_half Accepted id h = record h { phase = phases.Active; own = Some id; standing = confirm h.standing }
+active_half Begun id h = record h { phase = phases.Active; peer = Some id; dialogue_state = confirm h.dialogue_state }
+active_half Accepted id h = record h { phase = phases.Active; own = Some id; dialogue_state = confirm h.dialogue_state }
 
 -- ---- sending (Q.774 3.3)
 
@@ -81,7 +81,7 @@ abbrev pub send_begin : Table → End → List ℕ → Option Dialogue → List 
 send_begin table e otid dialogue components = do
   needs (is_none (with_own e otid)) faults.IdUsed
   needs (may_begin dialogue) faults.WrongDialogue
-  half ← send_components table (fresh phases.Sent (Some otid) None (first_standing dialogue)) components
+  half ← send_components table (fresh phases.Sent (Some otid) None (first_dialogue_state dialogue)) components
   Ok (put e Begun otid half)
 
 -- A Continue whose originating ID is new answers a Begin: this ID becomes the half's own.
@@ -89,21 +89,22 @@ abbrev pub send_first_continue : Table → End → List ℕ → List ℕ → Opt
 send_first_continue table e otid dtid dialogue components = do
   kept ← ok_or (with_peer e dtid) faults.NoTransaction
   needs (is_received kept.half.phase) faults.WrongPhase
-  needs (may_go_on kept.half.phase kept.half.standing dialogue) faults.WrongDialogue
+  needs (may_go_on kept.half.phase kept.half.dialogue_state dialogue) faults.WrongDialogue
   half ← send_components table (active_half Accepted otid kept.half) components
   Ok (put e kept.slot kept.key half)
 
 -- Any other Continue belongs to the active half with both of its IDs.
-abbrev pub send_next_continue : Table → End → List ℕ → Option Dialogue → List Component → KeptHalf → Result End EndFault
+abbrev pub send_next_continue : Table → End → List ℕ → Option Dialogue → List Component → KeyedHalf
+    → Result End EndFault
 send_next_continue table e dtid dialogue components kept = do
   needs (is_active kept.half.phase) faults.WrongPhase
   needs (is_id dtid kept.half.peer) faults.NoTransaction
-  needs (may_go_on kept.half.phase kept.half.standing dialogue) faults.WrongDialogue
+  needs (may_go_on kept.half.phase kept.half.dialogue_state dialogue) faults.WrongDialogue
   half ← send_components table kept.half components
   Ok (put e kept.slot kept.key half)
 
 -- A Continue is sent by the half whose own ID is its originating ID, if there is one.
-abbrev pub send_continue : Table → End → List ℕ → List ℕ → Option Dialogue → List Component → Option KeptHalf
+abbrev pub send_continue : Table → End → List ℕ → List ℕ → Option Dialogue → List Component → Option KeyedHalf
     → Result End EndFault
 send_continue table e otid dtid dialogue components None = send_first_continue table e otid dtid dialogue components
 send_continue table e otid dtid dialogue components
@@ -114,7 +115,7 @@ abbrev pub send_end : Table → End → List ℕ → Option Dialogue → List Co
 send_end table e dtid dialogue components = do
   kept ← ok_or (with_peer e dtid) faults.NoTransaction
   needs (not (is_closed kept.half.phase)) faults.WrongPhase
-  needs (may_go_on kept.half.phase kept.half.standing dialogue) faults.WrongDialogue
+  needs (may_go_on kept.half.phase kept.half.dialogue_state dialogue) faults.WrongDialogue
   half ← send_components table kept.half components
   Ok (put e kept.slot kept.key (closed_half half))
 
@@ -124,7 +125,7 @@ send_abort e dtid reason = do
   needs (is_none (reason_cause reason)) faults.WrongPhase
   kept ← ok_or (with_peer e dtid) faults.NoTransaction
   needs (not (is_closed kept.half.phase)) faults.WrongPhase
-  needs (may_abort kept.half.phase kept.half.standing (reason_dialogue reason)) faults.WrongDialogue
+  needs (may_abort kept.half.phase kept.half.dialogue_state (reason_dialogue reason)) faults.WrongDialogue
   Ok (put e kept.slot kept.key (closed_half kept.half))
 
 -- A Unidirectional is sent, and no half changes.
@@ -150,15 +151,15 @@ abbrev pub receive_begin : Table → End → List ℕ → Option Dialogue → Li
 receive_begin table e otid dialogue components = do
   needs (is_none (with_peer e otid)) faults.IdUsed
   Ok (put e Accepted otid
-      (receive_components table (fresh phases.Received None (Some otid) (first_standing dialogue)) components))
+      (receive_components table (fresh phases.Received None (Some otid) (first_dialogue_state dialogue)) components))
 
 -- A Continue is received by a half. In Sent it answers the half's Begin, and the half learns the peer's ID. In Active
 -- its originating ID must be the peer's. This profile chose to refuse a Continue from another peer.
-abbrev pub receive_over : Table → End → List ℕ → Option Dialogue → List Component → KeptHalf → Phase
+abbrev pub receive_over : Table → End → List ℕ → Option Dialogue → List Component → KeyedHalf → Phase
     → Result End EndFault
 receive_over table e otid dialogue components kept phases.Sent = do
   needs (is_none (with_peer e otid)) faults.IdUsed
-  needs (answers_request kept.half.standing dialogue) faults.WrongDialogue
+  needs (answers_request kept.half.dialogue_state dialogue) faults.WrongDialogue
   Ok (put e kept.slot kept.key (receive_components table (active_half Begun otid kept.half) components))
 receive_over table e otid dialogue components kept phases.Active = do
   needs (is_id otid kept.half.peer) faults.NoTransaction
@@ -172,7 +173,7 @@ receive_continue table e otid dtid dialogue components = do
   receive_over table e otid dialogue components kept kept.half.phase
 
 -- An End or an Abort closes the open half with its destination ID. If there is none, the message is dropped.
-abbrev pub receive_end : End → Option KeptHalf → End
+abbrev pub receive_end : End → Option KeyedHalf → End
 receive_end e None = e
 receive_end e (Some kept) = cond (is_closed kept.half.phase) e (put e kept.slot kept.key (closed_half kept.half))
 

@@ -8,7 +8,7 @@ use Rattle.tcap_end.specs.declared.fault.EndFault.{EndFault}
 use Rattle.tcap_end.specs.declared.fault.EndFault.TheVariants as faults
 use Rattle.tcap_end.specs.Step.{needs, ◌>>◌}
 use Rattle.tcap_end.specs.Half.{is_closed}
-use Rattle.tcap_end.specs.End.{End, KeptHalf, with_own, with_peer}
+use Rattle.tcap_end.specs.End.{End, KeyedHalf, with_own, with_peer}
 
 -- whether a message is an Abort with this cause to this transaction ID
 abbrev pub aborts : ℕ → List ℕ → Message → Bool
@@ -16,7 +16,7 @@ aborts cause id (Abort dtid (Some (Cause n))) = (n == cause) && bytes_eq id dtid
 aborts cause id _ = false
 
 -- whether there is a half, and it is open
-abbrev pub is_open : Option KeptHalf → Bool
+abbrev pub is_open : Option KeyedHalf → Bool
 is_open None = false
 is_open (Some kept) = not (is_closed kept.half.phase)
 

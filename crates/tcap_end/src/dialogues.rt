@@ -4,7 +4,7 @@ ghost use Rattle.std.specs.Prelude.{◌≡◌, option_map};
 ghost use Rattle.tcap_parts.specs.DialogueMeaning.{dialogue_of};
 ghost use Rattle.tcap_end.specs.Dialogue.{
   accepts_dialogue,
-  first_standing,
+  first_dialogue_state,
   confirm,
   answers_request,
   is_request,
@@ -18,7 +18,7 @@ ghost use Rattle.tcap_end.specs.Dialogue.{
   is_user_abort,
 };
 
-use crate::half::{Phase, Standing};
+use crate::half::{DialogueState, Phase};
 use tcap_parts::{DialogueView, SourceView};
 
 /// Returns whether the portion is a dialogue request, AARQ.
@@ -94,53 +94,61 @@ pub(crate) fn may_be_uni(dialogue: Option<DialogueView>) -> bool
 }
 
 /// Returns the dialogue state after a Begin with this portion.
-pub(crate) fn first_standing(dialogue: Option<DialogueView>) -> Standing
-    ensures { result ≡ first_standing (option_map dialogue_of dialogue.entry) }
+pub(crate) fn first_dialogue_state(dialogue: Option<DialogueView>) -> DialogueState
+    ensures { result ≡ first_dialogue_state (option_map dialogue_of dialogue.entry) }
 {
     if is_request(dialogue) {
-        Standing::Asked
+        DialogueState::Requested
     } else {
-        Standing::Without
+        DialogueState::Without
     }
 }
 
 /// Returns whether a half in this phase and dialogue state may send a Continue or an End with this portion.
-pub(crate) fn may_go_on(phase: Phase, standing: Standing, dialogue: Option<DialogueView>) -> bool
-    ensures { result ≡ may_go_on phase standing (option_map dialogue_of dialogue.entry) }
+pub(crate) fn may_go_on(
+    phase: Phase,
+    dialogue_state: DialogueState,
+    dialogue: Option<DialogueView>,
+) -> bool
+    ensures { result ≡ may_go_on phase dialogue_state (option_map dialogue_of dialogue.entry) }
 {
-    match (phase, standing) {
-        (Phase::Received, Standing::Asked) => accepts_dialogue(dialogue),
+    match (phase, dialogue_state) {
+        (Phase::Received, DialogueState::Requested) => accepts_dialogue(dialogue),
         _ => dialogue.is_none(),
     }
 }
 
 /// Returns whether a half in this phase and dialogue state may send an Abort without a cause with this portion.
-pub(crate) fn may_abort(phase: Phase, standing: Standing, dialogue: Option<DialogueView>) -> bool
-    ensures { result ≡ may_abort phase standing (option_map dialogue_of dialogue.entry) }
+pub(crate) fn may_abort(
+    phase: Phase,
+    dialogue_state: DialogueState,
+    dialogue: Option<DialogueView>,
+) -> bool
+    ensures { result ≡ may_abort phase dialogue_state (option_map dialogue_of dialogue.entry) }
 {
     dialogue.is_none()
-        || match (phase, standing) {
-            (Phase::Received, Standing::Asked) => refuses_dialogue(dialogue)
+        || match (phase, dialogue_state) {
+            (Phase::Received, DialogueState::Requested) => refuses_dialogue(dialogue)
                 || is_user_abort(dialogue),
-            (_, Standing::Confirmed) => is_user_abort(dialogue),
+            (_, DialogueState::Confirmed) => is_user_abort(dialogue),
             _ => false,
         }
 }
 
 /// Returns whether a half in this dialogue state can receive a Continue with this portion as the answer to its Begin.
-pub(crate) fn answers_request(standing: Standing, dialogue: Option<DialogueView>) -> bool
-    ensures { result ≡ answers_request standing (option_map dialogue_of dialogue.entry) }
+pub(crate) fn answers_request(dialogue_state: DialogueState, dialogue: Option<DialogueView>) -> bool
+    ensures { result ≡ answers_request dialogue_state (option_map dialogue_of dialogue.entry) }
 {
-    standing != Standing::Asked || is_response(dialogue)
+    dialogue_state != DialogueState::Requested || is_response(dialogue)
 }
 
-impl Standing {
+impl DialogueState {
     /// Returns the dialogue state after the Continue that answers the Begin.
-    pub(crate) fn confirm(self) -> Standing
+    pub(crate) fn confirm(self) -> DialogueState
         ensures { result ≡ confirm self }
     {
         match self {
-            Standing::Asked => Standing::Confirmed,
+            DialogueState::Requested => DialogueState::Confirmed,
             _ => self,
         }
     }

@@ -9,7 +9,7 @@ ghost use Rattle.tcap_end.specs.Halves.{AllPlaced, IsHeld, end_of};
 ghost use Rattle.tcap_end.specs.Begins.{begin, may_begin_in};
 
 use crate::changes::Changes;
-use crate::dialogues::{first_standing, may_begin};
+use crate::dialogues::{first_dialogue_state, may_begin};
 use crate::fault::EndFault;
 use crate::half::Slot;
 use crate::half_state::HalfState;
@@ -53,8 +53,13 @@ impl Halves {
         if !may_begin_in(slot, dialogue) {
             return Err(EndFault::WrongDialogue);
         }
-        let standing = first_standing(dialogue);
-        let mut half = HalfState::new(changes.alloc(), slot, otid.to_transaction_id(), standing);
+        let dialogue_state = first_dialogue_state(dialogue);
+        let mut half = HalfState::new(
+            changes.alloc(),
+            slot,
+            otid.to_transaction_id(),
+            dialogue_state,
+        );
         half.step_components(changes, table, slot.other().way(), components)?;
         self.add(otid.to_transaction_id(), half)?;
         Ok(())

@@ -3,7 +3,7 @@
 ghost use Rattle.std.specs.Prelude.{◌≡◌, ◌<◌, ◌^◌, ◌++◌, Some, None, Ok, Err, IfSome, MatchOption, OnErr, OnOk, length};
 ghost use Rattle.tcap_end.specs.declared.fault.EndFault.TheVariants as EndFault;
 ghost use Rattle.tcap_end.specs.Step.{Answers};
-ghost use Rattle.tcap_end.specs.HiddenSteps.{close, expire, may_close, open_halves, open_names, quiet_unseen};
+ghost use Rattle.tcap_end.specs.HiddenSteps.{close, expire, may_close, open_halves, open_names, quiet_after_closings};
 ghost use Rattle.tcap_end.specs.End.{nothing};
 ghost use Rattle.tcap_end.specs.ReachableEnd.{IsEnd, halves_of};
 ghost use Rattle.tcap_end.specs.Halves.{AllPlaced, IsHeld, closing, end_of, name_in};
@@ -106,8 +106,8 @@ impl Halves {
         requires held { IsHeld self.now }
         requires placed { AllPlaced self.now }
         requires sound { IsEnd (end_of self.now) }
-        ensures { MatchOption result (quiet_unseen table.now (end_of self.now) ≡ Err EndFault.CannotClose)
-            (λ n. (quiet_unseen table.now (end_of self.now) ≡ Ok nothing)
+        ensures { MatchOption result (quiet_after_closings table.now (end_of self.now) ≡ Err EndFault.CannotClose)
+            (λ n. (quiet_after_closings table.now (end_of self.now) ≡ Ok nothing)
             × (n ≡ length (open_halves (end_of self.now)))) }
     {
         let begun = self.closing_of(table, Slot::Begun)?;

@@ -14,7 +14,7 @@ use crate::changes::Changes;
 use crate::dialogues::answers_request;
 use crate::fault::EndFault;
 use crate::half::{Phase, Slot};
-use crate::half_components::Way;
+use crate::half_components::Direction;
 use crate::halves::{Halves, is_id};
 use crate::table::Table;
 use tcap_msg::{Kind, MessageParts, TransactionIdView};
@@ -83,11 +83,11 @@ impl Halves {
         };
         match half.phase {
             Phase::Sent => {
-                let standing = half.standing;
+                let dialogue_state = half.dialogue_state;
                 if self.with_id(Slot::Accepted, otid).is_some() {
                     return Err(EndFault::IdUsed);
                 }
-                if !answers_request(standing, dialogue) {
+                if !answers_request(dialogue_state, dialogue) {
                     return Err(EndFault::WrongDialogue);
                 }
                 self.activate_over(changes, table, &found, otid.to_transaction_id(), components)
@@ -96,7 +96,7 @@ impl Halves {
                 if !is_id(otid, &half.peer) {
                     return Err(EndFault::NoTransaction);
                 }
-                self.step_over(changes, table, &found, Way::In, components)
+                self.step_over(changes, table, &found, Direction::In, components)
             }
             _ => Err(EndFault::NoTransaction),
         }

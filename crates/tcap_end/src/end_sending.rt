@@ -10,15 +10,15 @@ ghost use Rattle.tcap_end.specs.Step.{Answers, AnswersInMemory};
 ghost use Rattle.tcap_end.specs.Half.{Half};
 ghost use Rattle.tcap_end.specs.End.{End, with_own};
 ghost use Rattle.tcap_end.specs.Message.{is_active, is_received, send, send_abort, send_continue, send_end, send_first_continue, send_next_continue};
-ghost use Rattle.tcap_end.specs.ReachableEnd.{Has, IsEnd};
-ghost use Rattle.tcap_end.specs.Halves.{AllPlaced, IsNumbered, IsHeld, end_of, kept_half};
-ghost use Rattle.tcap_end.specs.Kinds.{reason_of_dialogue};
+ghost use Rattle.tcap_end.specs.ReachableEnd.{HasHalf, IsEnd};
+ghost use Rattle.tcap_end.specs.Halves.{AllPlaced, IsNumbered, IsHeld, end_of, keyed_half};
+ghost use Rattle.tcap_end.specs.AbortReason.{reason_of_dialogue};
 
 use crate::changes::Changes;
 use crate::dialogues::{may_abort, may_be_uni, may_go_on};
 use crate::fault::EndFault;
 use crate::half::{Phase, Slot};
-use crate::half_components::Way;
+use crate::half_components::Direction;
 use crate::halves::{HalfKey, Halves, is_id};
 use crate::table::Table;
 use crate::unidirectional::check_components;
@@ -131,12 +131,12 @@ impl Halves {
         components: Components,
     ) -> Result<(), EndFault>
         requires held { IsHeld self.old }
-        requires there { (h : Half) × Has (end_of self.old) (kept_half found.now.slot found.now.key h) }
+        requires there { (h : Half) × HasHalf (end_of self.old) (keyed_half found.now.slot found.now.key h) }
         requires found { IsNumbered found.now self.old }
-        ensures step { (h : Half) → Has (end_of self.old) (kept_half found.now.slot found.now.key h)
+        ensures step { (h : Half) → HasHalf (end_of self.old) (keyed_half found.now.slot found.now.key h)
             → AnswersInMemory (send_next_continue table.now (end_of self.old) dtid.entry.octets.now
             (option_map dialogue_of dialogue.entry) (components_left components.entry)
-            (kept_half found.now.slot found.now.key h)) result (end_of self.new) }
+            (keyed_half found.now.slot found.now.key h)) result (end_of self.new) }
         ensures kept { OnErr result (end_of self.new ≡ end_of self.old) }
         ensures held { IsHeld self.new }
         ensures placed { AllPlaced self.old → AllPlaced self.new }
@@ -150,10 +150,10 @@ impl Halves {
         if !is_id(dtid, &half.peer) {
             return Err(EndFault::NoTransaction);
         }
-        if !may_go_on(half.phase, half.standing, dialogue) {
+        if !may_go_on(half.phase, half.dialogue_state, dialogue) {
             return Err(EndFault::WrongDialogue);
         }
-        self.step_over(changes, table, found, Way::Out, components)
+        self.step_over(changes, table, found, Direction::Out, components)
     }
 
     /// Sends a Continue that answers a Begin. No half has its originating ID.
@@ -185,7 +185,7 @@ impl Halves {
         if !is_received(half.phase) {
             return Err(EndFault::WrongPhase);
         }
-        if !may_go_on(half.phase, half.standing, dialogue) {
+        if !may_go_on(half.phase, half.dialogue_state, dialogue) {
             return Err(EndFault::WrongDialogue);
         }
         self.activate_over(changes, table, &found, otid.to_transaction_id(), components)
@@ -214,10 +214,10 @@ impl Halves {
         let Some(half) = self.half(&found) else {
             return Err(EndFault::WrongPhase);
         };
-        if !may_go_on(half.phase, half.standing, dialogue) {
+        if !may_go_on(half.phase, half.dialogue_state, dialogue) {
             return Err(EndFault::WrongDialogue);
         }
-        self.step_over(changes, table, &found, Way::Out, components)?;
+        self.step_over(changes, table, &found, Direction::Out, components)?;
         self.close(found);
         Ok(())
     }
@@ -243,7 +243,7 @@ impl Halves {
         let Some(half) = self.half(&found) else {
             return Err(EndFault::WrongPhase);
         };
-        if !may_abort(half.phase, half.standing, dialogue) {
+        if !may_abort(half.phase, half.dialogue_state, dialogue) {
             return Err(EndFault::WrongDialogue);
         }
         self.close(found);

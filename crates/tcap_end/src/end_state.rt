@@ -8,7 +8,7 @@ ghost use Rattle.tcap_end.specs.Step.{Answers, AnswersInMemory, AnswersNumber};
 ghost use Rattle.tcap_end.specs.End.{named, nothing, quiet};
 ghost use Rattle.tcap_end.specs.Message.{receive, send};
 ghost use Rattle.tcap_end.specs.Reply.{refuse_begin, refuse_continue};
-ghost use Rattle.tcap_end.specs.HiddenSteps.{close, expire, open_halves, open_named, quiet_unseen};
+ghost use Rattle.tcap_end.specs.HiddenSteps.{close, expire, open_halves, open_named, quiet_after_closings};
 ghost use Rattle.tcap_end.specs.ReachableEnd.{IsEnd};
 
 use crate::changes::Changes;
@@ -238,8 +238,8 @@ impl EndState {
     /// # Errors
     ///
     /// `CannotClose` if a half may not close. The end is unchanged then.
-    pub fn quiet_unseen(&mut self, table: &Table) -> Result<usize, EndFault>
-        ensures step { AnswersNumber (quiet_unseen table.now self.old) (length (open_halves self.old)) result
+    pub fn quiet_after_closings(&mut self, table: &Table) -> Result<usize, EndFault>
+        ensures step { AnswersNumber (quiet_after_closings table.now self.old) (length (open_halves self.old)) result
             self.new }
         ensures kept { OnErr result (self.new ≡ self.old) }
     {

@@ -17,11 +17,11 @@ pub enum Phase {
 
 /// The dialogue state of a half (Q.774 3.2).
 #[derive(Clone, Copy, Debug, PartialEq, Eq)]
-pub enum Standing {
+pub enum DialogueState {
     /// There is no dialogue.
     Without,
     /// A dialogue request was sent or received.
-    Asked,
+    Requested,
     /// A dialogue response answered the request.
     Confirmed,
 }

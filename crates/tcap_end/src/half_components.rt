@@ -5,7 +5,7 @@ ghost use Rattle.std.specs.Prelude.{◌≡◌, OnErr};
 ghost use Rattle.tcap_parts.specs.Meaning.{component_of, components_left};
 ghost use Rattle.tcap_end.specs.Step.{AnswersInMemory};
 ghost use Rattle.tcap_end.specs.Message.{active_half};
-ghost use Rattle.tcap_end.specs.ComponentSteps.{component_by, components_by, way_of};
+ghost use Rattle.tcap_end.specs.ComponentSteps.{component_by, components_by, direction_of};
 ghost use Rattle.tcap_end.specs.HalfState.{StillUndoes, half_of, other_id, with_other_id};
 
 use crate::changes::Changes;
@@ -19,7 +19,7 @@ use tcap_parts::{ComponentView, Components};
 
 /// Whether components are sent or received.
 #[derive(Clone, Copy, Debug, PartialEq, Eq)]
-pub(crate) enum Way {
+pub(crate) enum Direction {
     Out,
     In,
 }
@@ -27,12 +27,12 @@ pub(crate) enum Way {
 impl Slot {
     /// Returns the direction of the Continue that answers a half's Begin: received if the half sent the Begin, sent if
     /// it received it.
-    pub(crate) fn way(self) -> Way
-        ensures { result ≡ way_of self }
+    pub(crate) fn way(self) -> Direction
+        ensures { result ≡ direction_of self }
     {
         match self {
-            Slot::Begun => Way::In,
-            Slot::Accepted => Way::Out,
+            Slot::Begun => Direction::In,
+            Slot::Accepted => Direction::Out,
         }
     }
 }
@@ -44,7 +44,7 @@ impl HalfState {
         alloc: Global,
         changes: &mut Changes,
         table: &Table,
-        way: Way,
+        way: Direction,
         component: ComponentView,
     ) -> Result<(), EndFault>
         ensures step { AnswersInMemory (component_by way table.now (half_of self.old) (component_of component.entry))
@@ -53,8 +53,8 @@ impl HalfState {
         ensures slot { self.new.slot ≡ self.old.slot }
     {
         match way {
-            Way::Out => self.send_component(alloc, changes, table, component),
-            Way::In => {
+            Direction::Out => self.send_component(alloc, changes, table, component),
+            Direction::In => {
                 self.receive_component(alloc, changes, table, component)?;
                 Ok(())
             }
@@ -67,7 +67,7 @@ impl HalfState {
         alloc: Global,
         changes: &mut Changes,
         table: &Table,
-        way: Way,
+        way: Direction,
         components: Components,
     ) -> Result<(), EndFault>
         ensures step { AnswersInMemory (components_by way table.now (half_of self.old)
@@ -87,7 +87,7 @@ impl HalfState {
         &mut self,
         changes: &mut Changes,
         table: &Table,
-        way: Way,
+        way: Direction,
         components: Components,
     ) -> Result<(), EndFault>
         ensures step { AnswersInMemory (components_by way table.now (half_of self.old)
@@ -134,22 +134,22 @@ impl HalfState {
         id: TransactionId,
         components: Components,
     ) -> Result<(), EndFault>
-        ensures step { AnswersInMemory (components_by (way_of self.old.slot) table.now
+        ensures step { AnswersInMemory (components_by (direction_of self.old.slot) table.now
             (active_half self.old.slot id (half_of self.old))
             (components_left components.entry)) result (half_of self.new) }
         ensures kept { OnErr result (half_of self.new ≡ half_of self.old) }
         ensures slot { self.new.slot ≡ self.old.slot }
     {
-        let (phase, standing) = (self.phase, self.standing);
+        let (phase, dialogue_state) = (self.phase, self.dialogue_state);
         let was = self.put_other_id(Some(id));
         self.phase = Phase::Active;
-        self.standing = standing.confirm();
+        self.dialogue_state = dialogue_state.confirm();
         match self.step_components(changes, table, self.slot.way(), components) {
             Ok(()) => Ok(()),
             Err(fault) => {
                 self.phase = phase;
                 self.put_other_id(was);
-                self.standing = standing;
+                self.dialogue_state = dialogue_state;
                 Err(fault)
             }
         }

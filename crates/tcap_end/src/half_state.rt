@@ -8,7 +8,7 @@ ghost use Rattle.tcap_end.specs.HiddenSteps.{may_expire};
 ghost use Rattle.tcap_end.specs.HalfState.{CanUndo, IsUndone, Undoes, half_of};
 
 use crate::changes::Changes;
-use crate::half::{InvocationState, Phase, Slot, Standing};
+use crate::half::{DialogueState, InvocationState, Phase, Slot};
 use crate::own_invocations::{Outs, OwnInvocation};
 use crate::received::{Answer, Invocation};
 use crate::table::Table;
@@ -23,7 +23,7 @@ pub(crate) struct HalfState {
     pub(crate) phase: Phase,
     pub(crate) own: Option<TransactionId>,
     pub(crate) peer: Option<TransactionId>,
-    pub(crate) standing: Standing,
+    pub(crate) dialogue_state: DialogueState,
     pub(crate) out: Outs,
     pub(crate) inn: Lists<Invocation>,
     pub(crate) grants: Lists<Answer>,
@@ -54,9 +54,9 @@ impl HalfState {
         phase: Phase,
         own: Option<TransactionId>,
         peer: Option<TransactionId>,
-        standing: Standing,
+        dialogue_state: DialogueState,
     ) -> HalfState
-        ensures half { half_of result ≡ fresh phase own peer standing }
+        ensures half { half_of result ≡ fresh phase own peer dialogue_state }
         ensures slot { result.slot ≡ slot }
     {
         HalfState {
@@ -64,7 +64,7 @@ impl HalfState {
             phase,
             own,
             peer,
-            standing,
+            dialogue_state,
             out: Outs::new(alloc),
             inn: Lists::new(alloc),
             grants: Lists::new(alloc),
@@ -72,14 +72,21 @@ impl HalfState {
     }
 
     /// Creates the half of a Begin with this originating ID, before the Begin's components.
-    pub(crate) fn new(alloc: Global, slot: Slot, id: TransactionId, standing: Standing) -> HalfState
-        ensures half { half_of result ≡ fresh_in slot id standing }
+    pub(crate) fn new(
+        alloc: Global,
+        slot: Slot,
+        id: TransactionId,
+        dialogue_state: DialogueState,
+    ) -> HalfState
+        ensures half { half_of result ≡ fresh_in slot id dialogue_state }
         ensures slot { result.slot ≡ slot }
     {
         match slot {
-            Slot::Begun => { HalfState::fresh(alloc, slot, Phase::Sent, Some(id), None, standing) }
+            Slot::Begun => {
+                HalfState::fresh(alloc, slot, Phase::Sent, Some(id), None, dialogue_state)
+            }
             Slot::Accepted => {
-                HalfState::fresh(alloc, slot, Phase::Received, None, Some(id), standing)
+                HalfState::fresh(alloc, slot, Phase::Received, None, Some(id), dialogue_state)
             }
         }
     }

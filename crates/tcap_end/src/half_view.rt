@@ -5,12 +5,12 @@ ghost use Rattle.tcap_parts.specs.Meaning.{code_of};
 ghost use Rattle.tcap_end.specs.Half.{Half};
 ghost use Rattle.tcap_end.specs.End.{named};
 ghost use Rattle.tcap_end.specs.ReachableEnd.{IsEnd};
-ghost use Rattle.tcap_end.specs.Halves.{IsNumbered, IsHeld, end_of, kept_half};
+ghost use Rattle.tcap_end.specs.Halves.{IsNumbered, IsHeld, end_of, keyed_half};
 ghost use Rattle.tcap_end.specs.HiddenSteps.{open_named};
 ghost use Rattle.tcap_end.specs.Component.{own_invocation};
 ghost use Rattle.tcap_end.specs.HalfState.{half_of};
 
-use crate::half::{HalfName, InvocationState, Phase, Slot, Standing};
+use crate::half::{DialogueState, HalfName, InvocationState, Phase, Slot};
 use crate::half_state::HalfState;
 use crate::halves::{HalfKey, Halves};
 use std::alloc::{AllocError, Global};
@@ -63,10 +63,10 @@ impl<'a> OpenHalf<'a> {
     }
 
     /// Returns the dialogue state.
-    pub fn standing(&self) -> Standing
-        ensures { result ≡ self.now.standing }
+    pub fn dialogue_state(&self) -> DialogueState
+        ensures { result ≡ self.now.dialogue_state }
     {
-        self.state.standing
+        self.state.dialogue_state
     }
 
     /// Returns the operation of the own invocation with this invoke ID, if there is one.
@@ -133,7 +133,7 @@ impl Halves {
         requires held { IsHeld self.now }
         requires sound { IsEnd (end_of self.now) }
         ensures half { MatchOption result (named (end_of self.now) name.now ≡ None)
-            (λ found. (h : Half) × (named (end_of self.now) name.now ≡ Some (kept_half found.slot found.key h))) }
+            (λ found. (h : Half) × (named (end_of self.now) name.now ≡ Some (keyed_half found.slot found.key h))) }
         ensures found { IfSome result (λ found. IsNumbered found self.now) }
     {
         match name {

@@ -13,15 +13,15 @@ ghost use Rattle.tcap_end.specs.HalfState.{half_of, other_id};
 ghost use Rattle.tcap_end.specs.Component.{own_invocation};
 ghost use Rattle.tcap_end.specs.HiddenSteps.{without_invocation};
 ghost use Rattle.tcap_end.specs.Message.{active_half};
-ghost use Rattle.tcap_end.specs.ComponentSteps.{components_by, way_of};
-ghost use Rattle.tcap_end.specs.End.{KeptHalf, all_closed, is_id, named, nothing, put};
-ghost use Rattle.tcap_end.specs.ReachableEnd.{Has, IsEnd};
-ghost use Rattle.tcap_end.specs.Halves.{AllPlaced, AnswersOver, Becomes, HasOpen, IsAt, IsNumbered, IsHeld, IsNew, end_of, index_of, kept_half, name_in, open_at, other_slot, places_of};
+ghost use Rattle.tcap_end.specs.ComponentSteps.{components_by, direction_of};
+ghost use Rattle.tcap_end.specs.End.{KeyedHalf, all_closed, is_id, named, nothing, put};
+ghost use Rattle.tcap_end.specs.ReachableEnd.{HasHalf, IsEnd};
+ghost use Rattle.tcap_end.specs.Halves.{AllPlaced, AnswersOver, Becomes, HasOpen, IsAt, IsNumbered, IsHeld, IsNew, end_of, index_of, keyed_half, name_in, open_at, other_slot, places_of};
 
 use crate::changes::Changes;
 use crate::fault::EndFault;
 use crate::half::Slot;
-use crate::half_components::Way;
+use crate::half_components::Direction;
 use crate::half_state::HalfState;
 use crate::table::Table;
 use slab::Slab;
@@ -152,7 +152,7 @@ impl Halves {
         requires sound { IsEnd (end_of self.now) }
         ensures half { MatchOption result (named (end_of self.now) (name_in slot id.entry.octets.now) ≡ None)
             (λ found. (h : Half) × (named (end_of self.now) (name_in slot id.entry.octets.now)
-            ≡ Some (kept_half found.slot found.key h))) }
+            ≡ Some (keyed_half found.slot found.key h))) }
         ensures found { IfSome result (λ found. IsNumbered found self.now) }
     {
         let key = id.to_transaction_id();
@@ -167,7 +167,7 @@ impl Halves {
     pub(crate) fn half(&self, found: &HalfKey) -> Option<&HalfState>
         requires held { IsHeld self.now }
         requires found { IsNumbered found.now self.now }
-        ensures { (h : Half) → Has (end_of self.now) (kept_half found.now.slot found.now.key h)
+        ensures { (h : Half) → HasHalf (end_of self.now) (keyed_half found.now.slot found.now.key h)
             → MatchOption result (is_closed h.phase ≡ true)
             (λ half. (half_of half.now ≡ h) × (is_closed h.phase ≡ false)) }
     {
@@ -192,7 +192,7 @@ impl Halves {
         changes: &mut Changes,
         table: &Table,
         found: &HalfKey,
-        way: Way,
+        way: Direction,
         components: Components,
     ) -> Result<(), EndFault>
         requires held { IsHeld self.old }
@@ -218,7 +218,7 @@ impl Halves {
         requires held { IsHeld self.old }
         requires open { HasOpen found.now.slot found.now.key self.old }
         requires found { IsNumbered found.now self.old }
-        requires own_invocation { (h : Half) → Has (end_of self.old) (kept_half found.now.slot found.now.key h)
+        requires own_invocation { (h : Half) → HasHalf (end_of self.old) (keyed_half found.now.slot found.now.key h)
             → IsSome (own_invocation h id) }
         ensures forgotten { Becomes found.now.slot found.now.key (without_invocation id) self.old self.new }
         ensures held { IsHeld self.new }
@@ -344,11 +344,11 @@ impl Halves {
         requires held { IsHeld self.old }
         requires open { HasOpen found.now.slot found.now.key self.old }
         requires found { IsNumbered found.now self.old }
-        requires unknown { (h : Half) → Has (end_of self.old) (kept_half found.now.slot found.now.key h)
+        requires unknown { (h : Half) → HasHalf (end_of self.old) (keyed_half found.now.slot found.now.key h)
             → other_id found.now.slot h ≡ None }
-        requires unused { (f : KeptHalf) → Has (end_of self.old) f → other_id found.now.slot f.half ≢ Some id }
+        requires unused { (f : KeyedHalf) → HasHalf (end_of self.old) f → other_id found.now.slot f.half ≢ Some id }
         ensures step { AnswersOver found.now.slot found.now.key
-            (λ h. components_by (way_of found.now.slot) table.now (active_half found.now.slot id h)
+            (λ h. components_by (direction_of found.now.slot) table.now (active_half found.now.slot id h)
             (components_left components.entry))
             result self.old self.new }
         ensures kept { OnErr result (end_of self.new ≡ end_of self.old) }

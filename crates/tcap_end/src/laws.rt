@@ -5,10 +5,10 @@ ghost use Rattle.tcap_msg.specs.declared.message.Message.{Message};
 ghost use Rattle.tcap_end.specs.Table.{Table};
 ghost use Rattle.tcap_end.specs.declared.half.HalfName.{HalfName};
 ghost use Rattle.tcap_end.specs.declared.half.Phase.TheVariants as Phase;
-ghost use Rattle.tcap_end.specs.End.{End, KeptHalf, nothing, quiet};
+ghost use Rattle.tcap_end.specs.End.{End, KeyedHalf, nothing, quiet};
 ghost use Rattle.tcap_end.specs.Message.{receive, send};
 ghost use Rattle.tcap_end.specs.HiddenSteps.{close, expire};
-ghost use Rattle.tcap_end.specs.ReachableEnd.{Has, IsEnd};
+ghost use Rattle.tcap_end.specs.ReachableEnd.{HasHalf, IsEnd};
 
 use crate::end_state::EndState;
 
@@ -53,28 +53,28 @@ pub fn quieted_is_sound()
 
 /// Shows that no message that the end sends changes a closed half.
 pub fn closed_while_sending()
-    ensures { (table : Table) (e next : End) (m : Message) (f : KeptHalf) → IsEnd e → Has e f
+    ensures { (table : Table) (e next : End) (m : Message) (f : KeyedHalf) → IsEnd e → HasHalf e f
         → f.half.phase ≡ Phase.Closed
-        → send table e m ≡ Ok next → Has next f }
+        → send table e m ≡ Ok next → HasHalf next f }
 {}
 
 /// Shows that no message that the end receives changes a closed half.
 pub fn closed_while_receiving()
-    ensures { (table : Table) (e next : End) (m : Message) (f : KeptHalf) → IsEnd e → Has e f
+    ensures { (table : Table) (e next : End) (m : Message) (f : KeyedHalf) → IsEnd e → HasHalf e f
         → f.half.phase ≡ Phase.Closed
-        → receive table e m ≡ Ok next → Has next f }
+        → receive table e m ≡ Ok next → HasHalf next f }
 {}
 
 /// Shows that the expiry of an invocation changes no closed half.
 pub fn closed_while_expiring()
-    ensures { (table : Table) (e next : End) (name : HalfName) (id : ℤ) (f : KeptHalf) → IsEnd e → Has e f
+    ensures { (table : Table) (e next : End) (name : HalfName) (id : ℤ) (f : KeyedHalf) → IsEnd e → HasHalf e f
         → f.half.phase ≡ Phase.Closed
-        → expire table e name id ≡ Ok next → Has next f }
+        → expire table e name id ≡ Ok next → HasHalf next f }
 {}
 
 /// Shows that closing a half without a message changes no closed half.
 pub fn closed_while_closing()
-    ensures { (table : Table) (e next : End) (name : HalfName) (f : KeptHalf) → IsEnd e → Has e f
+    ensures { (table : Table) (e next : End) (name : HalfName) (f : KeyedHalf) → IsEnd e → HasHalf e f
         → f.half.phase ≡ Phase.Closed
-        → close table e name ≡ Ok next → Has next f }
+        → close table e name ≡ Ok next → HasHalf next f }
 {}

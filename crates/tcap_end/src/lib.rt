@@ -31,7 +31,7 @@ pub use class::{reports, reports_neither};
 pub use dialogues::{accepts_dialogue, is_request, is_response, is_user_abort, refuses_dialogue};
 pub use end_state::EndState;
 pub use fault::EndFault;
-pub use half::{HalfName, InvocationState, Phase, Slot, Standing};
+pub use half::{DialogueState, HalfName, InvocationState, Phase, Slot};
 pub use half_view::OpenHalf;
 pub use table::{Table, TableFault, TableReason};
 pub use table_text::has_only;

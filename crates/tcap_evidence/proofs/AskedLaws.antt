@@ -6,13 +6,13 @@ use Rattle.std.proofs.lemmas.List.Folds.{list_any_at}
 use Rattle.tcap_parts.specs.declared.component.Component.TheVariants.{Invoke, Reject}
 use Rattle.tcap_parts.specs.declared.problem.Problem.TheVariants as problems
 use Rattle.tcap_refute.specs.declared.kind.Kind.TheVariants as kinds
-use Rattle.tcap_faults.specs.declared.dialogue.half_origin.How.{How}
-use Rattle.tcap_faults.specs.declared.dialogue.half_origin.How.TheVariants as hows
+use Rattle.tcap_faults.specs.declared.dialogue.half_origin.HalfOrigin.{HalfOrigin}
+use Rattle.tcap_faults.specs.declared.dialogue.half_origin.HalfOrigin.TheVariants as origins
 use Rattle.tcap_faults.specs.Components.{is_of_link}
 use Rattle.tcap_faults.specs.declared.component.component_sort.Class.TheVariants.{Any}
 use Rattle.tcap_faults.specs.declared.component.component_sort.Sort.TheVariants as sorts
-use Rattle.tcap_evidence.specs.declared.shown_things.What.TheVariants as whats
-use Rattle.tcap_evidence.specs.Evidence.{allowed_by, answered_by, dialogue_of, problem_of_invoke, rejected_by, shows_alone, shows_to}
+use Rattle.tcap_evidence.specs.declared.shown_things.ShownFact.TheVariants as facts
+use Rattle.tcap_evidence.specs.Evidence.{allowed_by, answered_by, dialogue_of, problem_of_invoke, rejected_by, facts_without_id, facts_with_id}
 
 -- If no item of a list passes a test, the item at an index does not.
 pub fails_at : {A : Type 0} (p : A → Bool) (xs : List A) (i : ℕ) (d : A) → i < length xs → list_any p xs ≡ false
@@ -28,16 +28,16 @@ allowed_open : (c : Option Component) → list_any is_of_mark (allowed_by c) ≡
 allowed_open (Some (Invoke id linked code parameter)) = refl
 allowed_open c = refl
 
-dialogue_open : (how : How) → list_any is_of_mark (dialogue_of how) ≡ false
-dialogue_open hows.Begun = refl
-dialogue_open how = refl
+dialogue_open : (origin : HalfOrigin) → list_any is_of_mark (dialogue_of origin) ≡ false
+dialogue_open origins.Begun = refl
+dialogue_open origin = refl
 
 problem_open : (n : ℕ) → list_any is_of_mark (problem_of_invoke n) ≡ false
 problem_open n = by (n == 0) (is_of_link n)
   where
     by : (first link : Bool)
-        → list_any is_of_mark (cond first (whats.Heard (sorts.Invokes Any) ∷ whats.Before sorts.DuplicateRejects ∷ [])
-        (cond link (whats.Heard sorts.Linked ∷ whats.Before sorts.LinkRejects ∷ []) [])) ≡ false
+        → list_any is_of_mark (cond first (facts.IncomingComponents (sorts.Invokes Any) ∷ facts.Before sorts.DuplicateRejects ∷ [])
+        (cond link (facts.IncomingComponents sorts.Linked ∷ facts.Before sorts.LinkRejects ∷ []) [])) ≡ false
     by true link = refl
     by false true = refl
     by false false = refl
@@ -46,18 +46,18 @@ rejected_open : (c : Option Component) → list_any is_of_mark (rejected_by c) �
 rejected_open (Some (Reject id (problems.Invoke n))) = problem_open n
 rejected_open c = refl
 
-to_open : (how : How) (c : Option Component) (kind : Kind) → list_any is_of_mark (shows_to how c kind) ≡ false
-to_open how c kinds.AnswersNothing = answered_open c
-to_open how c kinds.WrongOperation = allowed_open c
-to_open how c kinds.WrongDialogue = dialogue_open how
-to_open how c kinds.RejectNotAllowed = rejected_open c
-to_open how c kind = refl
+to_open : (origin : HalfOrigin) (c : Option Component) (kind : Kind) → list_any is_of_mark (facts_with_id origin c kind) ≡ false
+to_open origin c kinds.AnswersNothing = answered_open c
+to_open origin c kinds.WrongOperation = allowed_open c
+to_open origin c kinds.WrongDialogue = dialogue_open origin
+to_open origin c kinds.RejectNotAllowed = rejected_open c
+to_open origin c kind = refl
 
-alone_open : (kind : Kind) → list_any is_of_mark (shows_alone kind) ≡ false
+alone_open : (kind : Kind) → list_any is_of_mark (facts_without_id kind) ≡ false
 alone_open kinds.ReusedId = refl
 alone_open kind = refl
 
-pub never_open : (to : Option (List ℕ)) (how : How) (c : Option Component) (kind : Kind)
-    → list_any is_of_mark (shows to how c kind) ≡ false
-never_open None how c kind = alone_open kind
-never_open (Some id) how c kind = to_open how c kind
+pub never_open : (to : Option (List ℕ)) (origin : HalfOrigin) (c : Option Component) (kind : Kind)
+    → list_any is_of_mark (shows to origin c kind) ≡ false
+never_open None origin c kind = alone_open kind
+never_open (Some id) origin c kind = to_open origin c kind

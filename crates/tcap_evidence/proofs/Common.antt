@@ -40,6 +40,6 @@ pub use Rattle.tcap_evidence.specs.Operations.{invocations_of}
 pub use Rattle.tcap_evidence.specs.Partners.{paired_before}
 pub use Rattle.tcap_evidence.specs.PassingEntries.{passes}
 pub use Rattle.tcap_evidence.specs.Scene.{since_first, Scene, is_open_continue, is_that}
-pub use Rattle.tcap_evidence.specs.StoredScene.{IsScene, IsStretch}
+pub use Rattle.tcap_evidence.specs.StoredScene.{IsScene, AreMessagesByEnd}
 pub use Rattle.tcap_evidence.specs.declared.sent.Sent.{Sent as SentEntry}
-pub use Rattle.tcap_evidence.specs.declared.sent.Stretch.{Stretch}
+pub use Rattle.tcap_evidence.specs.declared.sent.MessagesByEnd.{MessagesByEnd}

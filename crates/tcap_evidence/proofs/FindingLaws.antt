@@ -1,13 +1,13 @@
 -- The evidence that is found for an entry is the evidence that is defined.
-use Rattle.tcap_evidence.proofs.Common.{◌≡◌, ℕ, List, [], ◌∷◌, map, take, Bool, Option, Some, None, Ok, Err, refl, sym, ap, ◌∙◌, slice_get, Component, Message, components_in, dtid_in, Body, Good, Bad, Quiet, Side, Entry, other, Table, Reason, item_by, item_of, Item, Sent, Kind, Refutation, since_quiet, items_among, Stretch, invocations_of, component_at, grounds_in, invoke_id_in, mark_scene, scene_of, shows, IsScene, numbered_of, sent_before}
+use Rattle.tcap_evidence.proofs.Common.{◌≡◌, ℕ, List, [], ◌∷◌, map, take, Bool, Option, Some, None, Ok, Err, refl, sym, ap, ◌∙◌, slice_get, Component, Message, components_in, dtid_in, Body, Good, Bad, Quiet, Side, Entry, other, Table, Reason, item_by, item_of, Item, Sent, Kind, Refutation, since_quiet, items_among, MessagesByEnd, invocations_of, component_at, grounds_in, invoke_id_in, mark_scene, scene_of, shows, IsScene, numbered_of, sent_before}
 use Rattle.std.proofs.Common.{ℤ, subst}
 use Rattle.std.proofs.lemmas.Option.{slice_get-map}
 use Rattle.tcap_model.specs.declared.reason.Reason.TheVariants.{BadMessage, NoItem}
 use Rattle.tcap_faults.specs.declared.verdict.fault_subject.Subject.{Subject}
 use Rattle.tcap_faults.specs.FaultSubject.{subject_by, subject_of}
 use Rattle.tcap_evidence.specs.declared.scene.Scene.{Scene as SceneKept}
-use Rattle.tcap_evidence.specs.declared.shown_things.What.{What}
-use Rattle.tcap_evidence.specs.declared.shown_things.What.TheVariants as whats
+use Rattle.tcap_evidence.specs.declared.shown_things.ShownFact.{ShownFact}
+use Rattle.tcap_evidence.specs.declared.shown_things.ShownFact.TheVariants as facts
 use Rattle.tcap_evidence.specs.declared.operations.Invocation.{Invocation}
 use Rattle.tcap_evidence.specs.Operations.{invocations_at}
 use Rattle.tcap_evidence.specs.Evidence.{components_before, grounds_of, invoke_id_at}
@@ -16,7 +16,7 @@ use Rattle.tcap_evidence.specs.StoredScene.{scene_by}
 -- The stored scene is the message's scene, if the messages before it, the components before the one at fault and the
 -- invoke ID are stored correctly.
 pub scene_is : (table : Table) (side : Side) (entries : List Entry) (number : ℕ) (m : Message) (kind : Kind) (about : Subject)
-    (sent : Stretch) (all earlier : List Component) (id : Option ℤ) (kept : SceneKept)
+    (sent : MessagesByEnd) (all earlier : List Component) (id : Option ℤ) (kept : SceneKept)
     → IsScene (scene_by table side (since_quiet (items_among (map item_of (take number entries)))) sent m number about all earlier id) kept
     → numbered_of sent.own.items ≡ sent_before side entries number
     → numbered_of sent.peer.items ≡ sent_before (other side) entries number
@@ -47,10 +47,10 @@ odd_mark Quiet n = absurd (n refl)
 
 module _ (of_one : Bool) (table : Table) (side : Side) (entries : List Entry) (r : Refutation) where
   -- the evidence for a message, by the subject of its fault
-  abbrev grounds_by : Message → Subject → List (What × List ℕ)
+  abbrev grounds_by : Message → Subject → List (ShownFact × List ℕ)
   grounds_by m about =
       grounds_in (scene_of table side entries r.entry m r.kind about)
-      (shows (dtid_in m) about.how (component_at about.component (components_in m)) r.kind)
+      (shows (dtid_in m) about.origin (component_at about.component (components_in m)) r.kind)
 
   abbrev invocations_by : Message → Subject → List Invocation
   invocations_by m about =
@@ -88,7 +88,7 @@ module _ (of_one : Bool) (table : Table) (side : Side) (entries : List Entry) (r
 
   -- the evidence for a quiet mark
   pub mark : (e : Entry) → slice_get entries r.entry ≡ Some e → e.side ≡ None → e.body ≡ Quiet
-      → (grounds_in (mark_scene table side entries r.entry) (whats.Open ∷ []) ≡ grounds_of of_one table side entries r)
+      → (grounds_in (mark_scene table side entries r.entry) (facts.Open ∷ []) ≡ grounds_of of_one table side entries r)
       × ([] ≡ invocations_at of_one table side entries r) × (None ≡ invoke_id_at of_one table side entries r)
   mark e is s b =
       let item : slice_get (map item_of entries) r.entry ≡ Some (Ok Item.Quiet) =

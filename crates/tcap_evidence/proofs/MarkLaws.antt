@@ -6,7 +6,7 @@ use Rattle.std.proofs.lemmas.Map.Lookups.{exact_bytes}
 use Rattle.std.proofs.lemmas.Map.Views.{tells_apart}
 use Rattle.tcap_msg.specs.declared.kind.Kind.TheVariants as forms
 use Rattle.tcap_msg.specs.declared.message.Message.TheVariants.{Continue, Abort}
-use Rattle.tcap_model.specs.Run.{then_so, where_so}
+use Rattle.tcap_model.specs.Run.{option_then, only_if}
 use Rattle.tcap_refute.specs.EarlierMessages.{ends_to}
 use Rattle.tcap_faults.specs.ClosedHalves.{is_surely_open}
 use Rattle.tcap_faults.proofs.transaction_laws.KeyLaws.{at_other}
@@ -32,14 +32,14 @@ all_sent sent its ms are sent_is = sym (messages_are sent) ∙ ap (map (λ n. n.
 
 -- the destination of the first Continue from an ID
 first_goes : (id : List ℕ) (ms : List Message)
-    → first_to id ms ≡ then_so (find (λ m. is_a forms.Continue m && is_id id (otid_in m)) ms) dtid_in
+    → first_to id ms ≡ option_then (find (λ m. is_a forms.Continue m && is_id id (otid_in m)) ms) dtid_in
 first_goes id [] = refl
 first_goes id (Continue otid dtid dialogue components ∷ ms) = by (bytes_eq id otid) (first_goes id ms)
   where
     by : (b : Bool)
-        → first_to id ms ≡ then_so (find (λ m. is_a forms.Continue m && is_id id (otid_in m)) ms) dtid_in
-        → option_or (where_so b (Some dtid)) (first_to id ms)
-        ≡ then_so (cond b (Some (Continue otid dtid dialogue components)) (find (λ m. is_a forms.Continue m && is_id id (otid_in m)) ms)) dtid_in
+        → first_to id ms ≡ option_then (find (λ m. is_a forms.Continue m && is_id id (otid_in m)) ms) dtid_in
+        → option_or (only_if b (Some dtid)) (first_to id ms)
+        ≡ option_then (cond b (Some (Continue otid dtid dialogue components)) (find (λ m. is_a forms.Continue m && is_id id (otid_in m)) ms)) dtid_in
     by true rest = refl
     by false rest = rest
 first_goes id (m ∷ ms) = first_goes id ms
@@ -53,7 +53,7 @@ module _ (old : List (List ℕ × List ℕ)) (otid dtid : List ℕ) where
   pub first_noted : (new : List (List ℕ × List ℕ)) → is_some (lookup (is_at (octets_cmp otid)) old) ≡ false
       → Puts old new otid dtid
       → (id : List ℕ) → lookup (is_at (octets_cmp id)) new
-      ≡ option_or (lookup (is_at (octets_cmp id)) old) (where_so (bytes_eq id otid) (Some dtid))
+      ≡ option_or (lookup (is_at (octets_cmp id)) old) (only_if (bytes_eq id otid) (Some dtid))
   first_noted new none puts id = puts id ∙ by (is_at (octets_cmp otid) id) refl
     where
       nothing : (o : Option (List ℕ)) → is_some o ≡ false → o ≡ None
@@ -62,7 +62,7 @@ module _ (old : List (List ℕ × List ℕ)) (otid dtid : List ℕ) where
 
       by : (b : Bool) → is_at (octets_cmp otid) id ≡ b
           → cond b (Some dtid) (lookup (is_at (octets_cmp id)) old)
-          ≡ option_or (lookup (is_at (octets_cmp id)) old) (where_so (bytes_eq id otid) (Some dtid))
+          ≡ option_or (lookup (is_at (octets_cmp id)) old) (only_if (bytes_eq id otid) (Some dtid))
       by true same =
           let one : otid ≡ id = tells_apart exact_bytes otid id same in
           let gone : lookup (is_at (octets_cmp id)) old ≡ None =
@@ -101,7 +101,7 @@ ends_is id m = refl
 
 module _ (s : Scene) (kept : Halves) (are : AreHalves s kept) (unarranged : s.table.prearranged ≡ false) (own : List ℕ) where
   goes : (to : Option (List ℕ)) → to ≡ lookup (is_at (octets_cmp own)) kept.first.entries
-      → then_so (find (λ m. is_a forms.Continue m && is_id own (otid_in m)) (sent_by s.side s.items)) dtid_in ≡ to
+      → option_then (find (λ m. is_a forms.Continue m && is_id own (otid_in m)) (sent_by s.side s.items)) dtid_in ≡ to
   goes to is = sym (first_goes own (sent_by s.side s.items)) ∙ sym (are.first own) ∙ sym is
 
   -- The half is not open if no Continue went from its ID.

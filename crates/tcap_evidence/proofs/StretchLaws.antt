@@ -1,5 +1,5 @@
 -- The loop over the entries for the messages of each end, which are those since the last quiet mark.
-use Rattle.tcap_evidence.proofs.Common.{◌≡◌, ◌⊎◌, ℕ, ◌+◌, ◌<◌, ◌≤◌, arith, Bool, true, false, cond, List, [], ◌∷◌, ◌++◌, Result, Ok, Err, append_assoc, map, take, drop, get_or, length, refl, sym, ap, ◌∙◌, append-nil, Message, Side, Entry, other, Table, Reason, Item, Sent, item_of, sent_by, since_quiet, items_among, Stretch, mark_scene, IsStretch, Numbered, numbered_of, sent_before}
+use Rattle.tcap_evidence.proofs.Common.{◌≡◌, ◌⊎◌, ℕ, ◌+◌, ◌<◌, ◌≤◌, arith, Bool, true, false, cond, List, [], ◌∷◌, ◌++◌, Result, Ok, Err, append_assoc, map, take, drop, get_or, length, refl, sym, ap, ◌∙◌, append-nil, Message, Side, Entry, other, Table, Reason, Item, Sent, item_of, sent_by, since_quiet, items_among, MessagesByEnd, mark_scene, AreMessagesByEnd, Numbered, numbered_of, sent_before}
 use Rattle.std.proofs.Common.{length-take}
 use Rattle.std.proofs.lemmas.List.{drop_more, get_or-take, map-append}
 use Rattle.tcap_model.specs.World.{has_quiet, is_side}
@@ -86,10 +86,10 @@ module _ (side : Side) where
 -- ---- scenes
 
 -- The stored messages of each end before a quiet mark give the mark's scene.
-pub stretch_at_mark : (table : Table) (side : Side) (entries : List Entry) (number : ℕ) (kept : Stretch)
+pub stretch_at_mark : (table : Table) (side : Side) (entries : List Entry) (number : ℕ) (kept : MessagesByEnd)
     → (numbered_of kept.own.items ≡ sent_before side entries number)
     × (numbered_of kept.peer.items ≡ sent_before (other side) entries number)
-    → IsStretch (mark_scene table side entries number) kept
+    → AreMessagesByEnd (mark_scene table side entries number) kept
 stretch_at_mark table side entries number kept are = record {
   own = are.0;
   peer = are.1;

@@ -17,104 +17,109 @@ use Rattle.tcap_refute.specs.declared.kind.Kind.{Kind}
 use Rattle.tcap_refute.specs.declared.kind.Kind.TheVariants as kinds
 use Rattle.tcap_refute.specs.declared.kind.Refutation.{Refutation}
 use Rattle.tcap_refute.specs.EarlierMessages.{since_quiet}
-use Rattle.tcap_faults.specs.declared.dialogue.half_origin.How.{How}
-use Rattle.tcap_faults.specs.declared.dialogue.half_origin.How.TheVariants as hows
+use Rattle.tcap_faults.specs.declared.dialogue.half_origin.HalfOrigin.{HalfOrigin}
+use Rattle.tcap_faults.specs.declared.dialogue.half_origin.HalfOrigin.TheVariants as origins
 use Rattle.tcap_faults.specs.declared.component.component_sort.Class.TheVariants.{Any, One, Two, Three}
 use Rattle.tcap_faults.specs.declared.component.component_sort.Sort.{Sort}
 use Rattle.tcap_faults.specs.declared.component.component_sort.Sort.TheVariants as sorts
 use Rattle.tcap_faults.specs.declared.verdict.fault_subject.Subject.{Subject}
 use Rattle.tcap_faults.specs.Components.{is_of_link}
 use Rattle.tcap_faults.specs.FaultSubject.{items_among, no_subject, subject_of}
-use Rattle.tcap_evidence.specs.declared.shown_things.What.{What}
-use Rattle.tcap_evidence.specs.declared.shown_things.What.TheVariants as whats
+use Rattle.tcap_evidence.specs.declared.shown_things.ShownFact.{ShownFact}
+use Rattle.tcap_evidence.specs.declared.shown_things.ShownFact.TheVariants as facts
 use Rattle.tcap_evidence.specs.NumberedMessages.{sent_before}
 use Rattle.tcap_evidence.specs.Scene.{Scene, shown}
 
 -- ---- the things that show a kind
 
 -- Invokes in such a place: all, and those of class 1, 2 and 3
-abbrev pub by_class : (Sort → What) → List What
+abbrev pub by_class : (Sort → ShownFact) → List ShownFact
 by_class at =
     at (sorts.Invokes Any) ∷ at (sorts.Invokes One) ∷ at (sorts.Invokes Two) ∷ at (sorts.Invokes Three) ∷ []
 
 -- components that end invocations: last Return Results, Return Errors, and Rejects with an invoke problem
-abbrev pub takings : (Sort → What) → List What
+abbrev pub takings : (Sort → ShownFact) → List ShownFact
 takings at = at sorts.LastResults ∷ at sorts.Errors ∷ at sorts.InvokeRejects ∷ []
 
 -- F5: the components that could be answered or rejected. There is no list for a Reject without ID or with a general
 -- problem, which may reject something that could not be read.
-abbrev pub answered_by : Option Component → List What
-answered_by (Some (Reject (Some id) (problems.ReturnResult n))) = whats.There sorts.Results ∷ []
-answered_by (Some (Reject (Some id) (problems.ReturnError n))) = whats.There sorts.Errors ∷ []
-answered_by (Some (Reject (Some id) (problems.Invoke n))) = whats.There (sorts.Invokes Any) ∷ []
-answered_by (Some (ReturnResult last id body)) = whats.There (sorts.Invokes Any) ∷ []
-answered_by (Some (ReturnError id code parameter)) = whats.There (sorts.Invokes Any) ∷ []
+abbrev pub answered_by : Option Component → List ShownFact
+answered_by (Some (Reject (Some id) (problems.ReturnResult n))) = facts.PeerComponents sorts.Results ∷ []
+answered_by (Some (Reject (Some id) (problems.ReturnError n))) = facts.PeerComponents sorts.Errors ∷ []
+answered_by (Some (Reject (Some id) (problems.Invoke n))) = facts.PeerComponents (sorts.Invokes Any) ∷ []
+answered_by (Some (ReturnResult last id body)) = facts.PeerComponents (sorts.Invokes Any) ∷ []
+answered_by (Some (ReturnError id code parameter)) = facts.PeerComponents (sorts.Invokes Any) ∷ []
 answered_by c = []
 
 -- F6: the Invokes that would have to allow an answer
-abbrev pub allowed_by : Option Component → List What
-allowed_by (Some (ReturnResult last id body)) = by_class whats.There
-allowed_by (Some (ReturnError id code parameter)) = by_class whats.There
+abbrev pub allowed_by : Option Component → List ShownFact
+allowed_by (Some (ReturnResult last id body)) = by_class facts.PeerComponents
+allowed_by (Some (ReturnError id code parameter)) = by_class facts.PeerComponents
 allowed_by c = []
 
 -- F9: the Begins and Continues that determine the dialogue state
-abbrev pub dialogue_of : How → List What
-dialogue_of hows.Begun = whats.Begun ∷ whats.OwnRequests ∷ []
-dialogue_of how = whats.BeginsThere ∷ whats.RequestsThere ∷ whats.ContinuesTold ∷ []
+abbrev pub dialogue_of : HalfOrigin → List ShownFact
+dialogue_of origins.Begun = facts.Begun ∷ facts.OwnRequests ∷ []
+dialogue_of origin = facts.BeginsThere ∷ facts.RequestsThere ∷ facts.OutgoingContinues ∷ []
 
 -- F10: the own invocations of the ID, and the components that may have ended them
-abbrev pub in_use : List What
+abbrev pub in_use : List ShownFact
 in_use =
-    whats.Whole (sorts.Invokes Any) ∷ whats.Invoked (sorts.Lasting Any) ∷ whats.Invoked (sorts.Lasting One)
-    ∷ whats.Invoked (sorts.Lasting Three) ∷ whats.Heard sorts.LastResults ∷ whats.Heard sorts.NotLasts
-    ∷ whats.Heard sorts.Errors ∷ whats.Heard sorts.InvokeRejects ∷ whats.Heard sorts.GeneralRejects
-    ∷ whats.Whole sorts.ResultRejects ∷ whats.Whole sorts.GeneralRejects ∷ []
+    facts.Whole (sorts.Invokes Any) ∷ facts.Invoked (sorts.Lasting Any) ∷ facts.Invoked (sorts.Lasting One)
+    ∷ facts.Invoked (sorts.Lasting Three) ∷ facts.IncomingComponents sorts.LastResults
+    ∷ facts.IncomingComponents sorts.NotLasts
+    ∷ facts.IncomingComponents sorts.Errors ∷ facts.IncomingComponents sorts.InvokeRejects
+    ∷ facts.IncomingComponents sorts.GeneralRejects
+    ∷ facts.Whole sorts.ResultRejects ∷ facts.Whole sorts.GeneralRejects ∷ []
 
 -- F13 of a Reject with an invoke problem: duplicateInvokeID (0), or a link problem (5 to 7)
-abbrev pub problem_of_invoke : ℕ → List What
+abbrev pub problem_of_invoke : ℕ → List ShownFact
 problem_of_invoke n =
-    cond (n == 0) (whats.Heard (sorts.Invokes Any) ∷ whats.Before sorts.DuplicateRejects ∷ [])
-    (cond (is_of_link n) (whats.Heard sorts.Linked ∷ whats.Before sorts.LinkRejects ∷ []) [])
+    cond (n == 0) (facts.IncomingComponents (sorts.Invokes Any) ∷ facts.Before sorts.DuplicateRejects ∷ [])
+    (cond (is_of_link n) (facts.IncomingComponents sorts.Linked ∷ facts.Before sorts.LinkRejects ∷ []) [])
 
 -- F13: the components that could be rejected, and those by which the problem is judged
-abbrev pub rejected_by : Option Component → List What
+abbrev pub rejected_by : Option Component → List ShownFact
 rejected_by (Some (Reject id (problems.ReturnResult n))) =
-    (whats.Heard sorts.Results ∷ whats.Heard sorts.Errors ∷ whats.Before sorts.ResultRejects ∷ []) ++ by_class whats.Invoked
+    (facts.IncomingComponents sorts.Results ∷ facts.IncomingComponents sorts.Errors ∷ facts.Before sorts.ResultRejects
+    ∷ []) ++ by_class facts.Invoked
 rejected_by (Some (Reject id (problems.ReturnError n))) =
-    (whats.Heard sorts.Errors ∷ whats.Heard sorts.Results ∷ whats.Before sorts.ErrorRejects ∷ []) ++ by_class whats.Invoked
+    (facts.IncomingComponents sorts.Errors ∷ facts.IncomingComponents sorts.Results ∷ facts.Before sorts.ErrorRejects
+    ∷ []) ++ by_class facts.Invoked
 rejected_by (Some (Reject id (problems.Invoke n))) = problem_of_invoke n
 rejected_by c = []
 
 -- the things that show a kind, for a message with a destination ID
-abbrev pub shows_to : How → Option Component → Kind → List What
-shows_to how c kinds.BadMessage = []
-shows_to how c kinds.UnknownTransaction = whats.BeginsThere ∷ whats.ContinuesThere ∷ []
-shows_to how c kinds.ReusedId = whats.WentElsewhere ∷ []
-shows_to how c kinds.AfterEnd = whats.Ended ∷ []
-shows_to how c kinds.AnswersNothing = answered_by c
-shows_to how c kinds.WrongOperation = allowed_by c
-shows_to how c kinds.MisplacedDialogue = whats.BeginsThere ∷ whats.RequestsThere ∷ []
-shows_to how c kinds.WrongHalf =
-    whats.BeginsThere ∷ whats.Refused ∷ whats.ContinuesThere ∷ whats.Begun ∷ whats.ContinuesTold ∷ whats.Unknown ∷ []
-shows_to how c kinds.WrongDialogue = dialogue_of how
-shows_to how c kinds.InvokeIdBusy = in_use
-shows_to how c kinds.BadLink = whats.Heard (sorts.Invokes Any) ∷ takings whats.Before
-shows_to how c kinds.AnsweredAlready = by_class whats.Heard ++ takings whats.Before
-shows_to how c kinds.RejectNotAllowed = rejected_by c
-shows_to how c kinds.WrongReply =
-    whats.BeginsThere ∷ whats.ContinuesThere ∷ whats.Refused ∷ whats.Unknown ∷ whats.Told ∷ []
-shows_to how c kinds.OpenAtMark = []
+abbrev pub facts_with_id : HalfOrigin → Option Component → Kind → List ShownFact
+facts_with_id origin c kinds.BadMessage = []
+facts_with_id origin c kinds.UnknownTransaction = facts.BeginsThere ∷ facts.ContinuesThere ∷ []
+facts_with_id origin c kinds.ReusedId = facts.WentElsewhere ∷ []
+facts_with_id origin c kinds.AfterEnd = facts.Ended ∷ []
+facts_with_id origin c kinds.AnswersNothing = answered_by c
+facts_with_id origin c kinds.WrongOperation = allowed_by c
+facts_with_id origin c kinds.MisplacedDialogue = facts.BeginsThere ∷ facts.RequestsThere ∷ []
+facts_with_id origin c kinds.WrongHalf =
+    facts.BeginsThere ∷ facts.Refused ∷ facts.ContinuesThere ∷ facts.Begun ∷ facts.OutgoingContinues ∷ facts.Unknown
+    ∷ []
+facts_with_id origin c kinds.WrongDialogue = dialogue_of origin
+facts_with_id origin c kinds.InvokeIdBusy = in_use
+facts_with_id origin c kinds.BadLink = facts.IncomingComponents (sorts.Invokes Any) ∷ takings facts.Before
+facts_with_id origin c kinds.AnsweredAlready = by_class facts.IncomingComponents ++ takings facts.Before
+facts_with_id origin c kinds.RejectNotAllowed = rejected_by c
+facts_with_id origin c kinds.WrongReply =
+    facts.BeginsThere ∷ facts.ContinuesThere ∷ facts.Refused ∷ facts.Unknown ∷ facts.OutgoingComponents ∷ []
+facts_with_id origin c kinds.OpenAtMark = []
 
 -- the things that show a kind, for a message without a destination ID
-abbrev pub shows_alone : Kind → List What
-shows_alone kinds.ReusedId = whats.Used ∷ []
-shows_alone kinds.InvokeIdBusy = whats.Before (sorts.Invokes Any) ∷ []
-shows_alone kind = []
+abbrev pub facts_without_id : Kind → List ShownFact
+facts_without_id kinds.ReusedId = facts.Used ∷ []
+facts_without_id kinds.InvokeIdBusy = facts.Before (sorts.Invokes Any) ∷ []
+facts_without_id kind = []
 
 -- the things that show a kind, with or without a destination ID
-abbrev pub shows : Option (List ℕ) → How → Option Component → Kind → List What
-shows None how c kind = shows_alone kind
-shows (Some id) how c kind = shows_to how c kind
+abbrev pub shows : Option (List ℕ) → HalfOrigin → Option Component → Kind → List ShownFact
+shows None origin c kind = facts_without_id kind
+shows (Some id) origin c kind = facts_with_id origin c kind
 
 -- ---- the evidence for an entry
 
@@ -152,7 +157,7 @@ scene_of table side entries number m kind about = record {
   number = number;
   to = dtid_in m;
   from = otid_in m;
-  how = about.how;
+  origin = about.origin;
   half = about.own;
   all = components_in m;
   earlier = components_before about.component (components_in m);
@@ -160,15 +165,15 @@ scene_of table side entries number m kind about = record {
 }
 
 -- each of these things, with the entries that show it
-abbrev pub grounds_in : Scene → List What → List (What × List ℕ)
+abbrev pub grounds_in : Scene → List ShownFact → List (ShownFact × List ℕ)
 grounds_in s ws = map (λ w. (w, shown s w)) ws
 
 -- each of these things about the message of an entry, with the entries that show it, without a subject; empty if the
 -- entry is not a message
-abbrev pub grounds_at : Table → Side → List Entry → ℕ → List What → List (What × List ℕ)
+abbrev pub grounds_at : Table → Side → List Entry → ℕ → List ShownFact → List (ShownFact × List ℕ)
 grounds_at table side entries number ws = by (slice_get (map item_of entries) number)
   where
-    by : Option (Result Item Reason) → List (What × List ℕ)
+    by : Option (Result Item Reason) → List (ShownFact × List ℕ)
     by (Some (Ok (Sent sender m))) = grounds_in (scene_of table side entries number m kinds.BadMessage no_subject) ws
     by entry = []
 
@@ -183,7 +188,7 @@ mark_scene table side entries number = record {
   number = number;
   to = None;
   from = None;
-  how = hows.Nowhere;
+  origin = origins.Nowhere;
   half = None;
   all = [];
   earlier = [];
@@ -192,17 +197,17 @@ mark_scene table side entries number = record {
 
 -- The things that show the kind of an entry for that end, each with its entries. For a quiet mark, these are the
 -- Continues from IDs whose halves are open. Octets that are not a message need no evidence.
-abbrev pub grounds_of : Bool → Table → Side → List Entry → Refutation → List (What × List ℕ)
+abbrev pub grounds_of : Bool → Table → Side → List Entry → Refutation → List (ShownFact × List ℕ)
 grounds_of of_one table side entries r = by (slice_get (map item_of entries) r.entry)
   where
     about : Subject
     about = subject_of of_one table side entries r
 
-    by : Option (Result Item Reason) → List (What × List ℕ)
+    by : Option (Result Item Reason) → List (ShownFact × List ℕ)
     by (Some (Ok (Sent sender m))) =
         grounds_in (scene_of table side entries r.entry m r.kind about)
-        (shows (dtid_in m) about.how (component_at about.component (components_in m)) r.kind)
-    by (Some (Ok Item.Quiet)) = grounds_in (mark_scene table side entries r.entry) (whats.Open ∷ [])
+        (shows (dtid_in m) about.origin (component_at about.component (components_in m)) r.kind)
+    by (Some (Ok Item.Quiet)) = grounds_in (mark_scene table side entries r.entry) (facts.Open ∷ [])
     by entry = []
 
 -- the invoke ID whose components are counted for an entry

@@ -18,16 +18,16 @@ use Rattle.tcap_refute.specs.declared.kind.Kind.{Kind}
 use Rattle.tcap_refute.specs.declared.kind.Kind.TheVariants as kinds
 use Rattle.tcap_refute.specs.declared.kind.Refutation.{Refutation}
 use Rattle.tcap_refute.specs.Kind.{is_unknown_operation}
-use Rattle.tcap_faults.specs.declared.dialogue.half_origin.How.{How}
-use Rattle.tcap_faults.specs.declared.dialogue.half_origin.How.TheVariants.{Accepted, Refused, Begun, Unanswered, Nowhere}
+use Rattle.tcap_faults.specs.declared.dialogue.half_origin.HalfOrigin.{HalfOrigin}
+use Rattle.tcap_faults.specs.declared.dialogue.half_origin.HalfOrigin.TheVariants.{Accepted, Refused, Begun, Unanswered, Nowhere}
 use Rattle.tcap_faults.specs.declared.component.component_sort.Class.{Class}
 use Rattle.tcap_faults.specs.declared.component.component_sort.Class.TheVariants.{Any, One, Two, Three}
 use Rattle.tcap_faults.specs.declared.component.component_sort.Sort.{Sort}
 use Rattle.tcap_faults.specs.declared.component.component_sort.Sort.TheVariants as sorts
 use Rattle.tcap_faults.specs.declared.verdict.fault_subject.Subject.{Subject}
 use Rattle.tcap_evidence.specs.declared.operations.Invocation.{Invocation}
-use Rattle.tcap_evidence.specs.declared.shown_things.What.{What}
-use Rattle.tcap_evidence.specs.declared.shown_things.What.TheVariants as whats
+use Rattle.tcap_evidence.specs.declared.shown_things.ShownFact.{ShownFact}
+use Rattle.tcap_evidence.specs.declared.shown_things.ShownFact.TheVariants as facts
 use Rattle.tcap_faults.specs.Counts.{is_nothing}
 use Rattle.tcap_faults.specs.FaultSubject.{subject_of}
 use Rattle.tcap_evidence.specs.Evidence.{component_at, grounds_of, invoke_id_at}
@@ -97,12 +97,12 @@ message_lines m component =
 -- ---- the half
 
 -- the words for how a half began
-unfoldable pub how_words : How → List ℕ
-how_words Accepted = codes "began by the peer's Begin"
-how_words Refused = codes "the peer's Begin was refused"
-how_words Begun = codes "began by its own Begin, which the peer answered"
-how_words Unanswered = codes "began by its own Begin, which no Continue with an AARE answers"
-how_words Nowhere = codes "none"
+unfoldable pub origin_words : HalfOrigin → List ℕ
+origin_words Accepted = codes "began by the peer's Begin"
+origin_words Refused = codes "the peer's Begin was refused"
+origin_words Begun = codes "began by its own Begin, which the peer answered"
+origin_words Unanswered = codes "began by its own Begin, which no Continue with an AARE answers"
+origin_words Nowhere = codes "none"
 
 abbrev pub own_words : Option (List ℕ) → List ℕ
 own_words None = []
@@ -122,7 +122,8 @@ is_of_half kind = false
 abbrev pub half_line : Side → Kind → Option (List ℕ) → Subject → List ℕ
 half_line side kind None about = []
 half_line side kind (Some id) about = cond (is_of_half kind)
-    (codes "  the transaction of " ++ letter side ++ codes ": " ++ how_words about.how ++ own_words about.own ++ line_end) []
+    (codes "  the transaction of " ++ letter side ++ codes ": " ++ origin_words about.origin ++ own_words about.own
+    ++ line_end) []
 
 -- ---- the things that entries show
 
@@ -161,43 +162,43 @@ abbrev pub sorted : Sort → Option ℤ → List ℕ
 sorted sort id = sort_words sort ++ id_words id ++ class_words (class_of_sort sort)
 
 -- the end that sent the entries
-abbrev pub sender_of : Side → What → Side
-sender_of side whats.BeginsThere = other side
-sender_of side whats.RequestsThere = other side
-sender_of side whats.ContinuesThere = other side
-sender_of side (whats.There sort) = other side
-sender_of side (whats.Heard sort) = other side
-sender_of side what = side
+abbrev pub sender_of : Side → ShownFact → Side
+sender_of side facts.BeginsThere = other side
+sender_of side facts.RequestsThere = other side
+sender_of side facts.ContinuesThere = other side
+sender_of side (facts.PeerComponents sort) = other side
+sender_of side (facts.IncomingComponents sort) = other side
+sender_of side fact = side
 
 -- the words for messages and their IDs, or for the place of components
-unfoldable pub place_words : What → List ℕ
-place_words whats.BeginsThere = codes "Begins from its destination ID"
-place_words whats.RequestsThere = codes "Begins with AARQ from its destination ID"
-place_words whats.ContinuesThere = codes "Continues from its destination ID"
-place_words whats.Used = codes "messages from its originating ID before it"
-place_words whats.WentElsewhere = codes "Continues from its originating ID to another ID before it"
-place_words whats.Begun = codes "Begins from the own ID"
-place_words whats.OwnRequests = codes "Begins with AARQ from the own ID"
-place_words whats.Told = codes "messages to its destination ID before it"
-place_words whats.ContinuesTold = codes "Continues to its destination ID before it"
-place_words whats.Ended = codes "Ends and user Aborts to its destination ID before it"
-place_words whats.Unknown = codes "Aborts with cause 1 to its destination ID before it"
-place_words whats.Refused = codes "Aborts with cause 4 to its destination ID before it"
-place_words (whats.There sort) = codes " from its destination ID"
-place_words (whats.Heard sort) = codes " in this transaction"
-place_words (whats.Before sort) = codes " before it"
-place_words (whats.Whole sort) = codes " in its messages to there and in this one"
-place_words (whats.Invoked sort) = codes " in this transaction"
-place_words whats.Open = codes "Continues of transactions that are open"
+unfoldable pub place_words : ShownFact → List ℕ
+place_words facts.BeginsThere = codes "Begins from its destination ID"
+place_words facts.RequestsThere = codes "Begins with AARQ from its destination ID"
+place_words facts.ContinuesThere = codes "Continues from its destination ID"
+place_words facts.Used = codes "messages from its originating ID before it"
+place_words facts.WentElsewhere = codes "Continues from its originating ID to another ID before it"
+place_words facts.Begun = codes "Begins from the own ID"
+place_words facts.OwnRequests = codes "Begins with AARQ from the own ID"
+place_words facts.OutgoingComponents = codes "messages to its destination ID before it"
+place_words facts.OutgoingContinues = codes "Continues to its destination ID before it"
+place_words facts.Ended = codes "Ends and user Aborts to its destination ID before it"
+place_words facts.Unknown = codes "Aborts with cause 1 to its destination ID before it"
+place_words facts.Refused = codes "Aborts with cause 4 to its destination ID before it"
+place_words (facts.PeerComponents sort) = codes " from its destination ID"
+place_words (facts.IncomingComponents sort) = codes " in this transaction"
+place_words (facts.Before sort) = codes " before it"
+place_words (facts.Whole sort) = codes " in its messages to there and in this one"
+place_words (facts.Invoked sort) = codes " in this transaction"
+place_words facts.Open = codes "Continues of transactions that are open"
 
 -- the sort of components that is counted, if any
-abbrev pub sort_in : What → Option Sort
-sort_in (whats.There sort) = Some sort
-sort_in (whats.Heard sort) = Some sort
-sort_in (whats.Before sort) = Some sort
-sort_in (whats.Whole sort) = Some sort
-sort_in (whats.Invoked sort) = Some sort
-sort_in what = None
+abbrev pub sort_in : ShownFact → Option Sort
+sort_in (facts.PeerComponents sort) = Some sort
+sort_in (facts.IncomingComponents sort) = Some sort
+sort_in (facts.Before sort) = Some sort
+sort_in (facts.Whole sort) = Some sort
+sort_in (facts.Invoked sort) = Some sort
+sort_in fact = None
 
 abbrev pub sorted_in : Option Sort → Option ℤ → List ℕ
 sorted_in None id = []
@@ -225,30 +226,30 @@ entries_words (n ∷ more) =
     codes "entries " ++ decimal n ++ flat_map number_behind (take (most - 1) more) ++ more_words (length (n ∷ more))
 
 -- whether a line is printed even if there are no entries
-abbrev pub is_told_empty : What → Bool
-is_told_empty whats.BeginsThere = true
-is_told_empty whats.RequestsThere = true
-is_told_empty whats.ContinuesThere = true
-is_told_empty whats.Begun = true
-is_told_empty whats.OwnRequests = true
-is_told_empty (whats.There (sorts.Invokes Any)) = true
-is_told_empty (whats.There sorts.Results) = true
-is_told_empty (whats.There sorts.Errors) = true
-is_told_empty (whats.Heard (sorts.Invokes Any)) = true
-is_told_empty (whats.Heard sorts.Linked) = true
-is_told_empty (whats.Heard sorts.Results) = true
-is_told_empty (whats.Heard sorts.Errors) = true
-is_told_empty what = false
+abbrev pub is_listed_if_empty : ShownFact → Bool
+is_listed_if_empty facts.BeginsThere = true
+is_listed_if_empty facts.RequestsThere = true
+is_listed_if_empty facts.ContinuesThere = true
+is_listed_if_empty facts.Begun = true
+is_listed_if_empty facts.OwnRequests = true
+is_listed_if_empty (facts.PeerComponents (sorts.Invokes Any)) = true
+is_listed_if_empty (facts.PeerComponents sorts.Results) = true
+is_listed_if_empty (facts.PeerComponents sorts.Errors) = true
+is_listed_if_empty (facts.IncomingComponents (sorts.Invokes Any)) = true
+is_listed_if_empty (facts.IncomingComponents sorts.Linked) = true
+is_listed_if_empty (facts.IncomingComponents sorts.Results) = true
+is_listed_if_empty (facts.IncomingComponents sorts.Errors) = true
+is_listed_if_empty fact = false
 
 -- the words for what entries show, with the end that sent them
-abbrev pub what_words : Side → Option ℤ → What → List ℕ
-what_words side id what =
-    letter (sender_of side what) ++ codes ": " ++ sorted_in (sort_in what) id ++ place_words what
+abbrev pub fact_words : Side → Option ℤ → ShownFact → List ℕ
+fact_words side id fact =
+    letter (sender_of side fact) ++ codes ": " ++ sorted_in (sort_in fact) id ++ place_words fact
 
 -- the line for a thing and the entries that show it
-abbrev pub ground_line : Side → Option ℤ → What × List ℕ → List ℕ
-ground_line side id g = cond (is_nothing g.1 && not (is_told_empty g.0)) []
-    (codes "  " ++ what_words side id g.0 ++ codes ": " ++ entries_words g.1 ++ line_end)
+abbrev pub ground_line : Side → Option ℤ → ShownFact × List ℕ → List ℕ
+ground_line side id g = cond (is_nothing g.1 && not (is_listed_if_empty g.0)) []
+    (codes "  " ++ fact_words side id g.0 ++ codes ": " ++ entries_words g.1 ++ line_end)
 
 -- ---- invocations
 
@@ -301,14 +302,14 @@ doubt_lines table kind c = doubt_words kind
 -- ---- all lines
 
 -- the lines for a message at fault
-abbrev pub message_text : Table → Side → Refutation → Message → Subject → Option ℤ → List (What × List ℕ) → List ℕ
+abbrev pub message_text : Table → Side → Refutation → Message → Subject → Option ℤ → List (ShownFact × List ℕ) → List ℕ
 message_text table side r m about id grounds =
     entry_line side r about.component ++ message_lines m about.component ++ half_line side r.kind (dtid_in m) about
     ++ flat_map (ground_line side id) grounds
     ++ doubt_lines table r.kind (component_at about.component (components_in m))
 
 -- the lines for a quiet mark
-abbrev pub mark_text : Side → Refutation → List (What × List ℕ) → List ℕ
+abbrev pub mark_text : Side → Refutation → List (ShownFact × List ℕ) → List ℕ
 mark_text side r grounds = mark_line side r ++ flat_map (ground_line side None) grounds ++ doubt_words r.kind
 
 -- the lines for octets that are not a message
@@ -316,7 +317,8 @@ abbrev pub bad_text : Side → Refutation → List ℕ
 bad_text side r = entry_line side r None ++ doubt_words r.kind
 
 -- the lines for an entry at fault, without its invocations
-abbrev pub fault_text : Table → Side → Option Entry → Refutation → Subject → Option ℤ → List (What × List ℕ) → List ℕ
+abbrev pub fault_text : Table → Side → Option Entry → Refutation → Subject → Option ℤ → List (ShownFact × List ℕ)
+    → List ℕ
 fault_text table side entry r about id grounds = by entry
   where
     by_body : Option Side → Body → List ℕ
@@ -329,13 +331,14 @@ fault_text table side entry r about id grounds = by entry
     by (Some e) = by_body e.side e.body
 
 -- the lines for an entry at fault, with the invocations on whose operations and links the fault depends
-abbrev pub evidence_text : Table → Side → Option Entry → Refutation → Subject → Option ℤ → List (What × List ℕ) → List Invocation → List ℕ
+abbrev pub evidence_text : Table → Side → Option Entry → Refutation → Subject → Option ℤ → List (ShownFact × List ℕ)
+    → List Invocation → List ℕ
 evidence_text table side entry r about id grounds invocations =
     fault_text table side entry r about id grounds ++ invocation_lines table id invocations
 
 -- the lines for an entry of a record; `of_one` says whether its kind was found for one end alone
-abbrev pub told_text : Bool → Table → Side → List Entry → Refutation → List ℕ
-told_text of_one table side entries r =
+abbrev pub refutation_text : Bool → Table → Side → List Entry → Refutation → List ℕ
+refutation_text of_one table side entries r =
     evidence_text table side (slice_get entries r.entry) r (subject_of of_one table side entries r)
     (invoke_id_at of_one table side entries r) (grounds_of of_one table side entries r)
     (invocations_at of_one table side entries r)

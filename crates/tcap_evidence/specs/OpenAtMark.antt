@@ -12,12 +12,12 @@ use Rattle.tcap_record.specs.Ends.{other}
 use Rattle.tcap_end.specs.End.{is_id}
 use Rattle.tcap_end.specs.Table.{octets_cmp}
 use Rattle.tcap_model.specs.SinceMark.{ended_by}
-use Rattle.tcap_model.specs.Run.{where_so}
+use Rattle.tcap_model.specs.Run.{only_if}
 use Rattle.tcap_refute.specs.EarlierMessages.{is_a, sent_by}
 use Rattle.tcap_evidence.specs.declared.mark.Halves.{Halves}
 use Rattle.tcap_evidence.specs.declared.sent.Sent.{Sent as SentEntry}
-use Rattle.tcap_evidence.specs.declared.shown_things.What.{What}
-use Rattle.tcap_evidence.specs.declared.shown_things.What.TheVariants as whats
+use Rattle.tcap_evidence.specs.declared.shown_things.ShownFact.{ShownFact}
+use Rattle.tcap_evidence.specs.declared.shown_things.ShownFact.TheVariants as facts
 use Rattle.tcap_evidence.specs.Scene.{Scene}
 
 -- the stored messages
@@ -26,12 +26,12 @@ messages_of sent = map (λ s. s.message.now) sent
 
 -- the ID to which a message is an End or an Abort; `true` counts Aborts of the provider, `false` does not
 abbrev pub ended_to : Bool → Message → Option (List ℕ)
-ended_to true m = where_so (is_a forms.End m || is_a forms.Abort m) (dtid_in m)
+ended_to true m = only_if (is_a forms.End m || is_a forms.Abort m) (dtid_in m)
 ended_to false m = ended_by m
 
 -- the ID to which a message is a Continue from this ID
 abbrev pub goes_first : List ℕ → Message → Option (List ℕ)
-goes_first id m = where_so (is_a forms.Continue m && is_id id (otid_in m)) (dtid_in m)
+goes_first id m = only_if (is_a forms.Continue m && is_id id (otid_in m)) (dtid_in m)
 
 -- the ID to which the first Continue from this ID goes
 abbrev pub first_to : List ℕ → List Message → Option (List ℕ)
@@ -39,9 +39,9 @@ first_to id [] = None
 first_to id (m ∷ more) = option_or (goes_first id m) (first_to id more)
 
 -- whether this thing is shown for a quiet mark only
-abbrev pub is_of_mark : What → Bool
-is_of_mark whats.Open = true
-is_of_mark what = false
+abbrev pub is_of_mark : ShownFact → Bool
+is_of_mark facts.Open = true
+is_of_mark fact = false
 
 -- The stored facts about the halves of an end: for each own ID, the destination of the first Continue from it; and the
 -- IDs that the end and its peer ended.

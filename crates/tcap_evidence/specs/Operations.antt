@@ -20,7 +20,7 @@ use Rattle.tcap_faults.specs.declared.verdict.fault_subject.Subject.{Subject}
 use Rattle.tcap_faults.specs.FaultSubject.{subject_of}
 use Rattle.tcap_evidence.specs.declared.operations.Invocation.{Invocation}
 use Rattle.tcap_evidence.specs.NumberedMessages.{Numbered, in_order}
-use Rattle.tcap_evidence.specs.Scene.{Scene, heard_by, invoked_by, there}
+use Rattle.tcap_evidence.specs.Scene.{Scene, incoming_by, invoked_by, peer_from_dtid}
 use Rattle.tcap_evidence.specs.Evidence.{component_at, scene_of}
 
 -- ---- the Invokes of an ID
@@ -54,11 +54,12 @@ rejects_answer c = false
 -- from the destination ID. F11, F12, and F13 of a Reject of an Invoke: the messages that the half heard. F10, and F13
 -- of a Reject of an answer: the messages that carry the half's own invocations.
 abbrev pub compared : Scene → Kind → Option Component → List Numbered
-compared s kinds.WrongOperation c = cond (answers c) (there s) []
-compared s kinds.InvokeIdBusy c = in_order (invoked_by s s.how)
-compared s kinds.BadLink c = in_order (heard_by s s.how)
-compared s kinds.AnsweredAlready c = in_order (heard_by s s.how)
-compared s kinds.RejectNotAllowed c = in_order (cond (rejects_answer c) (invoked_by s s.how) (heard_by s s.how))
+compared s kinds.WrongOperation c = cond (answers c) (peer_from_dtid s) []
+compared s kinds.InvokeIdBusy c = in_order (invoked_by s s.origin)
+compared s kinds.BadLink c = in_order (incoming_by s s.origin)
+compared s kinds.AnsweredAlready c = in_order (incoming_by s s.origin)
+compared s kinds.RejectNotAllowed c =
+    in_order (cond (rejects_answer c) (invoked_by s s.origin) (incoming_by s s.origin))
 compared s kind c = []
 
 -- the invocations on which the fault of a message depends

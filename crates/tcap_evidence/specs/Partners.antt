@@ -8,8 +8,8 @@ use Rattle.tcap_record.specs.declared.entry.Entry.{Entry}
 use Rattle.tcap_model.specs.declared.reason.Reason.{Reason}
 use Rattle.tcap_model.specs.World.{Item, Sent, is_side}
 use Rattle.tcap_model.specs.Entries.{item_of}
-use Rattle.tcap_model.specs.Run.{where_so}
-use Rattle.tcap_faults.specs.SentToId.{begins_from, goes_on_from, goes_on_to}
+use Rattle.tcap_model.specs.Run.{only_if}
+use Rattle.tcap_faults.specs.SentToId.{is_begin_from, is_continue_from, is_continue_to}
 use Rattle.tcap_evidence.specs.Scene.{is_that}
 
 -- the entries so far; and, since the ID was begun, its partner in the last Continue from it and in the last Continue
@@ -25,7 +25,7 @@ no_pairing = ([], None, None)
 -- other end sent it to the ID, it is the originating ID.
 abbrev pub partner_in : Side → List ℕ → Side → Message → Option (List ℕ)
 partner_in of id sender m =
-    cond (is_side of sender) (where_so (goes_on_from id m) (dtid_in m)) (where_so (goes_on_to id m) (otid_in m))
+    cond (is_side of sender) (only_if (is_continue_from id m) (dtid_in m)) (only_if (is_continue_to id m) (otid_in m))
 
 -- the entry, unless its partner is the same as the last one
 abbrev pub anew : ℕ → List ℕ → Option (List ℕ) → List ℕ
@@ -39,7 +39,7 @@ with_partner number false (Some partner) (entries, from, to) = (entries ++ anew 
 
 -- the pairing after a message
 abbrev pub with_message : Side → List ℕ → ℕ → Side → Message → Pairing → Pairing
-with_message of id number sender m pairing = cond (is_side of sender && begins_from id m)
+with_message of id number sender m pairing = cond (is_side of sender && is_begin_from id m)
     (pairing.0 ++ number ∷ [], None, None) (with_partner number (is_side of sender) (partner_in of id sender m) pairing)
 
 -- the pairing after an entry: a quiet mark resets it, and octets that are not a message change nothing

@@ -21,14 +21,14 @@ use Rattle.tcap_refute.specs.declared.kind.Kind.{Kind}
 use Rattle.tcap_refute.specs.declared.kind.Kind.TheVariants as kinds
 use Rattle.tcap_refute.specs.EarlierMessages.{is_a}
 use Rattle.tcap_refute.specs.Kind.{goes_elsewhere}
-use Rattle.tcap_faults.specs.SentToId.{goes_on_to, is_cause}
+use Rattle.tcap_faults.specs.SentToId.{is_continue_to, is_cause}
 use Rattle.tcap_faults.specs.ClosedHalves.{is_surely_open}
-use Rattle.tcap_faults.specs.declared.dialogue.half_origin.How.{How}
-use Rattle.tcap_faults.specs.declared.dialogue.half_origin.How.TheVariants.{Accepted, Refused, Begun, Unanswered, Nowhere}
+use Rattle.tcap_faults.specs.declared.dialogue.half_origin.HalfOrigin.{HalfOrigin}
+use Rattle.tcap_faults.specs.declared.dialogue.half_origin.HalfOrigin.TheVariants.{Accepted, Refused, Begun, Unanswered, Nowhere}
 use Rattle.tcap_faults.specs.declared.component.component_sort.Sort.{Sort}
 use Rattle.tcap_faults.specs.InvokeCounts.{is_sort}
-use Rattle.tcap_evidence.specs.declared.shown_things.What.{What}
-use Rattle.tcap_evidence.specs.declared.shown_things.What.TheVariants as whats
+use Rattle.tcap_evidence.specs.declared.shown_things.ShownFact.{ShownFact}
+use Rattle.tcap_evidence.specs.declared.shown_things.ShownFact.TheVariants as facts
 use Rattle.tcap_evidence.specs.NumberedMessages.{Numbered, entries_where, entries_with, in_order}
 
 -- What is known of a message at fault.
@@ -44,7 +44,7 @@ pub record Scene : Type 0 where
   pub to : Option (List ℕ)
   pub from : Option (List ℕ)
   -- how the half began over which the message would go, and the half's own ID
-  pub how : How
+  pub origin : HalfOrigin
   pub half : Option (List ℕ)
   -- the components of the message, those before the component at fault, and the invoke ID in question
   pub all : List Component
@@ -59,12 +59,12 @@ is_that (Some id) other = is_id id other
 -- ---- messages that were sent
 
 -- the peer's messages from the destination ID
-abbrev pub there : Scene → List Numbered
-there s = filter (λ n. is_that s.to (otid_in n.1)) s.peer
+abbrev pub peer_from_dtid : Scene → List Numbered
+peer_from_dtid s = filter (λ n. is_that s.to (otid_in n.1)) s.peer
 
 -- the end's messages to the destination ID, without its provider's Aborts
-abbrev pub told_there : Scene → List Numbered
-told_there s = filter (λ n. is_that s.to (dtid_in n.1) && is_none (cause_in n.1)) s.own
+abbrev pub sent_to_dtid : Scene → List Numbered
+sent_to_dtid s = filter (λ n. is_that s.to (dtid_in n.1) && is_none (cause_in n.1)) s.own
 
 -- the own ID in question: that of the half or, if it is unknown, the message's originating ID
 abbrev pub own_id : Scene → Option (List ℕ)
@@ -81,7 +81,7 @@ to_half s = by s.half
   where
     by : Option (List ℕ) → List Numbered
     by None = []
-    by (Some own) = filter (λ n. goes_on_to own n.1) (there s)
+    by (Some own) = filter (λ n. is_continue_to own n.1) (peer_from_dtid s)
 
 -- the half's own Begin
 abbrev pub own_begin : Scene → Option Numbered
@@ -95,20 +95,20 @@ has_request (Some n) = is_begin_with_request n.1
 -- The messages that a half heard, by how it began. If the peer sent the Begin: this Begin, and all Continues to the
 -- half's own ID. If the end sent it: these Continues; but if the Begin requested a dialogue, only from the first one
 -- on that carries a response.
-abbrev pub heard_by : Scene → How → List Numbered
-heard_by s Accepted = option_to_list (find (λ n. is_a forms.Begin n.1) (there s)) ++ to_half s
-heard_by s Refused = option_to_list (find (λ n. is_a forms.Begin n.1) (there s)) ++ to_half s
-heard_by s Begun =
+abbrev pub incoming_by : Scene → HalfOrigin → List Numbered
+incoming_by s Accepted = option_to_list (find (λ n. is_a forms.Begin n.1) (peer_from_dtid s)) ++ to_half s
+incoming_by s Refused = option_to_list (find (λ n. is_a forms.Begin n.1) (peer_from_dtid s)) ++ to_half s
+incoming_by s Begun =
     cond (has_request (own_begin s)) (since_first (λ n. is_response (dialogue_in n.1)) (to_half s)) (to_half s)
-heard_by s Unanswered = []
-heard_by s Nowhere = []
+incoming_by s Unanswered = []
+incoming_by s Nowhere = []
 
 -- The messages that carry a half's own invocations, by how it began: its own Begin, if it sent one, and the end's
 -- messages to the destination ID.
-abbrev pub invoked_by : Scene → How → List Numbered
-invoked_by s Begun = option_to_list (own_begin s) ++ told_there s
-invoked_by s Unanswered = option_to_list (own_begin s) ++ told_there s
-invoked_by s how = told_there s
+abbrev pub invoked_by : Scene → HalfOrigin → List Numbered
+invoked_by s Begun = option_to_list (own_begin s) ++ sent_to_dtid s
+invoked_by s Unanswered = option_to_list (own_begin s) ++ sent_to_dtid s
+invoked_by s origin = sent_to_dtid s
 
 -- ---- the entries that show a fault, in order
 
@@ -145,22 +145,22 @@ is_open_continue s m = is_a forms.Continue m && by (otid_in m)
     by (Some own) = is_surely_open s.table s.side s.items own
 
 -- the entries that show one thing about a message at fault
-abbrev pub shown : Scene → What → List ℕ
-shown s whats.BeginsThere = entries_where (is_a forms.Begin) (there s)
-shown s whats.RequestsThere = entries_where is_begin_with_request (there s)
-shown s whats.ContinuesThere = entries_where (is_a forms.Continue) (there s)
-shown s whats.Used = entries_where (λ m. is_that s.from (otid_in m)) s.own
-shown s whats.WentElsewhere = entries_where (went_elsewhere s) s.own
-shown s whats.Begun = entries_where (λ m. is_a forms.Begin m && is_that (own_id s) (otid_in m)) s.own
-shown s whats.OwnRequests = entries_where (λ m. is_begin_with_request m && is_that (own_id s) (otid_in m)) s.own
-shown s whats.Told = entries_where (λ m. true) (told_there s)
-shown s whats.ContinuesTold = entries_where (is_a forms.Continue) (told_there s)
-shown s whats.Ended = entries_where (λ m. is_that s.to (ended_by m)) s.own
-shown s whats.Unknown = entries_where (λ m. is_that s.to (dtid_in m) && is_cause 1 (cause_in m)) s.own
-shown s whats.Refused = entries_where (λ m. is_that s.to (dtid_in m) && is_cause 4 (cause_in m)) s.own
-shown s (whats.There sort) = with_sort s sort (there s)
-shown s (whats.Heard sort) = with_sort s sort (in_order (heard_by s s.how))
-shown s (whats.Before sort) = with_sort s sort (told_there s) ++ with_sort_in s sort s.earlier
-shown s (whats.Whole sort) = with_sort s sort (told_there s) ++ with_sort_in s sort s.all
-shown s (whats.Invoked sort) = with_sort s sort (in_order (invoked_by s s.how))
-shown s whats.Open = entries_where (is_open_continue s) s.own
+abbrev pub shown : Scene → ShownFact → List ℕ
+shown s facts.BeginsThere = entries_where (is_a forms.Begin) (peer_from_dtid s)
+shown s facts.RequestsThere = entries_where is_begin_with_request (peer_from_dtid s)
+shown s facts.ContinuesThere = entries_where (is_a forms.Continue) (peer_from_dtid s)
+shown s facts.Used = entries_where (λ m. is_that s.from (otid_in m)) s.own
+shown s facts.WentElsewhere = entries_where (went_elsewhere s) s.own
+shown s facts.Begun = entries_where (λ m. is_a forms.Begin m && is_that (own_id s) (otid_in m)) s.own
+shown s facts.OwnRequests = entries_where (λ m. is_begin_with_request m && is_that (own_id s) (otid_in m)) s.own
+shown s facts.OutgoingComponents = entries_where (λ m. true) (sent_to_dtid s)
+shown s facts.OutgoingContinues = entries_where (is_a forms.Continue) (sent_to_dtid s)
+shown s facts.Ended = entries_where (λ m. is_that s.to (ended_by m)) s.own
+shown s facts.Unknown = entries_where (λ m. is_that s.to (dtid_in m) && is_cause 1 (cause_in m)) s.own
+shown s facts.Refused = entries_where (λ m. is_that s.to (dtid_in m) && is_cause 4 (cause_in m)) s.own
+shown s (facts.PeerComponents sort) = with_sort s sort (peer_from_dtid s)
+shown s (facts.IncomingComponents sort) = with_sort s sort (in_order (incoming_by s s.origin))
+shown s (facts.Before sort) = with_sort s sort (sent_to_dtid s) ++ with_sort_in s sort s.earlier
+shown s (facts.Whole sort) = with_sort s sort (sent_to_dtid s) ++ with_sort_in s sort s.all
+shown s (facts.Invoked sort) = with_sort s sort (in_order (invoked_by s s.origin))
+shown s facts.Open = entries_where (is_open_continue s) s.own

@@ -11,9 +11,9 @@ use Rattle.tcap_model.specs.World.{Item}
 use Rattle.tcap_refute.specs.EarlierMessages.{sent_by}
 use Rattle.tcap_faults.specs.declared.verdict.fault_subject.Subject.{Subject}
 use Rattle.tcap_evidence.specs.declared.scene.Scene.{Scene as SceneKept}
-use Rattle.tcap_evidence.specs.declared.sent.Stretch.{Stretch}
+use Rattle.tcap_evidence.specs.declared.sent.MessagesByEnd.{MessagesByEnd}
 use Rattle.tcap_evidence.specs.NumberedMessages.{numbered_of}
-use Rattle.tcap_evidence.specs.Scene.{Scene, there, told_there}
+use Rattle.tcap_evidence.specs.Scene.{Scene, peer_from_dtid, sent_to_dtid}
 
 -- Each stored part is that part of the scene.
 pub record IsScene (s : Scene) (kept : SceneKept) : Type 0 where
@@ -21,28 +21,29 @@ pub record IsScene (s : Scene) (kept : SceneKept) : Type 0 where
   pub number : kept.number ≡ s.number
   pub to : kept.to ≡ s.to
   pub from : kept.from ≡ s.from
-  pub how : kept.how ≡ s.how
+  pub origin : kept.origin ≡ s.origin
   pub half : kept.half ≡ s.half
   pub all : map component_of kept.all.items ≡ s.all
   pub earlier : map component_of kept.earlier.items ≡ s.earlier
   pub id : kept.id ≡ s.id
   pub own : numbered_of kept.own.items ≡ s.own
-  pub there : numbered_of kept.there.items ≡ there s
-  pub told : numbered_of kept.told.items ≡ told_there s
+  pub peer_from_dtid : numbered_of kept.there.items ≡ peer_from_dtid s
+  pub outgoing : numbered_of kept.outgoing.items ≡ sent_to_dtid s
 
 -- the scene of a message, from the subject of its fault, the stored messages of each end before it, and the given
 -- items
-abbrev pub scene_by : Table → Side → List Item → Stretch → Message → ℕ → Subject → List Component → List Component → Option ℤ → Scene
-scene_by table side items stretch m number about all earlier id = record {
+abbrev pub scene_by : Table → Side → List Item → MessagesByEnd → Message → ℕ → Subject → List Component → List Component
+    → Option ℤ → Scene
+scene_by table side items messages_by_end m number about all earlier id = record {
   table = table;
   side = side;
   items = items;
-  own = numbered_of stretch.own.items;
-  peer = numbered_of stretch.peer.items;
+  own = numbered_of messages_by_end.own.items;
+  peer = numbered_of messages_by_end.peer.items;
   number = number;
   to = dtid_in m;
   from = otid_in m;
-  how = about.how;
+  origin = about.origin;
   half = about.own;
   all = all;
   earlier = earlier;
@@ -50,7 +51,7 @@ scene_by table side items stretch m number about all earlier id = record {
 }
 
 -- The stored messages of each end are those of the scene, and these are what each end sent among the scene's items.
-pub record IsStretch (s : Scene) (kept : Stretch) : Type 0 where
+pub record AreMessagesByEnd (s : Scene) (kept : MessagesByEnd) : Type 0 where
   pub own : numbered_of kept.own.items ≡ s.own
   pub peer : numbered_of kept.peer.items ≡ s.peer
   pub own_sent : map (λ n. n.1) s.own ≡ sent_by s.side s.items

@@ -18,8 +18,8 @@ use Rattle.tcap_faults.specs.declared.verdict.unblamed_reason.Unblamed.{Unblamed
 use Rattle.tcap_faults.specs.declared.verdict.unblamed_reason.Unblamed.TheVariants.{UsedAgain, Tangled}
 use Rattle.tcap_faults.specs.Fault.{blamed}
 use Rattle.tcap_faults.specs.Unblamed.{unblamed_at}
-use Rattle.tcap_evidence.specs.declared.shown_things.What.{What}
-use Rattle.tcap_evidence.specs.declared.shown_things.What.TheVariants as whats
+use Rattle.tcap_evidence.specs.declared.shown_things.ShownFact.{ShownFact}
+use Rattle.tcap_evidence.specs.declared.shown_things.ShownFact.TheVariants as facts
 use Rattle.tcap_evidence.specs.Evidence.{grounds_at}
 use Rattle.tcap_evidence.specs.Partners.{paired_before}
 use Rattle.tcap_evidence.specs.EvidenceWords.{entries_words, ground_line, is_for}
@@ -31,8 +31,8 @@ pub record IsUnblamed (table : Table) (side : Side) (entries : List Entry) (numb
   pub none : (end : Side) (r : Refutation) → blamed table end entries ≡ Some r → number < r.entry
 
 -- the things that show earlier uses of a message's IDs
-abbrev pub id_uses : List What
-id_uses = whats.BeginsThere ∷ whats.ContinuesThere ∷ whats.ContinuesTold ∷ whats.Used ∷ []
+abbrev pub id_uses : List ShownFact
+id_uses = facts.BeginsThere ∷ facts.ContinuesThere ∷ facts.OutgoingContinues ∷ facts.Used ∷ []
 
 -- the lines that show earlier uses of the IDs of the message in that entry
 abbrev pub id_lines : Table → Side → List Entry → ℕ → List ℕ

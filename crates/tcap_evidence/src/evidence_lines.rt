@@ -7,14 +7,14 @@ ghost use Rattle.tcap_parts.specs.Meaning.{component_of};
 ghost use Rattle.tcap_msg.specs.Parts.{dtid_in};
 ghost use Rattle.tcap_record.specs.Ends.{letter};
 ghost use Rattle.tcap_record.specs.Lines.{head_text, line_end};
-ghost use Rattle.tcap_evidence.specs.EvidenceWords.{component_shown, component_words, doubt_lines, entries_words, entry_line, evidence_text, fault_text, ground_line, half_line, how_words, id_words, is_for, lacks, mark_line, message_text, more_words, number_behind, open_words, own_words, sentence_words, sorted, sorted_in, told_text, what_words};
+ghost use Rattle.tcap_evidence.specs.EvidenceWords.{component_shown, component_words, doubt_lines, entries_words, entry_line, evidence_text, fault_text, ground_line, half_line, origin_words, id_words, is_for, lacks, mark_line, message_text, more_words, number_behind, open_words, own_words, sentence_words, sorted, sorted_in, refutation_text, fact_words};
 
 use crate::finding::{Evidence, Ground, component_at, find_evidence};
 use crate::operation_lines::push_invocations;
-use crate::shown_things::What;
+use crate::shown_things::ShownFact;
 use crate::words::{
-    class_of_sort, class_words, doubt_words, how_words, is_of_half, is_told_empty, kind_words,
-    lacks_words, place_words, sender_of, sort_in, sort_words,
+    class_of_sort, class_words, doubt_words, is_listed_if_empty, is_of_half, kind_words,
+    lacks_words, origin_words, place_words, sender_of, sort_in, sort_words,
 };
 use std::alloc::{AllocError, Global};
 use tcap_end::Table;
@@ -133,15 +133,16 @@ fn push_own(text: &mut String, own: Option<&TransactionId>) -> Result<(), AllocE
 }
 
 /// Appends the line on how the half began over which a message would go, with its own ID.
-fn push_how(text: &mut String, end: End, about: &Subject) -> Result<(), AllocError>
+fn push_origin(text: &mut String, end: End, about: &Subject) -> Result<(), AllocError>
     ensures { OnOk result (string_bytes text.new ≡ string_bytes text.old
-        ++ (codes "  the transaction of " ++ letter end ++ codes ": " ++ how_words about.now.how ++ own_words about.now.own
+        ++ (codes "  the transaction of " ++ letter end ++ codes ": " ++ origin_words about.now.origin
+        ++ own_words about.now.own
         ++ line_end)) }
 {
     text.push_str("  the transaction of ")?;
     text.push_str(end.letter())?;
     text.push_str(": ")?;
-    text.push_str(how_words(about.how))?;
+    text.push_str(origin_words(about.origin))?;
     push_own(text, about.own.as_ref())?;
     text.push_str("\n")
 }
@@ -158,7 +159,7 @@ fn push_half(
         ++ half_line end kind (dtid_in message.now) about.now) }
 {
     match message.dtid() {
-        Some(_) if is_of_half(kind) => push_how(text, end, about),
+        Some(_) if is_of_half(kind) => push_origin(text, end, about),
         _ => Ok(()),
     }
 }
@@ -235,13 +236,18 @@ pub(crate) fn push_entries(text: &mut String, entries: &[u64]) -> Result<(), All
 /// # Errors
 ///
 /// AllocError if memory runs out.
-pub fn push_what(text: &mut String, end: End, what: What, id: Option<i8>) -> Result<(), AllocError>
-    ensures { OnOk result (string_bytes text.new ≡ string_bytes text.old ++ what_words end id what) }
+pub fn push_fact(
+    text: &mut String,
+    end: End,
+    fact: ShownFact,
+    id: Option<i8>,
+) -> Result<(), AllocError>
+    ensures { OnOk result (string_bytes text.new ≡ string_bytes text.old ++ fact_words end id fact) }
 {
-    text.push_str(sender_of(end, what).letter())?;
+    text.push_str(sender_of(end, fact).letter())?;
     text.push_str(": ")?;
-    push_sorted(text, sort_in(what), id)?;
-    text.push_str(place_words(what))
+    push_sorted(text, sort_in(fact), id)?;
+    text.push_str(place_words(fact))
 }
 
 /// Appends the line for a thing and the entries that show it.
@@ -252,14 +258,14 @@ fn push_ground(
     ground: &Ground,
 ) -> Result<(), AllocError>
     ensures { OnOk result (string_bytes text.new ≡ string_bytes text.old
-        ++ ground_line end id (ground.now.what, ground.now.entries.items)) }
+        ++ ground_line end id (ground.now.fact, ground.now.entries.items)) }
 {
-    let what = ground.what;
-    if ground.entries.is_empty() && !is_told_empty(what) {
+    let fact = ground.fact;
+    if ground.entries.is_empty() && !is_listed_if_empty(fact) {
         return Ok(());
     }
     text.push_str("  ")?;
-    push_what(text, end, what, id)?;
+    push_fact(text, end, fact, id)?;
     text.push_str(": ")?;
     push_entries(text, &ground.entries)?;
     text.push_str("\n")
@@ -273,7 +279,7 @@ pub(crate) fn push_grounds(
     grounds: &[Ground],
 ) -> Result<(), AllocError>
     ensures { OnOk result (string_bytes text.new ≡ string_bytes text.old
-        ++ flat_map (ground_line end id) (map (λ g. (g.what, g.entries.items)) grounds.now)) }
+        ++ flat_map (ground_line end id) (map (λ g. (g.fact, g.entries.items)) grounds.now)) }
 {
     for ground in grounds {
         push_ground(text, end, id, ground)?;
@@ -318,7 +324,7 @@ fn push_of_message(
 ) -> Result<(), AllocError>
     ensures { OnOk result (string_bytes text.new ≡ string_bytes text.old
         ++ message_text table.now end at message.now found.now.about found.now.id
-        (map (λ g. (g.what, g.entries.items)) found.now.grounds.items)) }
+        (map (λ g. (g.fact, g.entries.items)) found.now.grounds.items)) }
 {
     let about = &found.about;
     let component = component_at(message, about.component);
@@ -347,7 +353,7 @@ pub fn push_fault(
 ) -> Result<(), AllocError>
     ensures { OnOk result (string_bytes text.new ≡ string_bytes text.old
         ++ fault_text table.now end (slice_get «record».now.entries.items at.entry) at found.now.about found.now.id
-        (map (λ g. (g.what, g.entries.items)) found.now.grounds.items)) }
+        (map (λ g. (g.fact, g.entries.items)) found.now.grounds.items)) }
 {
     match record.entry_at(at.entry) {
         Some(
@@ -393,7 +399,7 @@ pub fn push_evidence(
 ) -> Result<(), AllocError>
     ensures { OnOk result (string_bytes text.new ≡ string_bytes text.old
         ++ evidence_text table.now end (slice_get «record».now.entries.items at.entry) at found.now.about found.now.id
-        (map (λ g. (g.what, g.entries.items)) found.now.grounds.items) found.now.invocations.items) }
+        (map (λ g. (g.fact, g.entries.items)) found.now.grounds.items) found.now.invocations.items) }
 {
     push_fault(text, record, table, end, at, found)?;
     push_invocations(text, table, found.id, &found.invocations)
@@ -418,7 +424,7 @@ pub fn push_why(
 ) -> Result<(), AllocError>
     requires of_end { is_for end (slice_get «record».now.entries.items at.entry) ≡ true }
     ensures { OnOk result (string_bytes text.new ≡ string_bytes text.old
-        ++ told_text of_one table.now end «record».now.entries.items at) }
+        ++ refutation_text of_one table.now end «record».now.entries.items at) }
 {
     match find_evidence(alloc, record, table, end, at, of_one) {
         Ok(found) => push_evidence(text, record, table, end, at, &found),

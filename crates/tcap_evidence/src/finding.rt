@@ -8,7 +8,7 @@ ghost use Rattle.tcap_record.specs.declared.entry.End.{End as Side};
 ghost use Rattle.tcap_record.specs.declared.entry.Entry.{Entry as AnEntry};
 ghost use Rattle.tcap_record.specs.Ends.{other};
 ghost use Rattle.tcap_faults.specs.FaultSubject.{subject_of};
-ghost use Rattle.tcap_evidence.specs.declared.shown_things.What.TheVariants as whats;
+ghost use Rattle.tcap_evidence.specs.declared.shown_things.ShownFact.TheVariants as facts;
 ghost use Rattle.tcap_evidence.specs.Evidence.{component_at, components_before, grounds_at, grounds_in, grounds_of, invoke_id_at, invoke_id_in, mark_scene, scene_of, shows};
 ghost use Rattle.tcap_evidence.specs.StoredScene.{IsScene};
 ghost use Rattle.tcap_evidence.specs.OpenAtMark.{is_of_mark};
@@ -19,12 +19,12 @@ ghost use Rattle.tcap_evidence.specs.Scene.{Scene as Known};
 use crate::mark::open_continues;
 use crate::operations::Invocation;
 use crate::scene::Scene;
-use crate::sent::{Stretch, stretch_before};
-use crate::shown_by_kind::shows_of;
-use crate::shown_things::What;
+use crate::sent::{MessagesByEnd, messages_before};
+use crate::shown_by_kind::facts_of;
+use crate::shown_things::ShownFact;
 use std::alloc::{AllocError, Global};
 use tcap_end::Table;
-use tcap_faults::{How, Subject, subject_of};
+use tcap_faults::{HalfOrigin, Subject, subject_of};
 use tcap_msg::{Message, MessageParts};
 use tcap_parts::ComponentView;
 use tcap_record::{Body, End, Entry, Record};
@@ -34,7 +34,7 @@ use tcap_refute::{Kind, Refutation, SearchFault};
 #[derive(Debug, Drop)]
 pub struct Ground {
     /// The thing that the entries show.
-    pub what: What,
+    pub fact: ShownFact,
     /// The numbers of the entries, in order. If components are counted, an entry occurs once for each such component.
     pub entries: Vec<u64>,
 }
@@ -101,35 +101,43 @@ fn components_of<'a>(
 /// fault.
 fn scene_for<'a>(
     alloc: Global,
-    stretch: Stretch<'a>,
+    messages_by_end: MessagesByEnd<'a>,
     table: &'a Table,
     message: &'a Message,
     at: Refutation,
     about: &Subject,
 ) -> Result<Scene<'a>, AllocError>
     ensures { (side : Side) (entries : List AnEntry)
-        → numbered_of stretch.entry.own.items ≡ sent_before side entries at.entry
-        → numbered_of stretch.entry.peer.items ≡ sent_before (other side) entries at.entry
+        → numbered_of messages_by_end.entry.own.items ≡ sent_before side entries at.entry
+        → numbered_of messages_by_end.entry.peer.items ≡ sent_before (other side) entries at.entry
         → IfOk result (IsScene (scene_of table.now side entries at.entry message.now at.kind about.now)) }
 {
     let id = invoke_id_of(at.kind, component_at(message, about.component));
     let all = components_of(alloc, message)?;
     let earlier = components_before(alloc, message, about.component)?;
     Scene::new(
-        alloc, stretch, table, message, at.entry, about, all, earlier, id,
+        alloc,
+        messages_by_end,
+        table,
+        message,
+        at.entry,
+        about,
+        all,
+        earlier,
+        id,
     )
 }
 
 /// Returns each of these things with the entries that show it. None of them may be for quiet marks only.
-fn grounds_in(alloc: Global, scene: &Scene, whats: &[What]) -> Result<Vec<Ground>, AllocError>
-    ensures { (s : Known) → IsScene s scene.now → list_any is_of_mark whats.now ≡ false
-        → IfOk result (λ v. map (λ g. (g.what, g.entries.items)) v.items ≡ grounds_in s whats.now) }
+fn grounds_in(alloc: Global, scene: &Scene, facts: &[ShownFact]) -> Result<Vec<Ground>, AllocError>
+    ensures { (s : Known) → IsScene s scene.now → list_any is_of_mark facts.now ≡ false
+        → IfOk result (λ v. map (λ g. (g.fact, g.entries.items)) v.items ≡ grounds_in s facts.now) }
 {
     let mut grounds = Vec::new(alloc);
-    for what in whats {
+    for fact in facts {
         grounds.push(Ground {
-            what: *what,
-            entries: scene.shown(alloc, *what)?,
+            fact: *fact,
+            entries: scene.shown(alloc, *fact)?,
         })?;
     }
     Ok(grounds)
@@ -138,7 +146,7 @@ fn grounds_in(alloc: Global, scene: &Scene, whats: &[What]) -> Result<Vec<Ground
 /// Returns the evidence for a message at fault.
 fn of_message(
     alloc: Global,
-    stretch: Stretch,
+    messages_by_end: MessagesByEnd,
     table: &Table,
     message: &Message,
     at: Refutation,
@@ -148,23 +156,23 @@ fn of_message(
     ensures id { IfOk result (λ e.
         e.id ≡ invoke_id_in at.kind (component_at about.component (components_in message.now))) }
     ensures grounds { (side : Side) (entries : List AnEntry)
-        → numbered_of stretch.entry.own.items ≡ sent_before side entries at.entry
-        → numbered_of stretch.entry.peer.items ≡ sent_before (other side) entries at.entry
-        → IfOk result (λ e. map (λ g. (g.what, g.entries.items)) e.grounds.items
+        → numbered_of messages_by_end.entry.own.items ≡ sent_before side entries at.entry
+        → numbered_of messages_by_end.entry.peer.items ≡ sent_before (other side) entries at.entry
+        → IfOk result (λ e. map (λ g. (g.fact, g.entries.items)) e.grounds.items
         ≡ grounds_in (scene_of table.now side entries at.entry message.now at.kind about)
-        (shows (dtid_in message.now) about.how (component_at about.component (components_in message.now)) at.kind)) }
+        (shows (dtid_in message.now) about.origin (component_at about.component (components_in message.now)) at.kind)) }
     ensures invocations { (side : Side) (entries : List AnEntry)
-        → numbered_of stretch.entry.own.items ≡ sent_before side entries at.entry
-        → numbered_of stretch.entry.peer.items ≡ sent_before (other side) entries at.entry
+        → numbered_of messages_by_end.entry.own.items ≡ sent_before side entries at.entry
+        → numbered_of messages_by_end.entry.peer.items ≡ sent_before (other side) entries at.entry
         → IfOk result (λ e. e.invocations.items
         ≡ invocations_of (scene_of table.now side entries at.entry message.now at.kind about) at.kind
         (component_at about.component (components_in message.now))) }
 {
     let component = component_at(message, about.component);
     let id = invoke_id_of(at.kind, component);
-    let whats = shows_of(message, about.how, component, at.kind);
-    let scene = scene_for(alloc, stretch, table, message, at, &about)?;
-    let grounds = grounds_in(alloc, &scene, whats)?;
+    let facts = facts_of(message, about.origin, component, at.kind);
+    let scene = scene_for(alloc, messages_by_end, table, message, at, &about)?;
+    let grounds = grounds_in(alloc, &scene, facts)?;
     let invocations = scene.invocations(alloc, at.kind, component)?;
     Ok(Evidence {
         about,
@@ -182,14 +190,14 @@ pub(crate) fn grounds_for(
     table: &Table,
     end: End,
     number: u64,
-    whats: &[What],
+    facts: &[ShownFact],
 ) -> Result<Vec<Ground>, AllocError>
-    ensures { list_any is_of_mark whats.now ≡ false → IfOk result (λ v. map (λ g. (g.what, g.entries.items)) v.items
-        ≡ grounds_at table.now end «record».now.entries.items number whats.now) }
+    ensures { list_any is_of_mark facts.now ≡ false → IfOk result (λ v. map (λ g. (g.fact, g.entries.items)) v.items
+        ≡ grounds_at table.now end «record».now.entries.items number facts.now) }
 {
-    let stretch = stretch_before(alloc, record, end, number)?;
+    let messages_by_end = messages_before(alloc, record, end, number)?;
     let about = Subject {
-        how: How::Nowhere,
+        origin: HalfOrigin::Nowhere,
         own: None,
         component: None,
     };
@@ -205,8 +213,8 @@ pub(crate) fn grounds_for(
                 ..
             },
         ) => {
-            let scene = scene_for(alloc, stretch, table, message, at, &about)?;
-            grounds_in(alloc, &scene, whats)
+            let scene = scene_for(alloc, messages_by_end, table, message, at, &about)?;
+            grounds_in(alloc, &scene, facts)
         }
         _ => Ok(Vec::new(alloc)),
     }
@@ -215,23 +223,23 @@ pub(crate) fn grounds_for(
 /// Returns the evidence for a half that is open at a quiet mark.
 fn of_mark(
     alloc: Global,
-    stretch: &Stretch,
+    messages_by_end: &MessagesByEnd,
     table: &Table,
     about: Subject,
 ) -> Result<Evidence, AllocError>
     ensures about { IfOk result (λ e. e.about ≡ about) }
     ensures id { IfOk result (λ e. e.id ≡ None) }
     ensures grounds { (side : Side) (entries : List AnEntry) (number : ℕ)
-        → numbered_of stretch.now.own.items ≡ sent_before side entries number
-        → numbered_of stretch.now.peer.items ≡ sent_before (other side) entries number
-        → IfOk result (λ e. map (λ g. (g.what, g.entries.items)) e.grounds.items
-        ≡ grounds_in (mark_scene table.now side entries number) (whats.Open ∷ [])) }
+        → numbered_of messages_by_end.now.own.items ≡ sent_before side entries number
+        → numbered_of messages_by_end.now.peer.items ≡ sent_before (other side) entries number
+        → IfOk result (λ e. map (λ g. (g.fact, g.entries.items)) e.grounds.items
+        ≡ grounds_in (mark_scene table.now side entries number) (facts.Open ∷ [])) }
     ensures invocations { IfOk result (λ e. e.invocations.items ≡ []) }
 {
     let mut grounds = Vec::new(alloc);
     grounds.push(Ground {
-        what: What::Open,
-        entries: open_continues(alloc, table, stretch)?,
+        fact: ShownFact::Open,
+        entries: open_continues(alloc, table, messages_by_end)?,
     })?;
     Ok(Evidence {
         about,
@@ -261,7 +269,7 @@ pub fn find_evidence(
     at: Refutation,
     of_one: bool,
 ) -> Result<Evidence, SearchFault>
-    ensures grounds { IfOk result (λ e. map (λ g. (g.what, g.entries.items)) e.grounds.items
+    ensures grounds { IfOk result (λ e. map (λ g. (g.fact, g.entries.items)) e.grounds.items
         ≡ grounds_of of_one table.now end «record».now.entries.items at) }
     ensures about { IfOk result (λ e. e.about ≡ subject_of of_one table.now end «record».now.entries.items at) }
     ensures id { IfOk result (λ e. e.id ≡ invoke_id_at of_one table.now end «record».now.entries.items at) }
@@ -269,13 +277,13 @@ pub fn find_evidence(
         ≡ invocations_at of_one table.now end «record».now.entries.items at) }
 {
     let about = subject_of(alloc, record, table, end, at, of_one)?;
-    let stretch = stretch_before(alloc, record, end, at.entry)?;
+    let messages_by_end = messages_before(alloc, record, end, at.entry)?;
     match record.entry_at(at.entry) {
         Some(entry) => match (entry.side, &entry.body) {
             (Some(_), Body::Good(message)) => {
-                Ok(of_message(alloc, stretch, table, message, at, about)?)
+                Ok(of_message(alloc, messages_by_end, table, message, at, about)?)
             }
-            (None, Body::Quiet) => Ok(of_mark(alloc, &stretch, table, about)?),
+            (None, Body::Quiet) => Ok(of_mark(alloc, &messages_by_end, table, about)?),
             _ => Ok(none_of(alloc, about)),
         },
         None => Ok(none_of(alloc, about)),

@@ -16,8 +16,8 @@ mod shown_things;
 mod unblamed;
 mod words;
 
-pub use evidence_lines::{push_evidence, push_fault, push_sentence, push_what, push_why};
+pub use evidence_lines::{push_evidence, push_fact, push_fault, push_sentence, push_why};
 pub use finding::{Evidence, Ground, component_at, find_evidence};
 pub use operations::Invocation;
-pub use shown_things::What;
+pub use shown_things::ShownFact;
 pub use unblamed::push_unblamed;

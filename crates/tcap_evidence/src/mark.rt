@@ -8,13 +8,13 @@ ghost use Rattle.std.specs.List.{list_any};
 ghost use Rattle.std.specs.Map.{lookup};
 ghost use Rattle.tcap_end.specs.End.{is_id};
 ghost use Rattle.tcap_end.specs.Table.{octets_cmp};
-ghost use Rattle.tcap_evidence.specs.StoredScene.{IsStretch};
+ghost use Rattle.tcap_evidence.specs.StoredScene.{AreMessagesByEnd};
 ghost use Rattle.tcap_evidence.specs.OpenAtMark.{AreHalves, ended_to, first_to, goes_first, messages_of};
 ghost use Rattle.tcap_evidence.specs.Scene.{Scene, is_open_continue, shown};
-ghost use Rattle.tcap_evidence.specs.declared.shown_things.What.TheVariants as whats;
+ghost use Rattle.tcap_evidence.specs.declared.shown_things.ShownFact.TheVariants as facts;
 
 use crate::listing::ended_to;
-use crate::sent::{Sent, Stretch};
+use crate::sent::{MessagesByEnd, Sent};
 use std::alloc::{AllocError, Global};
 use std::collections::{BTreeMap, BTreeSet};
 use tcap_end::Table;
@@ -85,13 +85,13 @@ fn all_first(
 
 impl Halves {
     /// Collects the facts from the messages of both ends.
-    fn of(alloc: Global, stretch: &Stretch) -> Result<Halves, AllocError>
-        ensures { (s : Scene) → IsStretch s stretch.now → IfOk result (λ halves. AreHalves s halves) }
+    fn of(alloc: Global, messages_by_end: &MessagesByEnd) -> Result<Halves, AllocError>
+        ensures { (s : Scene) → AreMessagesByEnd s messages_by_end.now → IfOk result (λ halves. AreHalves s halves) }
     {
         Ok(Halves {
-            first: all_first(alloc, &stretch.own)?,
-            ended: all_ended(alloc, &stretch.own, false)?,
-            ended_by_peer: all_ended(alloc, &stretch.peer, true)?,
+            first: all_first(alloc, &messages_by_end.own)?,
+            ended: all_ended(alloc, &messages_by_end.own, false)?,
+            ended_by_peer: all_ended(alloc, &messages_by_end.peer, true)?,
         })
     }
 
@@ -114,17 +114,17 @@ impl Halves {
 pub(crate) fn open_continues(
     alloc: Global,
     table: &Table,
-    stretch: &Stretch,
+    messages_by_end: &MessagesByEnd,
 ) -> Result<Vec<u64>, AllocError>
-    ensures { (s : Scene) → s.table ≡ table.now → IsStretch s stretch.now
-        → IfOk result (λ v. v.items ≡ shown s whats.Open) }
+    ensures { (s : Scene) → s.table ≡ table.now → AreMessagesByEnd s messages_by_end.now
+        → IfOk result (λ v. v.items ≡ shown s facts.Open) }
 {
     let mut entries = Vec::new(alloc);
     if table.prearranged() {
         return Ok(entries);
     }
-    let halves = Halves::of(alloc, stretch)?;
-    for one in &stretch.own {
+    let halves = Halves::of(alloc, messages_by_end)?;
+    for one in &messages_by_end.own {
         if halves.has(one.message) {
             entries.push(one.number)?;
         }

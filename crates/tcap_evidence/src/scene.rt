@@ -10,20 +10,20 @@ ghost use Rattle.tcap_evidence.specs.StoredScene.{IsScene, scene_by};
 ghost use Rattle.tcap_evidence.specs.OpenAtMark.{is_of_mark};
 ghost use Rattle.tcap_evidence.specs.NumberedMessages.{in_order, numbered_of};
 ghost use Rattle.tcap_evidence.specs.Operations.{invocations_in, invocations_of};
-ghost use Rattle.tcap_evidence.specs.Scene.{Scene as Known, heard_by, invoked_by, own_begin, own_id, shown, to_half, told_there, with_sort, with_sort_in};
-ghost use Rattle.tcap_faults.specs.declared.dialogue.half_origin.How.TheVariants as hows;
-ghost use Rattle.tcap_evidence.specs.declared.shown_things.What.TheVariants as whats;
+ghost use Rattle.tcap_evidence.specs.Scene.{Scene as Known, incoming_by, invoked_by, own_begin, own_id, shown, to_half, sent_to_dtid, with_sort, with_sort_in};
+ghost use Rattle.tcap_faults.specs.declared.dialogue.half_origin.HalfOrigin.TheVariants as origins;
+ghost use Rattle.tcap_evidence.specs.declared.shown_things.ShownFact.TheVariants as facts;
 
 use crate::listing::{
     Test, entries_where, entries_with, first_where, in_order, push_sorted, push_where, sent_where,
     since_response,
 };
 use crate::operations::{Invocation, invocations_in, is_answer, rejects_answer};
-use crate::sent::{Sent, Stretch};
-use crate::shown_things::What;
+use crate::sent::{MessagesByEnd, Sent};
+use crate::shown_things::ShownFact;
 use std::alloc::{AllocError, Global};
 use tcap_end::Table;
-use tcap_faults::{How, Sort, Subject};
+use tcap_faults::{HalfOrigin, Sort, Subject};
 use tcap_msg::{Message, MessageParts, TransactionId, TransactionIdView};
 use tcap_parts::ComponentView;
 use tcap_refute::Kind;
@@ -37,7 +37,7 @@ pub(crate) struct Scene<'a> {
     pub(crate) to: Option<TransactionId>,
     pub(crate) from: Option<TransactionId>,
     /// How the half began over which the message would go, and the half's own ID.
-    pub(crate) how: How,
+    pub(crate) origin: HalfOrigin,
     pub(crate) half: Option<TransactionId>,
     /// The components of the message, those before the component at fault, and the invoke ID in question.
     pub(crate) all: Vec<ComponentView<'a>>,
@@ -48,7 +48,7 @@ pub(crate) struct Scene<'a> {
     /// The peer's messages from the destination ID.
     pub(crate) there: Vec<Sent<'a>>,
     /// The end's messages to the destination ID, without its provider's Aborts.
-    pub(crate) told: Vec<Sent<'a>>,
+    pub(crate) outgoing: Vec<Sent<'a>>,
 }
 
 /// Copies a transaction ID, if there is one.
@@ -76,11 +76,11 @@ fn list_of<'a>(alloc: Global, first: Option<Sent<'a>>) -> Result<Vec<Sent<'a>>, 
 impl<'a> Scene<'a> {
     /// Creates the scene of a message of entry `number`.
     ///
-    /// `about` is the subject of the fault, `stretch` has the messages before the entry. `all` are the components,
-    /// `earlier` those before the component at fault, and `id` is the invoke ID in question.
+    /// `about` is the subject of the fault, `messages_by_end` has the messages before the entry. `all` are the
+    /// components, `earlier` those before the component at fault, and `id` is the invoke ID in question.
     pub(crate) fn new(
         alloc: Global,
-        stretch: Stretch<'a>,
+        messages_by_end: MessagesByEnd<'a>,
         table: &'a Table,
         message: &Message,
         number: u64,
@@ -89,12 +89,13 @@ impl<'a> Scene<'a> {
         earlier: Vec<ComponentView<'a>>,
         id: Option<i8>,
     ) -> Result<Scene<'a>, AllocError>
-        ensures { (side : Side) (items : List Item) → IfOk result (IsScene (scene_by table.now side items stretch.entry message.now
+        ensures { (side : Side) (items : List Item)
+            → IfOk result (IsScene (scene_by table.now side items messages_by_end.entry message.now
             number about.now (map component_of all.entry.items) (map component_of earlier.entry.items) id)) }
     {
         let to = owned(message.dtid());
-        let there = sent_where(alloc, &stretch.peer, Test::From(to.as_ref()))?;
-        let told = sent_where(alloc, &stretch.own, Test::Told(to.as_ref()))?;
+        let there = sent_where(alloc, &messages_by_end.peer, Test::From(to.as_ref()))?;
+        let outgoing = sent_where(alloc, &messages_by_end.own, Test::Told(to.as_ref()))?;
         let half = match &about.own {
             Some(own) => Some(own.view().to_transaction_id()),
             None => None,
@@ -104,14 +105,14 @@ impl<'a> Scene<'a> {
             number,
             to,
             from: owned(message.otid()),
-            how: about.how,
+            origin: about.origin,
             half,
             all,
             earlier,
             id,
-            own: stretch.own,
+            own: messages_by_end.own,
             there,
-            told,
+            outgoing,
         })
     }
 
@@ -141,65 +142,70 @@ impl<'a> Scene<'a> {
 
     /// Returns the messages that an accepted half heard: the peer's first Begin, and the Continues to the half's own
     /// ID.
-    fn heard_accepted(&self, alloc: Global) -> Result<Vec<Sent<'a>>, AllocError>
-        ensures { (s : Known) → IsScene s self.now → IfOk result (λ v. numbered_of v.items ≡ heard_by s hows.Accepted) }
+    fn incoming_accepted(&self, alloc: Global) -> Result<Vec<Sent<'a>>, AllocError>
+        ensures { (s : Known) → IsScene s self.now
+            → IfOk result (λ v. numbered_of v.items ≡ incoming_by s origins.Accepted) }
     {
-        let mut heard = list_of(alloc, first_where(&self.there, Test::Begin))?;
+        let mut incoming = list_of(alloc, first_where(&self.there, Test::Begin))?;
         push_where(
-            &mut heard,
+            &mut incoming,
             &self.there,
             Test::ContinueTo(self.half.as_ref()),
         )?;
-        Ok(heard)
+        Ok(incoming)
     }
 
     /// Returns the messages that a half heard whose end sent the Begin: the Continues to its own ID. If the Begin
     /// requested a dialogue, they start with the first one that carries a response.
-    fn heard_begun(&self, alloc: Global) -> Result<Vec<Sent<'a>>, AllocError>
-        ensures { (s : Known) → IsScene s self.now → IfOk result (λ v. numbered_of v.items ≡ heard_by s hows.Begun) }
+    fn incoming_begun(&self, alloc: Global) -> Result<Vec<Sent<'a>>, AllocError>
+        ensures { (s : Known) → IsScene s self.now
+            → IfOk result (λ v. numbered_of v.items ≡ incoming_by s origins.Begun) }
     {
-        let heard = self.to_half(alloc)?;
+        let incoming = self.to_half(alloc)?;
         match self.own_begin() {
-            Some(begin) if Test::Request.passes(begin.message) => since_response(alloc, &heard),
-            _ => Ok(heard),
+            Some(begin) if Test::Request.passes(begin.message) => since_response(alloc, &incoming),
+            _ => Ok(incoming),
         }
     }
 
     /// Returns the messages that the half heard, in the order in which it heard them.
-    fn heard_first(&self, alloc: Global) -> Result<Vec<Sent<'a>>, AllocError>
-        ensures { (s : Known) → IsScene s self.now → IfOk result (λ v. numbered_of v.items ≡ heard_by s s.how) }
+    fn incoming_first(&self, alloc: Global) -> Result<Vec<Sent<'a>>, AllocError>
+        ensures { (s : Known) → IsScene s self.now → IfOk result (λ v. numbered_of v.items ≡ incoming_by s s.origin) }
     {
-        match self.how {
-            How::Accepted | How::Refused => self.heard_accepted(alloc),
-            How::Begun => self.heard_begun(alloc),
-            How::Unanswered | How::Nowhere => Ok(Vec::new(alloc)),
+        match self.origin {
+            HalfOrigin::Accepted | HalfOrigin::Refused => self.incoming_accepted(alloc),
+            HalfOrigin::Begun => self.incoming_begun(alloc),
+            HalfOrigin::Unanswered | HalfOrigin::Nowhere => Ok(Vec::new(alloc)),
         }
     }
 
     /// Returns the messages that the half heard, in the order of the entries.
-    fn heard(&self, alloc: Global) -> Result<Vec<Sent<'a>>, AllocError>
-        ensures { (s : Known) → IsScene s self.now → IfOk result (λ v. numbered_of v.items ≡ in_order (heard_by s s.how)) }
+    fn incoming(&self, alloc: Global) -> Result<Vec<Sent<'a>>, AllocError>
+        ensures { (s : Known) → IsScene s self.now
+            → IfOk result (λ v. numbered_of v.items ≡ in_order (incoming_by s s.origin)) }
     {
-        in_order(alloc, &self.heard_first(alloc)?)
+        in_order(alloc, &self.incoming_first(alloc)?)
     }
 
     /// Returns the half's own Begin, if its end sent the Begin.
     fn sent_begin(&self) -> Option<Sent<'a>>
         ensures { (s : Known) → IsScene s self.now
-            → option_to_list (option_map (λ b. (b.number, b.message.now)) result) ++ told_there s ≡ invoked_by s s.how }
+            → option_to_list (option_map (λ b. (b.number, b.message.now)) result)
+            ++ sent_to_dtid s ≡ invoked_by s s.origin }
     {
-        match self.how {
-            How::Begun | How::Unanswered => self.own_begin(),
-            How::Accepted | How::Refused | How::Nowhere => None,
+        match self.origin {
+            HalfOrigin::Begun | HalfOrigin::Unanswered => self.own_begin(),
+            HalfOrigin::Accepted | HalfOrigin::Refused | HalfOrigin::Nowhere => None,
         }
     }
 
     /// Returns the messages that carry the half's own invocations, in the order of the entries.
     fn invoked(&self, alloc: Global) -> Result<Vec<Sent<'a>>, AllocError>
-        ensures { (s : Known) → IsScene s self.now → IfOk result (λ v. numbered_of v.items ≡ in_order (invoked_by s s.how)) }
+        ensures { (s : Known) → IsScene s self.now
+            → IfOk result (λ v. numbered_of v.items ≡ in_order (invoked_by s s.origin)) }
     {
         let mut invoked = list_of(alloc, self.sent_begin())?;
-        push_where(&mut invoked, &self.told, Test::Any)?;
+        push_where(&mut invoked, &self.outgoing, Test::Any)?;
         in_order(alloc, &invoked)
     }
 
@@ -231,23 +237,23 @@ impl<'a> Scene<'a> {
 
     /// Returns the entries of the components of the invoke ID and this sort in the end's messages to the destination
     /// ID. The message's own entry follows, once for each such component among `components`.
-    fn told_with(
+    fn outgoing_with(
         &self,
         alloc: Global,
         components: &[ComponentView],
         sort: Sort,
     ) -> Result<Vec<u64>, AllocError>
         ensures { (s : Known) → IsScene s self.now → IfOk result (λ v. v.items
-            ≡ with_sort s sort (told_there s) ++ with_sort_in s sort (map component_of components.now)) }
+            ≡ with_sort s sort (sent_to_dtid s) ++ with_sort_in s sort (map component_of components.now)) }
     {
-        let mut entries = self.with_sort(alloc, &self.told, sort)?;
+        let mut entries = self.with_sort(alloc, &self.outgoing, sort)?;
         self.push_in(&mut entries, components, sort)?;
         Ok(entries)
     }
 
     /// Returns the Continues from the message's originating ID to another destination ID.
     fn elsewhere(&self, alloc: Global) -> Result<Vec<u64>, AllocError>
-        ensures { (s : Known) → IsScene s self.now → IfOk result (λ v. v.items ≡ shown s whats.WentElsewhere) }
+        ensures { (s : Known) → IsScene s self.now → IfOk result (λ v. v.items ≡ shown s facts.WentElsewhere) }
     {
         match &self.to {
             Some(to) => entries_where(
@@ -260,29 +266,38 @@ impl<'a> Scene<'a> {
     }
 
     /// Returns the entries that show a thing about the message. `Open` is for quiet marks only, and gives none here.
-    pub(crate) fn shown(&self, alloc: Global, what: What) -> Result<Vec<u64>, AllocError>
-        ensures { (s : Known) → IsScene s self.now → is_of_mark what ≡ false → IfOk result (λ v. v.items ≡ shown s what) }
+    pub(crate) fn shown(&self, alloc: Global, fact: ShownFact) -> Result<Vec<u64>, AllocError>
+        ensures { (s : Known) → IsScene s self.now → is_of_mark fact ≡ false
+            → IfOk result (λ v. v.items ≡ shown s fact) }
     {
         let to = self.to.as_ref();
-        match what {
-            What::BeginsThere => entries_where(alloc, &self.there, Test::Begin),
-            What::RequestsThere => entries_where(alloc, &self.there, Test::Request),
-            What::ContinuesThere => entries_where(alloc, &self.there, Test::Continue),
-            What::Used => entries_where(alloc, &self.own, Test::From(self.from.as_ref())),
-            What::WentElsewhere => self.elsewhere(alloc),
-            What::Begun => entries_where(alloc, &self.own, Test::BeginFrom(self.own_id())),
-            What::OwnRequests => entries_where(alloc, &self.own, Test::RequestFrom(self.own_id())),
-            What::Told => entries_where(alloc, &self.told, Test::Any),
-            What::ContinuesTold => entries_where(alloc, &self.told, Test::Continue),
-            What::Ended => entries_where(alloc, &self.own, Test::EndTo(to)),
-            What::Unknown => entries_where(alloc, &self.own, Test::AbortTo(to, 1)),
-            What::Refused => entries_where(alloc, &self.own, Test::AbortTo(to, 4)),
-            What::There(sort) => self.with_sort(alloc, &self.there, sort),
-            What::Heard(sort) => self.with_sort(alloc, &self.heard(alloc)?, sort),
-            What::Before(sort) => self.told_with(alloc, &self.earlier, sort),
-            What::Whole(sort) => self.told_with(alloc, &self.all, sort),
-            What::Invoked(sort) => self.with_sort(alloc, &self.invoked(alloc)?, sort),
-            What::Open => Ok(Vec::new(alloc)),
+        match fact {
+            ShownFact::BeginsThere => entries_where(alloc, &self.there, Test::Begin),
+            ShownFact::RequestsThere => entries_where(alloc, &self.there, Test::Request),
+            ShownFact::ContinuesThere => entries_where(alloc, &self.there, Test::Continue),
+            ShownFact::Used => entries_where(alloc, &self.own, Test::From(self.from.as_ref())),
+            ShownFact::WentElsewhere => self.elsewhere(alloc),
+            ShownFact::Begun => entries_where(alloc, &self.own, Test::BeginFrom(self.own_id())),
+            ShownFact::OwnRequests => entries_where(
+                alloc,
+                &self.own,
+                Test::RequestFrom(self.own_id()),
+            ),
+            ShownFact::OutgoingComponents => entries_where(alloc, &self.outgoing, Test::Any),
+            ShownFact::OutgoingContinues => entries_where(alloc, &self.outgoing, Test::Continue),
+            ShownFact::Ended => entries_where(alloc, &self.own, Test::EndTo(to)),
+            ShownFact::Unknown => entries_where(alloc, &self.own, Test::AbortTo(to, 1)),
+            ShownFact::Refused => entries_where(alloc, &self.own, Test::AbortTo(to, 4)),
+            ShownFact::PeerComponents(sort) => self.with_sort(alloc, &self.there, sort),
+            ShownFact::IncomingComponents(sort) => self.with_sort(
+                alloc,
+                &self.incoming(alloc)?,
+                sort,
+            ),
+            ShownFact::Before(sort) => self.outgoing_with(alloc, &self.earlier, sort),
+            ShownFact::Whole(sort) => self.outgoing_with(alloc, &self.all, sort),
+            ShownFact::Invoked(sort) => self.with_sort(alloc, &self.invoked(alloc)?, sort),
+            ShownFact::Open => Ok(Vec::new(alloc)),
         }
     }
 
@@ -314,7 +329,7 @@ impl<'a> Scene<'a> {
                 self.invocations_in(alloc, &self.invoked(alloc)?)
             }
             Kind::BadLink | Kind::AnsweredAlready | Kind::RejectNotAllowed => {
-                self.invocations_in(alloc, &self.heard(alloc)?)
+                self.invocations_in(alloc, &self.incoming(alloc)?)
             }
             _ => Ok(Vec::new(alloc)),
         }

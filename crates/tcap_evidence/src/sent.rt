@@ -18,12 +18,12 @@ pub(crate) struct Sent<'a> {
 
 /// The messages of each end before an entry, since the last quiet mark.
 #[derive(Drop)]
-pub(crate) struct Stretch<'a> {
+pub(crate) struct MessagesByEnd<'a> {
     pub(crate) own: Vec<Sent<'a>>,
     pub(crate) peer: Vec<Sent<'a>>,
 }
 
-impl<'a> Stretch<'a> {
+impl<'a> MessagesByEnd<'a> {
     /// Takes the next entry.
     fn take(&mut self, end: End, number: u64, entry: &'a Entry) -> Result<(), AllocError>
         ensures own { OnOk result (numbered_of self.new.own.items
@@ -51,17 +51,17 @@ impl<'a> Stretch<'a> {
 }
 
 /// Returns the messages of an end and its peer before entry `number`, since the last quiet mark.
-pub(crate) fn stretch_before<'a>(
+pub(crate) fn messages_before<'a>(
     alloc: Global,
     record: &'a Record,
     end: End,
     number: u64,
-) -> Result<Stretch<'a>, AllocError>
+) -> Result<MessagesByEnd<'a>, AllocError>
     ensures { IfOk result (λ s.
         (numbered_of s.own.items ≡ sent_before end «record».now.entries.items number)
         × (numbered_of s.peer.items ≡ sent_before (other end) «record».now.entries.items number)) }
 {
-    let mut stretch = Stretch {
+    let mut messages_by_end = MessagesByEnd {
         own: Vec::new(alloc),
         peer: Vec::new(alloc),
     };
@@ -69,7 +69,7 @@ pub(crate) fn stretch_before<'a>(
         if at as u64 >= number {
             break;
         }
-        stretch.take(end, at as u64, entry)?;
+        messages_by_end.take(end, at as u64, entry)?;
     }
-    Ok(stretch)
+    Ok(messages_by_end)
 }

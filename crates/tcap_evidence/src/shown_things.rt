@@ -6,7 +6,7 @@ use tcap_faults::Sort;
 ///
 /// "There" is the message's destination ID. "Components" are those of the invoke ID in question.
 #[derive(Clone, Copy, Debug)]
-pub enum What {
+pub enum ShownFact {
     /// The peer's Begins from there.
     BeginsThere,
     /// The peer's Begins from there with a dialogue request (AARQ).
@@ -22,9 +22,9 @@ pub enum What {
     /// The Begins of `Begun` with a dialogue request (AARQ).
     OwnRequests,
     /// The end's messages to there, without its provider's Aborts.
-    Told,
+    OutgoingComponents,
     /// The end's Continues to there.
-    ContinuesTold,
+    OutgoingContinues,
     /// The end's Ends to there, and its user's Aborts.
     Ended,
     /// The end's provider's Aborts to there with cause 1, unrecognizedTransactionID.
@@ -32,9 +32,9 @@ pub enum What {
     /// The end's provider's Aborts to there with cause 4, resourceLimitation.
     Refused,
     /// Components of a sort in the peer's messages from there.
-    There(Sort),
+    PeerComponents(Sort),
     /// Components of a sort in the messages that the half heard.
-    Heard(Sort),
+    IncomingComponents(Sort),
     /// Components of a sort in the end's messages to there, and in the message before the component at fault.
     Before(Sort),
     /// Components of a sort in the end's messages to there, and in the whole message.

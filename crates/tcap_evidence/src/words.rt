@@ -1,10 +1,10 @@
 //! The words for what a fault depends on.
 
 ghost use Rattle.std.specs.Prelude.{◌≡◌};
-ghost use Rattle.tcap_evidence.specs.EvidenceWords.{class_of_sort, class_words, doubt_words, how_words, is_of_half, is_told_empty, kind_words, lacks_words, place_words, sender_of, sort_in, sort_words};
+ghost use Rattle.tcap_evidence.specs.EvidenceWords.{class_of_sort, class_words, doubt_words, origin_words, is_of_half, is_listed_if_empty, kind_words, lacks_words, place_words, sender_of, sort_in, sort_words};
 
-use crate::shown_things::What;
-use tcap_faults::{Class, How, Sort};
+use crate::shown_things::ShownFact;
+use tcap_faults::{Class, HalfOrigin, Sort};
 use tcap_record::End;
 use tcap_refute::Kind;
 
@@ -35,16 +35,16 @@ pub(crate) fn kind_words(kind: Kind) -> &'static str
 }
 
 /// Returns the words for how a half began.
-#[tactic(auto, unfolding(crate::specs::EvidenceWords::how_words))]
-pub(crate) fn how_words(how: How) -> &'static str
-    ensures { result.now ≡ how_words how }
+#[tactic(auto, unfolding(crate::specs::EvidenceWords::origin_words))]
+pub(crate) fn origin_words(origin: HalfOrigin) -> &'static str
+    ensures { result.now ≡ origin_words origin }
 {
-    match how {
-        How::Accepted => "began by the peer's Begin",
-        How::Refused => "the peer's Begin was refused",
-        How::Begun => "began by its own Begin, which the peer answered",
-        How::Unanswered => "began by its own Begin, which no Continue with an AARE answers",
-        How::Nowhere => "none",
+    match origin {
+        HalfOrigin::Accepted => "began by the peer's Begin",
+        HalfOrigin::Refused => "the peer's Begin was refused",
+        HalfOrigin::Begun => "began by its own Begin, which the peer answered",
+        HalfOrigin::Unanswered => "began by its own Begin, which no Continue with an AARE answers",
+        HalfOrigin::Nowhere => "none",
     }
 }
 
@@ -109,77 +109,77 @@ pub(crate) fn class_of_sort(sort: Sort) -> Class
 }
 
 /// Returns the end that sent the entries which show this thing about a fault of `end`.
-pub(crate) fn sender_of(end: End, what: What) -> End
-    ensures { result ≡ sender_of end what }
+pub(crate) fn sender_of(end: End, fact: ShownFact) -> End
+    ensures { result ≡ sender_of end fact }
 {
-    match what {
-        What::BeginsThere
-        | What::RequestsThere
-        | What::ContinuesThere
-        | What::There(_)
-        | What::Heard(_) => end.other(),
+    match fact {
+        ShownFact::BeginsThere
+        | ShownFact::RequestsThere
+        | ShownFact::ContinuesThere
+        | ShownFact::PeerComponents(_)
+        | ShownFact::IncomingComponents(_) => end.other(),
         _ => end,
     }
 }
 
 /// Returns the sort of components that is counted, if any.
-pub(crate) fn sort_in(what: What) -> Option<Sort>
-    ensures { result ≡ sort_in what }
+pub(crate) fn sort_in(fact: ShownFact) -> Option<Sort>
+    ensures { result ≡ sort_in fact }
 {
-    match what {
-        What::There(sort)
-        | What::Heard(sort)
-        | What::Before(sort)
-        | What::Whole(sort)
-        | What::Invoked(sort) => Some(sort),
+    match fact {
+        ShownFact::PeerComponents(sort)
+        | ShownFact::IncomingComponents(sort)
+        | ShownFact::Before(sort)
+        | ShownFact::Whole(sort)
+        | ShownFact::Invoked(sort) => Some(sort),
         _ => None,
     }
 }
 
 /// Returns the words for messages and their IDs, or for the place of components.
 #[tactic(auto, unfolding(crate::specs::EvidenceWords::place_words))]
-pub(crate) fn place_words(what: What) -> &'static str
-    ensures { result.now ≡ place_words what }
+pub(crate) fn place_words(fact: ShownFact) -> &'static str
+    ensures { result.now ≡ place_words fact }
 {
-    match what {
-        What::BeginsThere => "Begins from its destination ID",
-        What::RequestsThere => "Begins with AARQ from its destination ID",
-        What::ContinuesThere => "Continues from its destination ID",
-        What::Used => "messages from its originating ID before it",
-        What::WentElsewhere => "Continues from its originating ID to another ID before it",
-        What::Begun => "Begins from the own ID",
-        What::OwnRequests => "Begins with AARQ from the own ID",
-        What::Told => "messages to its destination ID before it",
-        What::ContinuesTold => "Continues to its destination ID before it",
-        What::Ended => "Ends and user Aborts to its destination ID before it",
-        What::Unknown => "Aborts with cause 1 to its destination ID before it",
-        What::Refused => "Aborts with cause 4 to its destination ID before it",
-        What::There(_) => " from its destination ID",
-        What::Heard(_) => " in this transaction",
-        What::Before(_) => " before it",
-        What::Whole(_) => " in its messages to there and in this one",
-        What::Invoked(_) => " in this transaction",
-        What::Open => "Continues of transactions that are open",
+    match fact {
+        ShownFact::BeginsThere => "Begins from its destination ID",
+        ShownFact::RequestsThere => "Begins with AARQ from its destination ID",
+        ShownFact::ContinuesThere => "Continues from its destination ID",
+        ShownFact::Used => "messages from its originating ID before it",
+        ShownFact::WentElsewhere => "Continues from its originating ID to another ID before it",
+        ShownFact::Begun => "Begins from the own ID",
+        ShownFact::OwnRequests => "Begins with AARQ from the own ID",
+        ShownFact::OutgoingComponents => "messages to its destination ID before it",
+        ShownFact::OutgoingContinues => "Continues to its destination ID before it",
+        ShownFact::Ended => "Ends and user Aborts to its destination ID before it",
+        ShownFact::Unknown => "Aborts with cause 1 to its destination ID before it",
+        ShownFact::Refused => "Aborts with cause 4 to its destination ID before it",
+        ShownFact::PeerComponents(_) => " from its destination ID",
+        ShownFact::IncomingComponents(_) => " in this transaction",
+        ShownFact::Before(_) => " before it",
+        ShownFact::Whole(_) => " in its messages to there and in this one",
+        ShownFact::Invoked(_) => " in this transaction",
+        ShownFact::Open => "Continues of transactions that are open",
     }
 }
 
 /// Returns whether a line is printed even if there are no entries.
-pub(crate) fn is_told_empty(what: What) -> bool
-    ensures { result ≡ is_told_empty what }
+pub(crate) fn is_listed_if_empty(fact: ShownFact) -> bool
+    ensures { result ≡ is_listed_if_empty fact }
 {
-    match what {
-        What::BeginsThere
-        | What::RequestsThere
-        | What::ContinuesThere
-        | What::Begun
-        | What::OwnRequests => true,
-        What::There(sort) => {
+    match fact {
+        ShownFact::BeginsThere
+        | ShownFact::RequestsThere
+        | ShownFact::ContinuesThere
+        | ShownFact::Begun
+        | ShownFact::OwnRequests => true,
+        ShownFact::PeerComponents(sort) => {
             matches!(
                 sort,
                 Sort::Invokes(Class::Any) | Sort::Results | Sort::Errors
             )
         }
-        What::Heard(sort) => matches!(
+        ShownFact::IncomingComponents(sort) => matches!(
             sort,
             Sort::Invokes(Class::Any) | Sort::Linked | Sort::Results | Sort::Errors
         ),

@@ -19,15 +19,15 @@ use Rattle.tcap_judge.specs.LawfulOutcome.{IsShown, lawful_by}
 use Rattle.tcap_judge.specs.declared.outcome.Outcome.TheVariants.{Lawful, Refuted}
 use Rattle.tcap_judge.specs.declared.findings.Ends.{Ends}
 use Rattle.tcap_judge.specs.declared.findings.Finding.{Finding}
-use Rattle.tcap_judge.specs.CheckOutcome.{replay_says}
+use Rattle.tcap_judge.specs.CheckOutcome.{replay_outcome}
 use Rattle.tcap_judge.specs.BlameOutcome.{AreFound, ends_of, finding, finding_by, finding_line, is_lawful, items_before, joint_verdict}
-use Rattle.tcap_judge.specs.Verdict.{named_by, proposed_by, verdict_by, verdict_of}
+use Rattle.tcap_judge.specs.Verdict.{refutation_by, proposed_by, verdict_by, verdict_of}
 use Rattle.tcap_judge.proofs.JointLaws.{refuted_joint}
 use Rattle.tcap_model.specs.Run.{Event}
 use Rattle.tcap_refute.specs.declared.kind.Refutation.{Refutation}
-use Rattle.tcap_explain.specs.RefutedLines.{ends_asked, refuted_lines}
+use Rattle.tcap_explain.specs.RefutedLines.{ends_judged, refuted_lines}
 use Rattle.tcap_explain.specs.StepLines.{run_lines}
-use Rattle.tcap_explain.specs.VerdictLines.{AreLinesOf, AreLinesOfBoth, IsWhy}
+use Rattle.tcap_explain.specs.VerdictLines.{AreLinesOf, AreLinesOfBoth, IsExplanation}
 
 of_run : (judged : Option Side) (table : Table) (c : Certificate) (entries : List Entry) (answer : Result (List Step) CheckFault)
     → IfOk answer (λ steps. IsGivenTo judged table c entries (events_of steps))
@@ -73,7 +73,7 @@ joint_lawful None table entries events is = by (is_lawful (finding table entries
 
 -- The joint verdict is refuted if an entry is refuted.
 pub joint_named : (judged : Option Side) (table : Table) (entries : List Entry) (r : Refutation)
-    → named_by judged table entries ≡ Some r → joint_verdict judged table entries ≡ Refuted r
+    → refutation_by judged table entries ≡ Some r → joint_verdict judged table entries ≡ Refuted r
 joint_named (Some side) table entries r is =
     ap (λ (n : Option Refutation). verdict_by (Some side) (length entries) n
     (replayed_by (Some side) table (proposed_by (Some side) entries) entries)) is
@@ -82,20 +82,20 @@ joint_named None table entries r is = refuted_joint table entries r is
 why_of : (judged : Option Side) (table : Table) (c : Certificate) (entries : List Entry) (steps : List Step) (behind : List ℕ)
     → behind ≡ run_lines judged steps → replayed_by judged table c entries ≡ Ok (events_of steps)
     → discards_by judged table c (map item_of entries) ≡ Ok (discards_of steps)
-    → IsWhy judged table c entries (lawful_by judged (length entries) (events_of steps)) behind
+    → IsExplanation judged table c entries (lawful_by judged (length entries) (events_of steps)) behind
 why_of None table c entries steps behind lines run discards = inl (steps, run, discards, lines)
 why_of (Some side) table c entries steps behind lines run discards = (steps, run, discards, lines)
 
 -- The verdict and the reasons, if no entry is at fault and the proposed certificate gives a run.
 pub proposed_says : {A F : Type 0} (outcome : A → Outcome) (behind : A → List ℕ) (judged : Option Side) (table : Table) (c : Certificate)
     (entries : List Entry) (refused : Option CheckFault) (steps : List Step) (result : Result A F) → c ≡ proposed_by judged entries
-    → named_by judged table entries ≡ None → refused ≡ None → map_ok events_of (answered refused steps) ≡ replayed_by judged table c entries
+    → refutation_by judged table entries ≡ None → refused ≡ None → map_ok events_of (answered refused steps) ≡ replayed_by judged table c entries
     → IfOk (answered refused steps) (λ ss. IsShown judged table entries (lawful_by judged (length entries) (events_of ss)))
     → map_ok discards_of (answered refused steps) ≡ discards_by judged table c (map item_of entries)
     → IfOk result (λ x. outcome x ≡ lawful_by judged (length entries) (events_of steps))
     → IfOk result (λ x. behind x ≡ run_lines judged steps)
     → IfOk result (λ x. (outcome x ≡ joint_verdict judged table entries) × IsShown judged table entries (outcome x)
-    × IsWhy judged table (proposed_by judged entries) entries (outcome x) (behind x))
+    × IsExplanation judged table (proposed_by judged entries) entries (outcome x) (behind x))
 proposed_says outcome behind judged table c entries refused steps (Err f) is named none exact shown discards says lines = tt
 proposed_says outcome behind judged table c entries (Some fault) steps (Ok x) is named none exact shown discards says lines = cc
 proposed_says outcome behind judged table c entries None steps (Ok x) is named none exact shown discards says lines =
@@ -103,8 +103,8 @@ proposed_says outcome behind judged table c entries None steps (Ok x) is named n
     ap (λ (d : Certificate). replayed_by judged table d entries) (sym is) ∙ sym exact in (
       says ∙ sym (joint_lawful judged table entries (events_of steps) (ap₂ (verdict_by judged (length entries)) named run)),
       subst (IsShown judged table entries) (sym says) shown,
-      subst (λ (o : Outcome). IsWhy judged table (proposed_by judged entries) entries o (behind x)) (sym says)
-          (subst (λ (d : Certificate). IsWhy judged table d entries (lawful_by judged (length entries) (events_of steps)) (behind x)) is
+      subst (λ (o : Outcome). IsExplanation judged table (proposed_by judged entries) entries o (behind x)) (sym says)
+          (subst (λ (d : Certificate). IsExplanation judged table d entries (lawful_by judged (length entries) (events_of steps)) (behind x)) is
           (why_of judged table c entries steps (behind x) lines (sym exact) (sym discards))),
     )
 
@@ -114,7 +114,7 @@ proposed_says outcome behind judged table c entries None steps (Ok x) is named n
 lawful_given : (side : Side) (table : Table) (entries : List Entry) → is_lawful (finding table entries side) ≡ true
     → (events : List Event) × (replayed_by (Some side) table (proposed_by (Some side) entries) entries ≡ Ok events)
 lawful_given side table entries =
-    by (named_by (Some side) table entries) (replayed_by (Some side) table (proposed_by (Some side) entries) entries)
+    by (refutation_by (Some side) table entries) (replayed_by (Some side) table (proposed_by (Some side) entries) entries)
   where
     by : (named : Option Refutation) (replay : Result (List Event) CheckFault)
         → is_lawful (finding_by (items_before (map item_of entries)) (verdict_by (Some side) (length entries) named replay)) ≡ true
@@ -145,25 +145,25 @@ lines_of_end side table c entries said None steps is said_is lawful exact discar
 -- ---- an entry is at fault, or each end is lawful on its own
 
 pub named_says : {A F : Type 0} (outcome : A → Outcome) (behind : A → List ℕ) (judged : Option Side) (table : Table) (c : Certificate)
-    (entries : List Entry) (r : Refutation) (result : Result A F) → named_by judged table entries ≡ Some r
+    (entries : List Entry) (r : Refutation) (result : Result A F) → refutation_by judged table entries ≡ Some r
     → IfOk result (λ x. (outcome x ≡ Refuted r) × (behind x ≡ refuted_lines judged table entries r))
     → IfOk result (λ x. (outcome x ≡ joint_verdict judged table entries) × IsShown judged table entries (outcome x)
-    × IsWhy judged table c entries (outcome x) (behind x))
+    × IsExplanation judged table c entries (outcome x) (behind x))
 named_says outcome behind judged table c entries r (Err f) named said = tt
 named_says outcome behind judged table c entries r (Ok x) named said = (
   said.0 ∙ sym (joint_named judged table entries r named),
   subst (IsShown judged table entries) (sym said.0) tt,
-  subst (λ (o : Outcome). IsWhy judged table c entries o (behind x)) (sym said.0) said.1,
+  subst (λ (o : Outcome). IsExplanation judged table c entries o (behind x)) (sym said.0) said.1,
 )
 
 module _ {A F : Type 0} (outcome : A → Outcome) (behind : A → List ℕ) (table : Table) (c : Certificate) (entries : List Entry)
     (fault : CheckFault) (ends : Ends) where
-  pub ends_say : (judged : Option Side) (result : Result A F) → Some ends ≡ ends_asked judged table entries
+  pub ends_say : (judged : Option Side) (result : Result A F) → Some ends ≡ ends_judged judged table entries
       → AreFound table entries ends → (is_lawful ends.a && is_lawful ends.b) ≡ true
       → replayed_by judged table c entries ≡ Err fault → IfOk result (λ x. outcome x ≡ Lawful (length entries))
       → IfOk result (λ x. AreLinesOfBoth table entries (behind x))
       → IfOk result (λ x. (outcome x ≡ joint_verdict judged table entries) × IsShown judged table entries (outcome x)
-      × IsWhy judged table c entries (outcome x) (behind x))
+      × IsExplanation judged table c entries (outcome x) (behind x))
   ends_say judged (Err f) is found lawful refused says lines = tt
   ends_say (Some side) (Ok x) is found lawful refused says lines = cc
   ends_say None (Ok x) is found lawful refused says lines =
@@ -171,7 +171,7 @@ module _ {A F : Type 0} (outcome : A → Outcome) (behind : A → List ℕ) (tab
         says ∙ sym (ap (λ (b : Bool). cond b (Lawful (length entries)) (verdict_of None table entries))
             (ap (λ (e : Ends). is_lawful e.a && is_lawful e.b) (sym same) ∙ lawful)),
         subst (IsShown None table entries) (sym says) (found.both lawful),
-        subst (λ (o : Outcome). IsWhy None table c entries o (behind x)) (sym says) (inr ((fault, refused), lines)),
+        subst (λ (o : Outcome). IsExplanation None table c entries o (behind x)) (sym says) (inr ((fault, refused), lines)),
       )
 
 -- ---- a certificate gives no run
@@ -191,13 +191,13 @@ pub replay_run_says : {A F : Type 0} (outcome : A → Outcome) (behind : A → L
     → map_ok discards_of (answered refused steps) ≡ discards_by judged table c (map item_of entries)
     → IfOk result (λ x. outcome x ≡ lawful_by judged (length entries) (events_of steps))
     → IfOk result (λ x. behind x ≡ run_lines judged steps)
-    → IfOk result (λ x. (outcome x ≡ replay_says judged (length entries) (replayed_by judged table c entries))
-    × IsShown judged table entries (outcome x) × IsWhy judged table c entries (outcome x) (behind x))
+    → IfOk result (λ x. (outcome x ≡ replay_outcome judged (length entries) (replayed_by judged table c entries))
+    × IsShown judged table entries (outcome x) × IsExplanation judged table c entries (outcome x) (behind x))
 replay_run_says outcome behind judged table c entries refused steps (Err f) none exact shown discards says lines = tt
 replay_run_says outcome behind judged table c entries (Some fault) steps (Ok x) none exact shown discards says lines = cc
 replay_run_says outcome behind judged table c entries None steps (Ok x) none exact shown discards says lines = (
-  says ∙ ap (replay_says judged (length entries)) exact,
+  says ∙ ap (replay_outcome judged (length entries)) exact,
   subst (IsShown judged table entries) (sym says) shown,
-  subst (λ (o : Outcome). IsWhy judged table c entries o (behind x)) (sym says)
+  subst (λ (o : Outcome). IsExplanation judged table c entries o (behind x)) (sym says)
       (why_of judged table c entries steps (behind x) lines (sym exact) (sym discards)),
 )

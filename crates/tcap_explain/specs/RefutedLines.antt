@@ -8,11 +8,11 @@ use Rattle.tcap_end.specs.Table.{Table}
 use Rattle.tcap_refute.specs.declared.kind.Refutation.{Refutation}
 use Rattle.tcap_refute.specs.Kind.{kind_number}
 use Rattle.tcap_evidence.specs.Unblamed.{unblamed_text}
-use Rattle.tcap_evidence.specs.EvidenceWords.{told_text}
+use Rattle.tcap_evidence.specs.EvidenceWords.{refutation_text}
 use Rattle.tcap_judge.specs.declared.findings.Ends.{Ends}
 use Rattle.tcap_judge.specs.declared.findings.Finding.{Finding}
 use Rattle.tcap_judge.specs.declared.findings.Finding.TheVariants as findings
-use Rattle.tcap_judge.specs.BlameOutcome.{ends_of, finding_line, stands_behind}
+use Rattle.tcap_judge.specs.BlameOutcome.{ends_of, finding_line, comes_after}
 
 -- the end that sent an entry; A if neither did
 abbrev pub sender_at : List Entry → ℕ → Side
@@ -46,7 +46,8 @@ unblamed_words count all = cond (nat_lt count all) (unread_words count) none_fou
 
 -- the reasons for a finding on an end, unless it is the refutation printed already
 abbrev pub behind_text : Table → List Entry → Option Refutation → Side → Finding → List ℕ
-behind_text table entries shown side (findings.Blamed r) = cond (is_shown shown r) [] (told_text true table side entries r)
+behind_text table entries shown side (findings.Blamed r) =
+    cond (is_shown shown r) [] (refutation_text true table side entries r)
 behind_text table entries shown side (findings.Lawful count unheard) = []
 behind_text table entries shown side (findings.NotBlamed count) = unblamed_words count (length entries)
 
@@ -56,19 +57,19 @@ end_text table entries shown side finding = finding_line side finding ++ behind_
 
 -- the findings on both ends, the one with the lower blamed entry first
 abbrev pub both_text : Table → List Entry → Option Refutation → Ends → List ℕ
-both_text table entries shown ends = cond (stands_behind ends.a ends.b)
+both_text table entries shown ends = cond (comes_after ends.a ends.b)
     (end_text table entries shown sides.B ends.b ++ end_text table entries shown sides.A ends.a)
     (end_text table entries shown sides.A ends.a ++ end_text table entries shown sides.B ends.b)
 
 -- the findings on both ends, if both are judged
-abbrev pub ends_asked : Option Side → Table → List Entry → Option Ends
-ends_asked None table entries = Some (ends_of table entries)
-ends_asked (Some side) table entries = None
+abbrev pub ends_judged : Option Side → Table → List Entry → Option Ends
+ends_judged None table entries = Some (ends_of table entries)
+ends_judged (Some side) table entries = None
 
 -- the lines of these findings, with the reasons
-abbrev pub asked_text : Table → List Entry → Option Ends → List ℕ
-asked_text table entries None = []
-asked_text table entries (Some ends) = both_text table entries None ends
+abbrev pub findings_text : Table → List Entry → Option Ends → List ℕ
+findings_text table entries None = []
+findings_text table entries (Some ends) = both_text table entries None ends
 
 -- whether an end is blamed for entry `number` or an earlier one
 abbrev pub is_blamed_by : ℕ → Finding → Bool
@@ -83,8 +84,8 @@ unblamed_lines table side entries number ends =
 
 -- the lines after REFUTED, for both ends or for the judged end
 abbrev pub refuted_lines : Option Side → Table → List Entry → Refutation → List ℕ
-refuted_lines (Some side) table entries r = told_text true table side entries r
+refuted_lines (Some side) table entries r = refutation_text true table side entries r
 refuted_lines None table entries r =
-    told_text false table (sender_at entries r.entry) entries r
+    refutation_text false table (sender_at entries r.entry) entries r
     ++ unblamed_lines table (sender_at entries r.entry) entries r.entry (ends_of table entries)
     ++ both_text table entries (Some r) (ends_of table entries)

@@ -40,12 +40,12 @@ owner_text (names.Own id) = codes "otid=" ++ encode_lower id
 owner_text (names.Peer id) = peer_label ++ encode_lower id
 
 -- an end, its act, and the number of an entry
-abbrev pub deed_text : Side → List ℕ → ℕ → List ℕ
-deed_text side deed number = codes "  " ++ letter side ++ deed ++ decimal number
+abbrev pub act_text : Side → List ℕ → ℕ → List ℕ
+act_text side deed number = codes "  " ++ letter side ++ deed ++ decimal number
 
 -- the line of a message that an end sends as entry `number`
 abbrev pub sent_line : Side → List ℕ → ℕ → Message → List ℕ
-sent_line side deed number message = deed_text side deed number ++ codes " " ++ head_text message ++ line_end
+sent_line side deed number message = act_text side deed number ++ codes " " ++ head_text message ++ line_end
 
 -- why an end can't receive a message
 abbrev pub discard_text : EndFault → List ℕ
@@ -68,7 +68,8 @@ closing_line side name = codes "  " ++ letter side ++ codes ": " ++ half_text na
 
 -- the line of a provider's answer, which is entry `number`
 abbrev pub reply_line : Side → ℕ → ℕ → List ℕ
-reply_line side answered number = deed_text side (codes "'s provider answers ") answered ++ codes " by " ++ decimal number ++ line_end
+reply_line side answered number =
+    act_text side (codes "'s provider answers ") answered ++ codes " by " ++ decimal number ++ line_end
 
 -- The line of a loss. In a run of one end, it names the end, and a message that this end sent has no line.
 abbrev pub loss_line : Option Side → Side → ℕ → List ℕ
@@ -79,13 +80,13 @@ loss_line (Some judged) sender number = cond (is_side judged sender) []
 -- the line of a message that an end can't receive
 abbrev pub discard_line : Side → ℕ → EndFault → List ℕ
 discard_line sender number reason =
-    deed_text (other sender) (codes " could not receive ") number ++ codes ": " ++ discard_text reason ++ line_end
+    act_text (other sender) (codes " could not receive ") number ++ codes ": " ++ discard_text reason ++ line_end
 
 -- the line of a step after `number` sent entries
 abbrev pub step_line : Option Side → ℕ → Step → List ℕ
 step_line judged number (steps.Sends side message) = sent_line side (codes " sends ") number message
 step_line judged number (steps.Tells side message) = sent_line side (codes " tells ") number message
-step_line judged number (steps.Receives side received) = deed_text side (codes " receives ") received ++ line_end
+step_line judged number (steps.Receives side received) = act_text side (codes " receives ") received ++ line_end
 step_line judged number (steps.Replies side answered) = reply_line side answered number
 step_line judged number (steps.Loses sender lost) = loss_line judged sender lost
 step_line judged number (steps.Discards sender lost reason) = discard_line sender lost reason

@@ -17,15 +17,15 @@ use Rattle.tcap_judge.specs.declared.outcome.Outcome.{Outcome}
 use Rattle.tcap_judge.specs.declared.outcome.Outcome.TheVariants.{Lawful, LawfulFor, NotShown, Refuted, Undecided, Faulty}
 use Rattle.tcap_lines.specs.declared.status.Status.{Status}
 use Rattle.tcap_judge.specs.LawfulOutcome.{IsShown, replayed_by}
-use Rattle.tcap_judge.specs.Outcome.{SaysWith}
-use Rattle.tcap_judge.specs.CheckOutcome.{ReadsCertificate, ReadsRecord, ReadsTable, out_of_memory, record_says}
+use Rattle.tcap_judge.specs.Outcome.{IsOutcomeText}
+use Rattle.tcap_judge.specs.CheckOutcome.{ReadsCertificate, ReadsRecord, ReadsTable, out_of_memory, record_outcome}
 use Rattle.tcap_judge.specs.Device.{Device, IsUntouched}
 use Rattle.tcap_judge.specs.Verdict.{proposed_by}
 use Rattle.tcap_judge.specs.declared.findings.Ends.{Ends}
 use Rattle.tcap_judge.specs.BlameOutcome.{finding, finding_line, joint_record_verdict}
 use Rattle.tcap_explain.specs.Faults.{IsFaultBehind}
 use Rattle.tcap_explain.specs.IndentedText.{indented}
-use Rattle.tcap_explain.specs.RefutedLines.{asked_text, ends_asked, refuted_lines}
+use Rattle.tcap_explain.specs.RefutedLines.{findings_text, ends_judged, refuted_lines}
 use Rattle.tcap_explain.specs.StepLines.{run_lines}
 
 -- The certificate gives a run for these entries, of both ends or of the judged end. The lines are those of its steps,
@@ -36,7 +36,8 @@ AreLines judged table c entries lines = (steps : List Step) × (replayed_by judg
 
 -- The text is some indented lines, then the findings on these ends with the reasons.
 abbrev pub EndsWithEnds : Table → List Entry → Option Ends → List ℕ → Type 0
-EndsWithEnds table entries ends behind = (lines : List ℕ) × (behind ≡ indented lines ++ asked_text table entries ends)
+EndsWithEnds table entries ends behind =
+    (lines : List ℕ) × (behind ≡ indented lines ++ findings_text table entries ends)
 
 -- the line of the finding on an end, and the run that the certificate proposed for this end gives
 abbrev pub AreLinesOf : Table → List Entry → Side → List ℕ → Type 0
@@ -56,41 +57,45 @@ AreLinesOfEnds table c entries text =
 -- What the text after a verdict is. LAWFUL: the run, or the runs of both ends. REFUTED: the rule that the entry breaks,
 -- and the entries that show it. UNDECIDED or NOT SHOWN: indented lines, then the findings on each end if both are
 -- judged. A fault: the file that has it.
-abbrev pub IsWhy : Option Side → Table → Certificate → List Entry → Outcome → List ℕ → Type 0
-IsWhy judged table c entries (Lawful count) behind = AreLines judged table c entries behind ⊎ AreLinesOfEnds table c entries behind
-IsWhy judged table c entries (LawfulFor count unheard) behind = AreLines judged table c entries behind
-IsWhy judged table c entries (Faulty number place) behind = IsFaultBehind (Faulty number place) behind
-IsWhy judged table c entries (Refuted r) behind = behind ≡ refuted_lines judged table entries r
-IsWhy judged table c entries (Undecided fault) behind = EndsWithEnds table entries (ends_asked judged table entries) behind
-IsWhy judged table c entries (NotShown fault) behind = EndsWithEnds table entries (ends_asked judged table entries) behind
+abbrev pub IsExplanation : Option Side → Table → Certificate → List Entry → Outcome → List ℕ → Type 0
+IsExplanation judged table c entries (Lawful count) behind =
+    AreLines judged table c entries behind ⊎ AreLinesOfEnds table c entries behind
+IsExplanation judged table c entries (LawfulFor count unheard) behind = AreLines judged table c entries behind
+IsExplanation judged table c entries (Faulty number place) behind = IsFaultBehind (Faulty number place) behind
+IsExplanation judged table c entries (Refuted r) behind = behind ≡ refuted_lines judged table entries r
+IsExplanation judged table c entries (Undecided fault) behind =
+    EndsWithEnds table entries (ends_judged judged table entries) behind
+IsExplanation judged table c entries (NotShown fault) behind =
+    EndsWithEnds table entries (ends_judged judged table entries) behind
 
 -- ---- without a certificate: by the proposed one
 
 -- The reader returned these entries and this end of the record. The outcome is the joint verdict on them, it holds, and
 -- the text gives the reasons.
-pub record SaysWhy (judged : Option Side) (table : Table) (d : Device) (outcome : Outcome) (behind : List ℕ) : Type 0 where
+pub record ExplainsVerdict (judged : Option Side) (table : Table) (d : Device) (outcome : Outcome) (behind : List ℕ)
+    : Type 0 where
   pub entries : List Entry
   pub end : Result (Unit {0}) FeedFault
   pub reads : ReadsRecord d entries end
   pub says : outcome ≡ joint_record_verdict judged table entries end
   pub shown : IsShown judged table entries outcome
-  pub why : IsWhy judged table (proposed_by judged entries) entries outcome behind
+  pub why : IsExplanation judged table (proposed_by judged entries) entries outcome behind
 
 -- The outcome is explained, or memory ran out.
-abbrev pub GivesWhy : Option Side → Table → Device → Outcome → List ℕ → Type 0
-GivesWhy judged table d outcome behind =
-    ((outcome ≡ out_of_memory) × (behind ≡ [])) ⊎ SaysWhy judged table d outcome behind
+abbrev pub GivesExplanation : Option Side → Table → Device → Outcome → List ℕ → Type 0
+GivesExplanation judged table d outcome behind =
+    ((outcome ≡ out_of_memory) × (behind ≡ [])) ⊎ ExplainsVerdict judged table d outcome behind
 
 -- If there is no table, nothing of the record is read.
-abbrev pub GivesWhyWith : Option Side → Result Table Outcome → Device → Outcome → List ℕ → Type 0
-GivesWhyWith judged (Ok table) entries outcome behind = GivesWhy judged table entries outcome behind
-GivesWhyWith judged (Err said) entries outcome behind =
+abbrev pub GivesExplanationWith : Option Side → Result Table Outcome → Device → Outcome → List ℕ → Type 0
+GivesExplanationWith judged (Ok table) entries outcome behind = GivesExplanation judged table entries outcome behind
+GivesExplanationWith judged (Err said) entries outcome behind =
     (outcome ≡ said) × IsFaultBehind said behind × IsUntouched entries
 
 -- The octets of the two readers lead to this outcome and this text.
 abbrev pub IsExplained : Option Side → Device → Device → Outcome → List ℕ → Type 0
 IsExplained judged entries table outcome behind =
-    (given : Result Table Outcome) × ReadsTable table given × GivesWhyWith judged given entries outcome behind
+    (given : Result Table Outcome) × ReadsTable table given × GivesExplanationWith judged given entries outcome behind
 
 -- The octets of the two readers lead to an outcome, and the writer took its line and the text after it.
 pub record Explains (judged : Option Side) (entries table : Device) (taken taken' : Option (List ℕ)) (status : Status)
@@ -99,42 +104,42 @@ pub record Explains (judged : Option Side) (entries table : Device) (taken taken
   pub behind : List ℕ
   pub text : List ℕ
   pub given : IsExplained judged entries table outcome behind
-  pub says : SaysWith outcome behind text status
+  pub says : IsOutcomeText outcome behind text status
   pub takes : Appends taken taken' text
 
 -- ---- with a certificate
 
 -- The reader returned these entries and this end of the record. The outcome is that of the certificate's replay, it
 -- holds, and the text gives the reasons.
-pub record SaysWhyBy (judged : Option Side) (table : Table) (c : Certificate) (d : Device) (outcome : Outcome)
+pub record ExplainsReplay (judged : Option Side) (table : Table) (c : Certificate) (d : Device) (outcome : Outcome)
     (behind : List ℕ) : Type 0 where
   pub entries : List Entry
   pub end : Result (Unit {0}) FeedFault
   pub reads : ReadsRecord d entries end
-  pub says : outcome ≡ record_says judged table c entries end
+  pub says : outcome ≡ record_outcome judged table c entries end
   pub shown : IsShown judged table entries outcome
-  pub why : IsWhy judged table c entries outcome behind
+  pub why : IsExplanation judged table c entries outcome behind
 
 -- The outcome is explained, or memory ran out. If there is no certificate, nothing of the record is read.
-abbrev pub GivesWhyBy : Option Side → Table → Result Certificate Outcome → Device → Outcome → List ℕ → Type 0
-GivesWhyBy judged table (Ok c) entries outcome behind =
-    ((outcome ≡ out_of_memory) × (behind ≡ [])) ⊎ SaysWhyBy judged table c entries outcome behind
-GivesWhyBy judged table (Err said) entries outcome behind =
+abbrev pub GivesExplanationBy : Option Side → Table → Result Certificate Outcome → Device → Outcome → List ℕ → Type 0
+GivesExplanationBy judged table (Ok c) entries outcome behind =
+    ((outcome ≡ out_of_memory) × (behind ≡ [])) ⊎ ExplainsReplay judged table c entries outcome behind
+GivesExplanationBy judged table (Err said) entries outcome behind =
     (outcome ≡ said) × IsFaultBehind said behind × IsUntouched entries
 
 -- If there is no table, nothing of the certificate and the record is read. If there is no certificate, nothing of the
 -- record is.
-abbrev pub GivesWhyByWith : Option Side → Result Table Outcome → Device → Device → Outcome → List ℕ → Type 0
-GivesWhyByWith judged (Ok table) certificate entries outcome behind =
+abbrev pub GivesExplanationByWith : Option Side → Result Table Outcome → Device → Device → Outcome → List ℕ → Type 0
+GivesExplanationByWith judged (Ok table) certificate entries outcome behind =
     (given : Result Certificate Outcome) × ReadsCertificate certificate given
-    × GivesWhyBy judged table given entries outcome behind
-GivesWhyByWith judged (Err said) certificate entries outcome behind =
+    × GivesExplanationBy judged table given entries outcome behind
+GivesExplanationByWith judged (Err said) certificate entries outcome behind =
     (outcome ≡ said) × IsFaultBehind said behind × IsUntouched certificate × IsUntouched entries
 
 -- The octets of the three readers lead to this outcome and this text.
 abbrev pub IsExplainedBy : Option Side → Device → Device → Device → Outcome → List ℕ → Type 0
 IsExplainedBy judged entries table certificate outcome behind = (given : Result Table Outcome) × ReadsTable table given
-    × GivesWhyByWith judged given certificate entries outcome behind
+    × GivesExplanationByWith judged given certificate entries outcome behind
 
 -- The octets of the three readers lead to an outcome, and the writer took its line and the text after it.
 pub record ExplainsBy (judged : Option Side) (entries table certificate : Device) (taken taken' : Option (List ℕ))
@@ -143,5 +148,5 @@ pub record ExplainsBy (judged : Option Side) (entries table certificate : Device
   pub behind : List ℕ
   pub text : List ℕ
   pub given : IsExplainedBy judged entries table certificate outcome behind
-  pub says : SaysWith outcome behind text status
+  pub says : IsOutcomeText outcome behind text status
   pub takes : Appends taken taken' text

@@ -141,14 +141,14 @@ fn push_word(json: &mut String, word: &str, end: Option<End>) -> Result<(), Allo
 }
 
 /// Appends a row for what an end does with an entry.
-fn push_deed(json: &mut String, word: &str, end: End, number: u64) -> Result<(), AllocError> {
+fn push_act(json: &mut String, word: &str, end: End, number: u64) -> Result<(), AllocError> {
     push_word(json, word, Some(end))?;
     write!(json, ",\"entry\":{number}")
 }
 
 /// Appends a row for a hidden step of an end: the expiry of an invocation with this ID or, without an ID, the closing
 /// of a half.
-fn push_unseen(
+fn push_internal(
     alloc: Global,
     json: &mut String,
     end: End,
@@ -175,22 +175,22 @@ fn push_step(
     step: &Step,
 ) -> Result<(), AllocError> {
     match step {
-        Step::Sends(end, _) => push_deed(json, "sends", *end, number as u64),
-        Step::Tells(end, _) => push_deed(json, "tells", *end, number as u64),
-        Step::Receives(end, received) => push_deed(json, "receives", *end, *received),
+        Step::Sends(end, _) => push_act(json, "sends", *end, number as u64),
+        Step::Tells(end, _) => push_act(json, "tells", *end, number as u64),
+        Step::Receives(end, received) => push_act(json, "receives", *end, *received),
         Step::Replies(end, answered) => {
-            push_deed(json, "replies", *end, number as u64)?;
+            push_act(json, "replies", *end, number as u64)?;
             write!(json, ",\"answers\":{answered}")
         }
-        Step::Loses(sender, lost) => push_deed(json, "loses", *sender, *lost),
+        Step::Loses(sender, lost) => push_act(json, "loses", *sender, *lost),
         Step::Discards(sender, lost, reason) => {
-            push_deed(json, "discards", sender.other(), *lost)?;
+            push_act(json, "discards", sender.other(), *lost)?;
             let mut words = String::new(alloc);
             push_reason(&mut words, *reason)?;
             push_named(json, "reason", &words)
         }
-        Step::Expires(end, name, id) => push_unseen(alloc, json, *end, name, Some(*id)),
-        Step::Closes(end, name) => push_unseen(alloc, json, *end, name, None),
+        Step::Expires(end, name, id) => push_internal(alloc, json, *end, name, Some(*id)),
+        Step::Closes(end, name) => push_internal(alloc, json, *end, name, None),
         Step::Quiet => {
             push_word(json, "quiet", None)?;
             write!(json, ",\"entry\":{number}")
@@ -243,12 +243,12 @@ impl Chart<'_> {
         let rows = rows_of(alloc, self.read, steps)?;
         let before = left_before(rows.len(), place_of(&rows, marked(self.outcome)));
         let end = before.saturating_add(MOST).min(rows.len());
-        let told = rows.get(before..end).unwrap_or(&[]);
+        let returned = rows.get(before..end).unwrap_or(&[]);
         let mut page = String::new(alloc);
         page.push_str(FRAME_HEAD)?;
         self.push_head(alloc, &mut page)?;
-        push_entries(alloc, &mut page, self.read, told)?;
-        push_rows(alloc, &mut page, told)?;
+        push_entries(alloc, &mut page, self.read, returned)?;
+        push_rows(alloc, &mut page, returned)?;
         let behind = rows.len().saturating_sub(end);
         writeln!(page, ",\"left_out\":[{before},{behind}]}}}}")?;
         page.push_str(FRAME_TAIL)?;

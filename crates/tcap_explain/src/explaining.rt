@@ -5,20 +5,20 @@ ghost use Rattle.std.specs.String.{string_bytes};
 ghost use Rattle.tcap_ber.specs.Device.{one_more};
 ghost use Rattle.tcap_certificate.specs.LossCounts.{unheard_of};
 ghost use Rattle.tcap_judge.specs.declared.outcome.Outcome.TheVariants.{Lawful, Refuted, Undecided};
-ghost use Rattle.tcap_judge.specs.CheckOutcome.{out_of_memory, replay_says};
+ghost use Rattle.tcap_judge.specs.CheckOutcome.{out_of_memory, replay_outcome};
 ghost use Rattle.tcap_judge.specs.Device.{device};
 ghost use Rattle.tcap_judge.specs.LawfulOutcome.{IsShown, lawful_by, replayed_by};
-ghost use Rattle.tcap_judge.specs.Verdict.{named_by, proposed_by, verdict_of};
+ghost use Rattle.tcap_judge.specs.Verdict.{refutation_by, proposed_by, verdict_of};
 ghost use Rattle.tcap_judge.specs.BlameOutcome.{ends_of, is_lawful, joint_verdict};
 ghost use Rattle.tcap_check.specs.ReportedSteps.{events_of};
 ghost use Rattle.tcap_explain.specs.Faults.{IsFaultBehind};
 ghost use Rattle.tcap_explain.specs.StepLines.{run_lines};
 ghost use Rattle.tcap_explain.specs.RefutedLines.{refuted_lines};
-ghost use Rattle.tcap_explain.specs.VerdictLines.{AreLinesOfBoth, EndsWithEnds, Explains, ExplainsBy, GivesWhy, GivesWhyBy, IsExplained, IsExplainedBy, IsWhy};
+ghost use Rattle.tcap_explain.specs.VerdictLines.{AreLinesOfBoth, EndsWithEnds, Explains, ExplainsBy, GivesExplanation, GivesExplanationBy, IsExplained, IsExplainedBy, IsExplanation};
 
 use crate::chart::Chart;
 use crate::faults::fault_text;
-use crate::refuted_text::{ends_asked, refuted_text};
+use crate::refuted_text::{ends_judged, refuted_text};
 use crate::runs::{lawful_ends_text, run_so_far};
 use crate::step_lines::{is_lost_from, push_steps};
 use crate::stops::stop_text;
@@ -35,7 +35,7 @@ use tcap_refute::Refutation;
 
 /// A verdict, with its explanation.
 #[derive(Drop)]
-struct Why {
+struct Explanation {
     outcome: Outcome,
     // The text after the line of the verdict.
     behind: String,
@@ -45,20 +45,20 @@ struct Why {
 
 /// The options of a run.
 #[derive(Clone, Copy, Debug)]
-pub struct Asked {
+pub struct ExplainOptions {
     /// The end that is judged alone, or None for both.
     pub judged: Option<End>,
     /// True if a chart is asked for.
     pub with_chart: bool,
 }
 
-impl Why {
+impl Explanation {
     /// Returns this verdict with no text after it.
-    fn alone(alloc: Global, outcome: Outcome) -> Why
+    fn alone(alloc: Global, outcome: Outcome) -> Explanation
         ensures outcome { result.outcome ≡ outcome }
         ensures behind { string_bytes result.behind ≡ [] }
     {
-        Why {
+        Explanation {
             outcome,
             behind: String::new(alloc),
             chart: String::new(alloc),
@@ -66,17 +66,17 @@ impl Why {
     }
 
     /// Returns the verdict on a file with a fault, with a text that names the file.
-    fn of_fault(alloc: Global, outcome: Outcome) -> Why
+    fn of_fault(alloc: Global, outcome: Outcome) -> Explanation
         ensures outcome { result.outcome ≡ outcome }
         ensures behind { IsFaultBehind outcome (string_bytes result.behind) }
     {
         match fault_text(alloc, outcome) {
-            Ok(behind) => Why {
+            Ok(behind) => Explanation {
                 outcome,
                 behind,
                 chart: String::new(alloc),
             },
-            Err(AllocError) => Why::alone(alloc, outcome),
+            Err(AllocError) => Explanation::alone(alloc, outcome),
         }
     }
 }
@@ -108,15 +108,15 @@ fn said_of(judged: Option<End>, count: usize, steps: &[Step]) -> Outcome
 fn chart_of(
     alloc: Global,
     read: &Record,
-    asked: Asked,
+    options: ExplainOptions,
     outcome: Outcome,
     behind: &str,
     steps: &[Step],
 ) -> Result<String, AllocError> {
-    if !asked.with_chart {
+    if !options.with_chart {
         return Ok(String::new(alloc));
     }
-    let judged = asked.judged;
+    let judged = options.judged;
     Chart {
         read,
         judged,
@@ -131,17 +131,17 @@ fn explain_run(
     alloc: Global,
     read: &Record,
     steps: &[Step],
-    asked: Asked,
-) -> Result<Why, AllocError>
+    options: ExplainOptions,
+) -> Result<Explanation, AllocError>
     ensures outcome { IfOk result (λ why. why.outcome
-        ≡ lawful_by asked.judged (length read.now.entries.items) (events_of steps.now)) }
-    ensures behind { IfOk result (λ why. string_bytes why.behind ≡ run_lines asked.judged steps.now) }
+        ≡ lawful_by options.judged (length read.now.entries.items) (events_of steps.now)) }
+    ensures behind { IfOk result (λ why. string_bytes why.behind ≡ run_lines options.judged steps.now) }
 {
-    let outcome = said_of(asked.judged, read.entries.len(), steps);
+    let outcome = said_of(options.judged, read.entries.len(), steps);
     let mut behind = String::new(alloc);
-    push_steps(&mut behind, asked.judged, steps)?;
-    let chart = chart_of(alloc, read, asked, outcome, &behind, steps)?;
-    Ok(Why {
+    push_steps(&mut behind, options.judged, steps)?;
+    let chart = chart_of(alloc, read, options, outcome, &behind, steps)?;
+    Ok(Explanation {
         outcome,
         behind,
         chart,
@@ -155,19 +155,19 @@ fn explain_stop(
     read: &Record,
     table: &Table,
     certificate: &Certificate,
-    asked: Asked,
+    options: ExplainOptions,
     ends: Option<Ends>,
     run: &mut Partial,
     fault: CheckFault,
     outcome: Outcome,
-) -> Result<Why, AllocError>
+) -> Result<Explanation, AllocError>
     requires found { IfSome ends (λ both. both ≡ ends_of table.now read.now.entries.items) }
     ensures { IfOk result (λ why. (why.outcome ≡ outcome)
         × EndsWithEnds table.now read.now.entries.items ends (string_bytes why.behind)) }
 {
     let behind = stop_text(alloc, read, table, certificate, ends, fault, run)?;
-    let chart = chart_of(alloc, read, asked, outcome, &behind, &run.steps)?;
-    Ok(Why {
+    let chart = chart_of(alloc, read, options, outcome, &behind, &run.steps)?;
+    Ok(Explanation {
         outcome,
         behind,
         chart,
@@ -179,9 +179,9 @@ fn explain_ends(
     alloc: Global,
     read: &Record,
     table: &Table,
-    asked: Asked,
+    options: ExplainOptions,
     ends: Ends,
-) -> Result<Why, AllocError>
+) -> Result<Explanation, AllocError>
     requires few { length read.now.entries.items ≤ 100000 }
     requires ends { ends ≡ ends_of table.now read.now.entries.items }
     requires lawful { (is_lawful ends.a && is_lawful ends.b) ≡ true }
@@ -190,8 +190,8 @@ fn explain_ends(
 {
     let behind = lawful_ends_text(alloc, read, table, ends)?;
     let outcome = Outcome::Lawful(read.entries.len());
-    let chart = chart_of(alloc, read, asked, outcome, &behind, &[])?;
-    Ok(Why {
+    let chart = chart_of(alloc, read, options, outcome, &behind, &[])?;
+    Ok(Explanation {
         outcome,
         behind,
         chart,
@@ -216,27 +216,28 @@ fn explain_other(
     read: &Record,
     table: &Table,
     certificate: &Certificate,
-    asked: Asked,
+    options: ExplainOptions,
     run: &mut Partial,
     fault: CheckFault,
-) -> Result<Why, AllocError>
+) -> Result<Explanation, AllocError>
     requires few { length read.now.entries.items ≤ 100000 }
-    requires verdict { verdict_of asked.judged table.now read.now.entries.items ≡ Undecided fault }
-    requires refused { replayed_by asked.judged table.now certificate.now read.now.entries.items ≡ Err fault }
-    ensures { IfOk result (λ why. (why.outcome ≡ joint_verdict asked.judged table.now read.now.entries.items)
-        × IsShown asked.judged table.now read.now.entries.items why.outcome
-        × IsWhy asked.judged table.now certificate.now read.now.entries.items why.outcome (string_bytes why.behind)) }
+    requires verdict { verdict_of options.judged table.now read.now.entries.items ≡ Undecided fault }
+    requires refused { replayed_by options.judged table.now certificate.now read.now.entries.items ≡ Err fault }
+    ensures { IfOk result (λ why. (why.outcome ≡ joint_verdict options.judged table.now read.now.entries.items)
+        × IsShown options.judged table.now read.now.entries.items why.outcome
+        × IsExplanation options.judged table.now certificate.now read.now.entries.items why.outcome
+        (string_bytes why.behind)) }
 {
     let outcome = Outcome::Undecided(fault);
-    let ends = ends_asked(alloc, read, table, asked.judged)?;
+    let ends = ends_judged(alloc, read, table, options.judged)?;
     match lawful_both(ends) {
-        Some(both) => explain_ends(alloc, read, table, asked, both),
+        Some(both) => explain_ends(alloc, read, table, options, both),
         None => explain_stop(
             alloc,
             read,
             table,
             certificate,
-            asked,
+            options,
             ends,
             run,
             fault,
@@ -250,24 +251,24 @@ fn explain_refuted(
     alloc: Global,
     read: &Record,
     table: &Table,
-    asked: Asked,
+    options: ExplainOptions,
     refutation: Refutation,
-) -> Result<Why, AllocError>
-    requires named { named_by asked.judged table.now read.now.entries.items ≡ Some refutation }
+) -> Result<Explanation, AllocError>
+    requires named { refutation_by options.judged table.now read.now.entries.items ≡ Some refutation }
     requires few { length read.now.entries.items ≤ 100000 }
     ensures { IfOk result (λ why. (why.outcome ≡ Refuted refutation)
-        × (string_bytes why.behind ≡ refuted_lines asked.judged table.now read.now.entries.items refutation)) }
+        × (string_bytes why.behind ≡ refuted_lines options.judged table.now read.now.entries.items refutation)) }
 {
     let outcome = Outcome::Refuted(refutation);
-    let behind = refuted_text(alloc, read, table, asked.judged, refutation)?;
-    let chart = if asked.with_chart {
-        let certificate = propose(alloc, read, asked.judged)?;
-        let run = run_until(alloc, read, table, &certificate, asked.judged)?;
-        chart_of(alloc, read, asked, outcome, &behind, &run.steps)?
+    let behind = refuted_text(alloc, read, table, options.judged, refutation)?;
+    let chart = if options.with_chart {
+        let certificate = propose(alloc, read, options.judged)?;
+        let run = run_until(alloc, read, table, &certificate, options.judged)?;
+        chart_of(alloc, read, options, outcome, &behind, &run.steps)?
     } else {
         String::new(alloc)
     };
-    Ok(Why {
+    Ok(Explanation {
         outcome,
         behind,
         chart,
@@ -279,20 +280,21 @@ fn explain_by_search(
     alloc: Global,
     read: &Record,
     table: &Table,
-    asked: Asked,
-) -> Result<Why, AllocError>
+    options: ExplainOptions,
+) -> Result<Explanation, AllocError>
     requires few { length read.now.entries.items ≤ 100000 }
-    requires sound { named_by asked.judged table.now read.now.entries.items ≡ None }
-    ensures { IfOk result (λ why. (why.outcome ≡ joint_verdict asked.judged table.now read.now.entries.items)
-        × IsShown asked.judged table.now read.now.entries.items why.outcome
-        × IsWhy asked.judged table.now (proposed_by asked.judged read.now.entries.items) read.now.entries.items why.outcome
+    requires sound { refutation_by options.judged table.now read.now.entries.items ≡ None }
+    ensures { IfOk result (λ why. (why.outcome ≡ joint_verdict options.judged table.now read.now.entries.items)
+        × IsShown options.judged table.now read.now.entries.items why.outcome
+        × IsExplanation options.judged table.now
+        (proposed_by options.judged read.now.entries.items) read.now.entries.items why.outcome
         (string_bytes why.behind)) }
 {
-    let certificate = propose(alloc, read, asked.judged)?;
-    let mut run = run_so_far(alloc, read, table, &certificate, asked.judged)?;
+    let certificate = propose(alloc, read, options.judged)?;
+    let mut run = run_so_far(alloc, read, table, &certificate, options.judged)?;
     match run.refused {
-        None => explain_run(alloc, read, &run.steps, asked),
-        Some(fault) => explain_other(alloc, read, table, &certificate, asked, &mut run, fault),
+        None => explain_run(alloc, read, &run.steps, options),
+        Some(fault) => explain_other(alloc, read, table, &certificate, options, &mut run, fault),
     }
 }
 
@@ -301,17 +303,18 @@ fn explain_verdict(
     alloc: Global,
     read: &Record,
     table: &Table,
-    asked: Asked,
-) -> Result<Why, AllocError>
+    options: ExplainOptions,
+) -> Result<Explanation, AllocError>
     requires few { length read.now.entries.items ≤ 100000 }
-    ensures { IfOk result (λ why. (why.outcome ≡ joint_verdict asked.judged table.now read.now.entries.items)
-        × IsShown asked.judged table.now read.now.entries.items why.outcome
-        × IsWhy asked.judged table.now (proposed_by asked.judged read.now.entries.items) read.now.entries.items why.outcome
+    ensures { IfOk result (λ why. (why.outcome ≡ joint_verdict options.judged table.now read.now.entries.items)
+        × IsShown options.judged table.now read.now.entries.items why.outcome
+        × IsExplanation options.judged table.now
+        (proposed_by options.judged read.now.entries.items) read.now.entries.items why.outcome
         (string_bytes why.behind)) }
 {
-    match named(alloc, read, table, asked.judged)? {
-        Some(refutation) => explain_refuted(alloc, read, table, asked, refutation),
-        None => explain_by_search(alloc, read, table, asked),
+    match named(alloc, read, table, options.judged)? {
+        Some(refutation) => explain_refuted(alloc, read, table, options, refutation),
+        None => explain_by_search(alloc, read, table, options),
     }
 }
 
@@ -321,26 +324,27 @@ fn explain_replay(
     read: &Record,
     table: &Table,
     certificate: &Certificate,
-    asked: Asked,
-) -> Result<Why, AllocError>
+    options: ExplainOptions,
+) -> Result<Explanation, AllocError>
     requires few { length read.now.entries.items ≤ 100000 }
-    ensures { IfOk result (λ why. (why.outcome ≡ replay_says asked.judged (length read.now.entries.items)
-        (replayed_by asked.judged table.now certificate.now read.now.entries.items))
-        × IsShown asked.judged table.now read.now.entries.items why.outcome
-        × IsWhy asked.judged table.now certificate.now read.now.entries.items why.outcome (string_bytes why.behind)) }
+    ensures { IfOk result (λ why. (why.outcome ≡ replay_outcome options.judged (length read.now.entries.items)
+        (replayed_by options.judged table.now certificate.now read.now.entries.items))
+        × IsShown options.judged table.now read.now.entries.items why.outcome
+        × IsExplanation options.judged table.now certificate.now read.now.entries.items why.outcome
+        (string_bytes why.behind)) }
 {
-    let mut run = run_so_far(alloc, read, table, certificate, asked.judged)?;
+    let mut run = run_so_far(alloc, read, table, certificate, options.judged)?;
     match run.refused {
-        None => explain_run(alloc, read, &run.steps, asked),
+        None => explain_run(alloc, read, &run.steps, options),
         Some(fault) => {
             let outcome = Outcome::NotShown(fault);
-            let ends = ends_asked(alloc, read, table, asked.judged)?;
+            let ends = ends_judged(alloc, read, table, options.judged)?;
             explain_stop(
                 alloc,
                 read,
                 table,
                 certificate,
-                asked,
+                options,
                 ends,
                 &mut run,
                 fault,
@@ -351,15 +355,24 @@ fn explain_replay(
 }
 
 /// Judges the record in `reader`, and explains the verdict.
-fn explain_told<R: Read>(alloc: Global, reader: &mut R, table: &Table, asked: Asked) -> Why
-    ensures { GivesWhy asked.judged table.now (device R.untold R.failures reader.old reader.new) result.outcome (string_bytes result.behind) }
+fn explain_told<R: Read>(
+    alloc: Global,
+    reader: &mut R,
+    table: &Table,
+    options: ExplainOptions,
+) -> Explanation
+    ensures { GivesExplanation options.judged table.now
+        (device R.untold R.failures reader.old reader.new) result.outcome (string_bytes result.behind) }
 {
     match read_record(alloc, reader) {
-        Ok(read) => match explain_verdict(alloc, &read, table, asked) {
+        Ok(read) => match explain_verdict(alloc, &read, table, options) {
             Ok(why) => why,
-            Err(AllocError) => Why::alone(alloc, OUT_OF_MEMORY),
+            Err(AllocError) => Explanation::alone(alloc, OUT_OF_MEMORY),
         },
-        Err(fault) => Why::of_fault(alloc, Outcome::Faulty(fault.reason.number(), fault.place)),
+        Err(fault) => Explanation::of_fault(
+            alloc,
+            Outcome::Faulty(fault.reason.number(), fault.place),
+        ),
     }
 }
 
@@ -369,16 +382,20 @@ fn explain_told_by<R: Read>(
     reader: &mut R,
     table: &Table,
     certificate: &Certificate,
-    asked: Asked,
-) -> Why
-    ensures { GivesWhyBy asked.judged table.now (Ok certificate.now) (device R.untold R.failures reader.old reader.new) result.outcome (string_bytes result.behind) }
+    options: ExplainOptions,
+) -> Explanation
+    ensures { GivesExplanationBy options.judged table.now (Ok certificate.now)
+        (device R.untold R.failures reader.old reader.new) result.outcome (string_bytes result.behind) }
 {
     match read_record(alloc, reader) {
-        Ok(read) => match explain_replay(alloc, &read, table, certificate, asked) {
+        Ok(read) => match explain_replay(alloc, &read, table, certificate, options) {
             Ok(why) => why,
-            Err(AllocError) => Why::alone(alloc, OUT_OF_MEMORY),
+            Err(AllocError) => Explanation::alone(alloc, OUT_OF_MEMORY),
         },
-        Err(fault) => Why::of_fault(alloc, Outcome::Faulty(fault.reason.number(), fault.place)),
+        Err(fault) => Explanation::of_fault(
+            alloc,
+            Outcome::Faulty(fault.reason.number(), fault.place),
+        ),
     }
 }
 
@@ -387,14 +404,14 @@ fn explain_both<R: Read, T: Read>(
     alloc: Global,
     entries: &mut R,
     table: &mut T,
-    asked: Asked,
-) -> Why
-    ensures { IsExplained asked.judged (device R.untold R.failures entries.old entries.new)
+    options: ExplainOptions,
+) -> Explanation
+    ensures { IsExplained options.judged (device R.untold R.failures entries.old entries.new)
         (device T.untold T.failures table.old table.new) result.outcome (string_bytes result.behind) }
 {
     match read_table(alloc, table) {
-        Ok(table) => explain_told(alloc, entries, &table, asked),
-        Err(outcome) => Why::of_fault(alloc, outcome),
+        Ok(table) => explain_told(alloc, entries, &table, options),
+        Err(outcome) => Explanation::of_fault(alloc, outcome),
     }
 }
 
@@ -404,19 +421,19 @@ fn explain_all<R: Read, T: Read, C: Read>(
     entries: &mut R,
     table: &mut T,
     certificate: &mut C,
-    asked: Asked,
-) -> Why
-    ensures { IsExplainedBy asked.judged (device R.untold R.failures entries.old entries.new)
+    options: ExplainOptions,
+) -> Explanation
+    ensures { IsExplainedBy options.judged (device R.untold R.failures entries.old entries.new)
         (device T.untold T.failures table.old table.new)
         (device C.untold C.failures certificate.old certificate.new) result.outcome (string_bytes result.behind) }
 {
     let table = match read_table(alloc, table) {
         Ok(table) => table,
-        Err(outcome) => return Why::of_fault(alloc, outcome),
+        Err(outcome) => return Explanation::of_fault(alloc, outcome),
     };
     match read_certificate(alloc, certificate) {
-        Ok(certificate) => explain_told_by(alloc, entries, &table, &certificate, asked),
-        Err(outcome) => Why::of_fault(alloc, outcome),
+        Ok(certificate) => explain_told_by(alloc, entries, &table, &certificate, options),
+        Err(outcome) => Explanation::of_fault(alloc, outcome),
     }
 }
 
@@ -441,17 +458,17 @@ pub fn run_explain<R: Read, T: Read, W: Write>(
     alloc: Global,
     entries: &mut R,
     table: &mut T,
-    asked: Asked,
+    options: ExplainOptions,
     chart: &mut String,
     writer: &mut W,
 ) -> Result<Status, WriteFailed>
-    ensures explains { IfOk result (Explains asked.judged (device R.untold R.failures entries.old entries.new)
+    ensures explains { IfOk result (Explains options.judged (device R.untold R.failures entries.old entries.new)
         (device T.untold T.failures table.old table.new)
         (W.taken writer.old) (W.taken writer.new)) }
     ensures counts { OnOk result (W.failures writer.new ≡ W.failures writer.old) }
     ensures failed { OnErr result (W.failures writer.new ≡ one_more (W.failures writer.old)) }
 {
-    let why = explain_both(alloc, entries, table, asked);
+    let why = explain_both(alloc, entries, table, options);
     *chart = why.chart;
     write_outcome(alloc, why.outcome, &why.behind, writer)
 }
@@ -469,18 +486,18 @@ pub fn run_explain_check<R: Read, T: Read, C: Read, W: Write>(
     entries: &mut R,
     table: &mut T,
     certificate: &mut C,
-    asked: Asked,
+    options: ExplainOptions,
     chart: &mut String,
     writer: &mut W,
 ) -> Result<Status, WriteFailed>
-    ensures explains { IfOk result (ExplainsBy asked.judged (device R.untold R.failures entries.old entries.new)
+    ensures explains { IfOk result (ExplainsBy options.judged (device R.untold R.failures entries.old entries.new)
         (device T.untold T.failures table.old table.new)
         (device C.untold C.failures certificate.old certificate.new)
         (W.taken writer.old) (W.taken writer.new)) }
     ensures counts { OnOk result (W.failures writer.new ≡ W.failures writer.old) }
     ensures failed { OnErr result (W.failures writer.new ≡ one_more (W.failures writer.old)) }
 {
-    let why = explain_all(alloc, entries, table, certificate, asked);
+    let why = explain_all(alloc, entries, table, certificate, options);
     *chart = why.chart;
     write_outcome(alloc, why.outcome, &why.behind, writer)
 }

@@ -3,7 +3,7 @@
 //! Each function that returns `AllocError` does so if memory runs out.
 
 use std::alloc::{AllocError, Global};
-use tcap_end::{EndState, HalfName, InvocationState, OpenHalf, Phase, Standing};
+use tcap_end::{DialogueState, EndState, HalfName, InvocationState, OpenHalf, Phase};
 use tcap_msg::TransactionId;
 use tcap_parts::{CodeView, ComponentView};
 use tcap_record::{End, push_code, push_component, push_hex};
@@ -22,11 +22,11 @@ fn phase_words(phase: Phase) -> &'static str {
 }
 
 /// Returns the words for a dialogue state (Q.774 3.2).
-fn standing_words(standing: Standing) -> &'static str {
-    match standing {
-        Standing::Without => "no dialogue",
-        Standing::Asked => "a dialogue is asked for",
-        Standing::Confirmed => "a dialogue is confirmed",
+fn dialogue_state_words(dialogue_state: DialogueState) -> &'static str {
+    match dialogue_state {
+        DialogueState::Without => "no dialogue",
+        DialogueState::Requested => "a dialogue is asked for",
+        DialogueState::Confirmed => "a dialogue is confirmed",
     }
 }
 
@@ -150,7 +150,7 @@ pub(crate) fn push_half_state(
             text.push_str(": ")?;
             text.push_str(phase_words(half.phase()))?;
             text.push_str(", ")?;
-            text.push_str(standing_words(half.standing()))?;
+            text.push_str(dialogue_state_words(half.dialogue_state()))?;
         }
         None if state.knows(name) => {
             text.push_str(": the half with")?;

@@ -14,4 +14,4 @@ mod runs;
 mod step_lines;
 mod stops;
 
-pub use explaining::{Asked, run_explain, run_explain_check};
+pub use explaining::{ExplainOptions, run_explain, run_explain_check};

@@ -10,13 +10,13 @@ ghost use Rattle.tcap_refute.specs.Kind.{refuted};
 ghost use Rattle.tcap_faults.specs.Fault.{blamed};
 ghost use Rattle.tcap_judge.specs.BlameOutcome.{AreFound, ends_of};
 ghost use Rattle.tcap_judge.specs.declared.findings.Finding.TheVariants as findings;
-ghost use Rattle.tcap_judge.specs.Verdict.{named_by};
-ghost use Rattle.tcap_explain.specs.RefutedLines.{asked_text, behind_text, both_text, end_text, ends_asked, is_blamed_by, is_shown, none_found_words, refuted_lines, sender_at, unblamed_lines, unblamed_words, unread_words};
+ghost use Rattle.tcap_judge.specs.Verdict.{refutation_by};
+ghost use Rattle.tcap_explain.specs.RefutedLines.{findings_text, behind_text, both_text, end_text, ends_judged, is_blamed_by, is_shown, none_found_words, refuted_lines, sender_at, unblamed_lines, unblamed_words, unread_words};
 
 use std::alloc::{AllocError, Global};
 use tcap_end::Table;
 use tcap_evidence::{push_unblamed, push_why};
-use tcap_judge::{Ends, Finding, find_both, push_finding, stands_behind};
+use tcap_judge::{Ends, Finding, comes_after, find_both, push_finding};
 use tcap_record::{End, Record};
 use tcap_refute::Refutation;
 
@@ -133,7 +133,7 @@ fn push_both(
     ensures { OnOk result (string_bytes text.new
         ≡ string_bytes text.old ++ both_text table.now read.now.entries.items shown ends) }
 {
-    if stands_behind(ends.a, ends.b) {
+    if comes_after(ends.a, ends.b) {
         push_end(alloc, text, read, table, End::B, ends.b, shown)?;
         push_end(alloc, text, read, table, End::A, ends.a, shown)
     } else {
@@ -143,14 +143,14 @@ fn push_both(
 }
 
 /// Returns what `blame` finds for both ends, if both are judged.
-pub(crate) fn ends_asked(
+pub(crate) fn ends_judged(
     alloc: Global,
     read: &Record,
     table: &Table,
     judged: Option<End>,
 ) -> Result<Option<Ends>, AllocError>
     requires few { length read.now.entries.items ≤ 100000 }
-    ensures asked { IfOk result (λ ends. ends ≡ ends_asked judged table.now read.now.entries.items) }
+    ensures options { IfOk result (λ ends. ends ≡ ends_judged judged table.now read.now.entries.items) }
     ensures each { IfOk result (λ ends. IfSome ends (λ both. both ≡ ends_of table.now read.now.entries.items)) }
     ensures found { IfOk result (λ ends. IfSome ends (AreFound table.now read.now.entries.items)) }
 {
@@ -161,7 +161,7 @@ pub(crate) fn ends_asked(
 }
 
 /// Appends these findings, and the reasons.
-pub(crate) fn push_asked(
+pub(crate) fn push_findings(
     alloc: Global,
     text: &mut String,
     read: &Record,
@@ -169,7 +169,8 @@ pub(crate) fn push_asked(
     ends: Option<Ends>,
 ) -> Result<(), AllocError>
     requires found { IfSome ends (λ both. both ≡ ends_of table.now read.now.entries.items) }
-    ensures { OnOk result (string_bytes text.new ≡ string_bytes text.old ++ asked_text table.now read.now.entries.items ends) }
+    ensures { OnOk result (string_bytes text.new ≡ string_bytes text.old
+        ++ findings_text table.now read.now.entries.items ends) }
 {
     match ends {
         Some(ends) => push_both(alloc, text, read, table, ends, None),
@@ -238,7 +239,7 @@ pub(crate) fn refuted_text(
     judged: Option<End>,
     refutation: Refutation,
 ) -> Result<String, AllocError>
-    requires named { named_by judged table.now read.now.entries.items ≡ Some refutation }
+    requires named { refutation_by judged table.now read.now.entries.items ≡ Some refutation }
     requires few { length read.now.entries.items ≤ 100000 }
     ensures { IfOk result (λ text. string_bytes text ≡ refuted_lines judged table.now read.now.entries.items refutation) }
 {

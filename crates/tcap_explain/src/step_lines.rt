@@ -5,7 +5,7 @@ ghost use Rattle.std.specs.String.{string_bytes};
 ghost use Rattle.hex.specs.Hex.{encode_lower};
 ghost use Rattle.tcap_certificate.specs.LossCounts.{is_lost_from};
 ghost use Rattle.tcap_check.specs.ReportedSteps.{event_of};
-ghost use Rattle.tcap_explain.specs.StepLines.{closing_line, deed_text, discard_line, discard_text, expiry_line, half_text, invocation_text, is_entry, lines_from, loss_line, own_label, owner_text, peer_label, reply_line, run_label, run_lines, sent_line, step_line};
+ghost use Rattle.tcap_explain.specs.StepLines.{closing_line, act_text, discard_line, discard_text, expiry_line, half_text, invocation_text, is_entry, lines_from, loss_line, own_label, owner_text, peer_label, reply_line, run_label, run_lines, sent_line, step_line};
 
 use std::alloc::AllocError;
 use tcap_check::Step;
@@ -76,8 +76,8 @@ pub(crate) fn push_half(text: &mut String, name: &HalfName) -> Result<(), AllocE
 }
 
 /// Appends an end, its act, and the number of an entry.
-fn push_deed(text: &mut String, end: End, deed: &str, number: u64) -> Result<(), AllocError>
-    ensures { OnOk result (string_bytes text.new ≡ string_bytes text.old ++ deed_text end deed.now number) }
+fn push_act(text: &mut String, end: End, deed: &str, number: u64) -> Result<(), AllocError>
+    ensures { OnOk result (string_bytes text.new ≡ string_bytes text.old ++ act_text end deed.now number) }
 {
     text.push_str("  ")?;
     text.push_str(end.letter())?;
@@ -95,7 +95,7 @@ fn push_sent(
 ) -> Result<(), AllocError>
     ensures { OnOk result (string_bytes text.new ≡ string_bytes text.old ++ sent_line end deed.now number message.now) }
 {
-    push_deed(text, end, deed, number)?;
+    push_act(text, end, deed, number)?;
     text.push_str(" ")?;
     push_head(text, message)?;
     text.push_str("\n")
@@ -153,7 +153,7 @@ fn push_closing(text: &mut String, end: End, name: &HalfName) -> Result<(), Allo
 fn push_reply(text: &mut String, end: End, answered: u64, number: u64) -> Result<(), AllocError>
     ensures { OnOk result (string_bytes text.new ≡ string_bytes text.old ++ reply_line end answered number) }
 {
-    push_deed(text, end, "'s provider answers ", answered)?;
+    push_act(text, end, "'s provider answers ", answered)?;
     text.push_str(" by ")?;
     writeln!(text, "{number}")
 }
@@ -186,7 +186,7 @@ fn push_discard(
 ) -> Result<(), AllocError>
     ensures { OnOk result (string_bytes text.new ≡ string_bytes text.old ++ discard_line sender number reason) }
 {
-    push_deed(text, sender.other(), " could not receive ", number)?;
+    push_act(text, sender.other(), " could not receive ", number)?;
     text.push_str(": ")?;
     push_reason(text, reason)?;
     text.push_str("\n")
@@ -205,7 +205,7 @@ fn push_step(
         Step::Sends(end, message) => push_sent(text, *end, " sends ", number, message),
         Step::Tells(end, message) => push_sent(text, *end, " tells ", number, message),
         Step::Receives(end, received) => {
-            push_deed(text, *end, " receives ", *received)?;
+            push_act(text, *end, " receives ", *received)?;
             text.push_str("\n")
         }
         Step::Replies(end, answered) => push_reply(text, *end, *answered, number),

@@ -11,7 +11,7 @@ use crate::half_states::{push_component_state, push_half_state};
 use crate::indenting::push_indented;
 use crate::reasons::{fault_words, reason_words};
 use crate::refused_component::{MANY, is_of_component, refused_component};
-use crate::refuted_text::push_asked;
+use crate::refuted_text::push_findings;
 use std::alloc::{AllocError, Global};
 use tcap_ber::Fault;
 use tcap_check::{Certificate, CheckFault, Fate, Partial, Reason};
@@ -371,6 +371,6 @@ pub(crate) fn stop_text(
     push_stop(alloc, &mut lines, &stop, run)?;
     let mut text = String::new(alloc);
     push_indented(&mut text, &lines)?;
-    push_asked(alloc, &mut text, read, table, ends)?;
+    push_findings(alloc, &mut text, read, table, ends)?;
     Ok(text)
 }

@@ -8,16 +8,16 @@ use Rattle.tcap_record.specs.declared.entry.End.{End as Side}
 use Rattle.tcap_record.specs.Ends.{other}
 use Rattle.tcap_end.specs.Table.{Table}
 use Rattle.tcap_model.specs.World.{Item, Sent, is_side}
-use Rattle.tcap_model.specs.Run.{then_so}
-use Rattle.tcap_refute.specs.EarlierMessages.{asked, ends_to, has_a, is_a, sent_by}
-use Rattle.tcap_faults.specs.SentToId.{goes_on_from, goes_on_to, has_ended, has_used, is_cause, one_passes}
+use Rattle.tcap_model.specs.Run.{option_then}
+use Rattle.tcap_refute.specs.EarlierMessages.{peer_sent_from, ends_to, has_a, is_a, sent_by}
+use Rattle.tcap_faults.specs.SentToId.{is_continue_from, is_continue_to, has_ended, has_used, is_cause, one_passes}
 
 -- ---- answered as closed
 
 -- Whether these messages have a Continue, and all their Continues go to this ID.
-abbrev pub all_go_on_to : List ℕ → List Message → Bool
-all_go_on_to own messages =
-    has_a forms.Continue messages && not (list_any (λ m. is_a forms.Continue m && not (goes_on_to own m)) messages)
+abbrev pub all_continue_to : List ℕ → List Message → Bool
+all_continue_to own messages =
+    has_a forms.Continue messages && not (list_any (λ m. is_a forms.Continue m && not (is_continue_to own m)) messages)
 
 -- An Abort with cause 1 that shows, after these items, that the half with this own ID was closed. The end had used
 -- the ID, and the Abort can only answer a Continue to it.
@@ -28,7 +28,7 @@ shows_closed side own seen (Sent sender message) =
   where
     by : Option (List ℕ) → Bool
     by None = false
-    by (Some id) = all_go_on_to own (asked side id seen)
+    by (Some id) = all_continue_to own (peer_sent_from side id seen)
 shows_closed side own seen Item.Quiet = false
 
 -- Whether the end answered the half with this own ID as closed.
@@ -44,7 +44,7 @@ was_closed side items (Some own) = one_passes (shows_closed side own) [] items
 abbrev pub is_surely_open : Table → Side → List Item → List ℕ → Bool
 is_surely_open table side items own =
     not table.prearranged
-    && by (then_so (find (goes_on_from own) (sent_by side items)) dtid_in)
+    && by (option_then (find (is_continue_from own) (sent_by side items)) dtid_in)
     && not (list_any (ends_to own) (sent_by (other side) items))
   where
     by : Option (List ℕ) → Bool

@@ -7,7 +7,7 @@ use Rattle.tcap_parts.specs.declared.component.Component.{Component}
 use Rattle.tcap_parts.specs.declared.component.Component.TheVariants.{Invoke}
 use Rattle.tcap_end.specs.Table.{Table, linked_of}
 use Rattle.tcap_refute.specs.EarlierMessages.{invokes, is_invoke_id}
-use Rattle.tcap_faults.specs.Counts.{invokes_so, is_nothing}
+use Rattle.tcap_faults.specs.Counts.{invokes_where, is_nothing}
 
 -- ---- a message
 
@@ -43,7 +43,7 @@ is_of_link n = nat_le 5 n && nat_le n 7
 -- the Invoke pass a test.
 abbrev pub is_linked_to : (Code → Code → Bool) → List Component → ℤ → Component → Bool
 is_linked_to passes invoked id (Invoke other (Some linked) code parameter) =
-    is_invoke_id id other && list_any (invokes_so linked (λ to. passes to code)) invoked
+    is_invoke_id id other && list_any (invokes_where linked (λ to. passes to code)) invoked
 is_linked_to passes invoked id _ = false
 
 -- Whether an operation lists no linked operations.

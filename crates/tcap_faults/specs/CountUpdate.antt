@@ -9,14 +9,14 @@ use Rattle.tcap_parts.specs.declared.component.Component.TheVariants.{Invoke, Re
 use Rattle.tcap_end.specs.Component.{is_code}
 use Rattle.tcap_end.specs.Table.{Table}
 use Rattle.tcap_refute.specs.EarlierMessages.{is_invoke_id}
-use Rattle.tcap_faults.specs.Counts.{invokes_so, is_class, is_result_of}
+use Rattle.tcap_faults.specs.Counts.{invokes_where, is_class, is_result_of}
 use Rattle.tcap_faults.specs.Components.{is_of_link, is_problem}
 use Rattle.tcap_faults.specs.declared.component.component_sort.Class.{Class}
 use Rattle.tcap_faults.specs.declared.component.component_sort.Class.TheVariants as classes
 use Rattle.tcap_faults.specs.declared.component.component_sort.Sort.{Sort}
 use Rattle.tcap_faults.specs.declared.component.component_sort.Sort.TheVariants as sorts
-use Rattle.tcap_faults.specs.declared.component.invoke_history.OfId.{OfId}
-use Rattle.tcap_faults.specs.InvokeCounts.{Tallied, invokes_link, is_of_class, is_sort, more_if, not_expiring, results_so, sum}
+use Rattle.tcap_faults.specs.declared.component.invoke_history.IdHistory.{IdHistory}
+use Rattle.tcap_faults.specs.InvokeCounts.{Tallied, invokes_link, is_of_class, is_sort, more_if, not_expiring, results_where, sum}
 use Rattle.tcap_faults.specs.TallyMeaning.{answers_in, count_in, count_of, count_of_class, invokes_in, links_in}
 
 -- Whether a class in the table, or its absence, counts as `Class`.
@@ -102,14 +102,14 @@ links_by passes None code = false
 links_by passes (Some linked) code = passes linked code
 
 -- A linked Invoke whose linked ID passes a test with its operation.
-abbrev pub links_so : (ℤ → Code → Bool) → Component → Bool
-links_so passes (Invoke id linked code parameter) = links_by passes linked code
-links_so passes _ = false
+abbrev pub links_where : (ℤ → Code → Bool) → Component → Bool
+links_where passes (Invoke id linked code parameter) = links_by passes linked code
+links_where passes _ = false
 
 -- ---- what is kept of an invoke ID
 
 -- Nothing is counted.
-pub record IsNothing (kept : OfId) : Type 0 where
+pub record IsNothing (kept : IdHistory) : Type 0 where
   pub counts : (sort : Sort) → count_in sort kept ≡ 0
   pub invokes : (code : Code) → count_of code kept.operations ≡ 0
   pub results : (code : Code) → count_of code kept.named ≡ 0
@@ -118,7 +118,7 @@ pub record IsNothing (kept : OfId) : Type 0 where
   pub answers : (passes : Code → Bool) → answers_in passes kept ≡ false
 
 -- `new` is `old` with one more component.
-pub record IsNoted (table : Table) (c : Component) (old new : OfId) : Type 0 where
+pub record IsNoted (table : Table) (c : Component) (old new : IdHistory) : Type 0 where
   pub counts : (sort : Sort) → count_in sort new ≡ more_if (has_sort table sort c) (count_in sort old)
   pub invokes : (code : Code)
       → count_of code new.operations ≡ more_if (invokes_by (is_code code) c) (count_of code old.operations)
@@ -127,12 +127,12 @@ pub record IsNoted (table : Table) (c : Component) (old new : OfId) : Type 0 whe
       → invokes_in passes new ≡ invokes_in passes old || invokes_by passes c
   pub links : (passes : ℤ → Code → Bool)
       → links_in passes new
-      ≡ links_in passes old || links_so passes c
+      ≡ links_in passes old || links_where passes c
   pub answers : (passes : Code → Bool)
       → answers_in passes new ≡ answers_in passes old || answers_by passes c
 
 -- `new` is `old` with one more Invoke.
-pub record IsInvoked (table : Table) (linked : Option ℤ) (code : Code) (old new : OfId) : Type 0 where
+pub record IsInvoked (table : Table) (linked : Option ℤ) (code : Code) (old new : IdHistory) : Type 0 where
   pub invokes : (class : Class)
       → count_of_class class new.invokes ≡ more_if (is_of_class table class code) (count_of_class class old.invokes)
   pub lasting : (class : Class)
@@ -154,7 +154,7 @@ pub record IsInvoked (table : Table) (linked : Option ℤ) (code : Code) (old ne
   }
 
 -- `new` is `old` with one more Return Result.
-pub record IsAnswered (last : Bool) (body : Option ResultBody) (old new : OfId) : Type 0 where
+pub record IsAnswered (last : Bool) (body : Option ResultBody) (old new : IdHistory) : Type 0 where
   pub named : (code : Code)
       → count_of code new.named ≡ more_if (last && names (is_code code) body) (count_of code old.named)
   pub answers : (passes : Code → Bool) → answers_in passes new ≡ answers_in passes old || names passes body
@@ -167,7 +167,7 @@ pub record IsAnswered (last : Bool) (body : Option ResultBody) (old new : OfId) 
   }
 
 -- The counts with one more Reject with this invoke problem.
-abbrev pub invoke_rejected : ℕ → OfId → OfId
+abbrev pub invoke_rejected : ℕ → IdHistory → IdHistory
 invoke_rejected n old = record old {
   invoke_rejects = sum old.invoke_rejects 1;
   duplicate_rejects = more_if (is_problem 0 n) old.duplicate_rejects;
@@ -175,7 +175,7 @@ invoke_rejected n old = record old {
 }
 
 -- The counts with one more Reject.
-abbrev pub rejected : Problem → OfId → OfId
+abbrev pub rejected : Problem → IdHistory → IdHistory
 rejected (problems.General n) old = record old { general_rejects = sum old.general_rejects 1 }
 rejected (problems.Invoke n) old = invoke_rejected n old
 rejected (problems.ReturnResult n) old = record old { result_rejects = sum old.result_rejects 1 }
@@ -187,9 +187,9 @@ rejected (problems.ReturnError n) old = record old { error_rejects = sum old.err
 abbrev pub one_tallied : Table → Component → Tallied → Tallied
 one_tallied table c t = record {
   count = λ id sort. more_if (is_sort table id sort c) (t.count id sort);
-  invokes_of = λ id code. more_if (invokes_so id (is_code code) c) (t.invokes_of id code);
+  invokes_of = λ id code. more_if (invokes_where id (is_code code) c) (t.invokes_of id code);
   results_of = λ id code. more_if (is_result_of id code c) (t.results_of id code);
-  has_operation = λ id passes. t.has_operation id passes || invokes_so id passes c;
+  has_operation = λ id passes. t.has_operation id passes || invokes_where id passes c;
   has_link = λ id passes. t.has_link id passes || invokes_link id passes c;
-  has_result = λ id passes. t.has_result id passes || results_so id passes c;
+  has_result = λ id passes. t.has_result id passes || results_where id passes c;
 }

@@ -19,9 +19,9 @@ count passes items = length (filter passes items)
 -- ---- Invokes
 
 -- An Invoke with this ID whose operation passes a test.
-abbrev pub invokes_so : ℤ → (Code → Bool) → Component → Bool
-invokes_so id passes (Invoke other linked code parameter) = is_invoke_id id other && passes code
-invokes_so id passes _ = false
+abbrev pub invokes_where : ℤ → (Code → Bool) → Component → Bool
+invokes_where id passes (Invoke other linked code parameter) = is_invoke_id id other && passes code
+invokes_where id passes _ = false
 
 -- A linked Invoke with this ID.
 abbrev pub invokes_linked : ℤ → Component → Bool
@@ -39,7 +39,7 @@ has_class table class code = is_class class (class_of table code)
 
 -- The number of Invokes with this ID and of this class.
 abbrev pub count_class : Table → ℤ → ℕ → List Component → ℕ
-count_class table id class components = count (invokes_so id (has_class table class)) components
+count_class table id class components = count (invokes_where id (has_class table class)) components
 
 -- The number of Invokes with this ID whose class allows a Return Result (if `of_result`) or else a Return Error.
 abbrev pub count_suited : Table → Bool → ℤ → List Component → ℕ
@@ -49,7 +49,7 @@ count_suited table of_result id components =
 -- The number of Invokes with this ID whose operation does not expire and passes a test.
 abbrev pub count_lasting : Table → ℤ → (Code → Bool) → List Component → ℕ
 count_lasting table id passes components =
-    count (invokes_so id (λ code. not (expires_of table code) && passes code)) components
+    count (invokes_where id (λ code. not (expires_of table code) && passes code)) components
 
 -- ---- answers
 

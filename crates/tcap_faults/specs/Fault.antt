@@ -16,16 +16,16 @@ use Rattle.tcap_model.specs.Entries.{item_of}
 use Rattle.tcap_refute.specs.declared.kind.Kind.{Kind}
 use Rattle.tcap_refute.specs.declared.kind.Kind.TheVariants as kinds
 use Rattle.tcap_refute.specs.declared.kind.Refutation.{Refutation}
-use Rattle.tcap_refute.specs.EarlierMessages.{asked, is_a, sent_by, since_quiet}
+use Rattle.tcap_refute.specs.EarlierMessages.{peer_sent_from, is_a, sent_by, since_quiet}
 use Rattle.tcap_refute.specs.FirstKinds.{first_kinds, is_of_first_kind}
 use Rattle.tcap_refute.specs.Kind.{kind_of_reason, refutation_at}
 use Rattle.tcap_faults.specs.ClosedHalves.{all_go_to_open, is_surely_open}
 use Rattle.tcap_faults.specs.Components.{has_component, invokes_again, is_linked}
-use Rattle.tcap_faults.specs.SentToId.{is_abort_with, told}
+use Rattle.tcap_faults.specs.SentToId.{is_abort_with, outgoing}
 use Rattle.tcap_faults.specs.Counts.{count, is_nothing}
 use Rattle.tcap_faults.specs.ComponentKinds.{answers_again, invokes_busy, links_badly, rejects_wrongly}
 use Rattle.tcap_faults.specs.HalfKinds.{is_accepted, is_wrong_dialogue, is_wrong_half}
-use Rattle.tcap_faults.specs.HalfByPeerId.{HalfOf, half_of}
+use Rattle.tcap_faults.specs.HalfByPeerId.{HalfMessages, half_of}
 use Rattle.tcap_faults.specs.TangledIds.{goes_over_tangled}
 use Rattle.tcap_faults.specs.UsedAgain.{has_used_again}
 
@@ -33,19 +33,19 @@ use Rattle.tcap_faults.specs.UsedAgain.{has_used_again}
 
 -- The number of Continues from this ID that the end surely received and did not answer with cause 1. It is 1 if the
 -- end sent something to the ID and its half is not accepted, else 0.
-abbrev pub count_received : Side → List ℕ → List Item → HalfOf → ℕ
-count_received side id items h = cond (is_nothing (told side id items) || is_accepted h.how) 0 1
+abbrev pub count_received : Side → List ℕ → List Item → HalfMessages → ℕ
+count_received side id items h = cond (is_nothing (outgoing side id items) || is_accepted h.origin) 0 1
 
 -- Whether an Abort with this cause is a wrong reply. Cause 1: the Aborts with cause 1, this one included, and the
 -- received Continues are more than the Continues from the ID; or all these Continues go to halves that are surely
 -- open. Cause 4: the half is not accepted, or the end sent something to the ID before.
-abbrev pub is_wrong_reply : Table → Side → List ℕ → List Item → HalfOf → ℕ → Bool
+abbrev pub is_wrong_reply : Table → Side → List ℕ → List Item → HalfMessages → ℕ → Bool
 is_wrong_reply table side id items h cause =
     (cause == 1
-    && (nat_lt (count (is_a forms.Continue) (asked side id items))
+    && (nat_lt (count (is_a forms.Continue) (peer_sent_from side id items))
     (count (is_abort_with 1 id) (sent_by side items) + 1 + count_received side id items h)
-    || all_go_to_open table side items (asked side id items)))
-    || (cause == 4 && (not (is_accepted h.how) || not (is_nothing (told side id items))))
+    || all_go_to_open table side items (peer_sent_from side id items)))
+    || (cause == 4 && (not (is_accepted h.origin) || not (is_nothing (outgoing side id items))))
 
 -- ---- F15: a half that is open at a quiet mark (this profile's choice)
 
@@ -65,23 +65,23 @@ is_open_at_mark table side items = list_any (is_left_open table side items) (sen
 -- ---- all kinds of a message
 
 -- F8 to F13, for a message to this ID that is no Abort of the provider. F9 to F13 hold only if F8 does not.
-abbrev pub is_of_half_kind : Table → Side → List ℕ → List Item → Message → HalfOf → Kind → Bool
+abbrev pub is_of_half_kind : Table → Side → List ℕ → List Item → Message → HalfMessages → Kind → Bool
 is_of_half_kind table side id items m h kinds.WrongHalf = is_wrong_half side items m h
 is_of_half_kind table side id items m h kinds.WrongDialogue =
     not (is_wrong_half side items m h) && is_wrong_dialogue side items id m h
 is_of_half_kind table side id items m h kinds.InvokeIdBusy =
     not (is_wrong_half side items m h)
-    && has_component (invokes_busy table h (h.told ++ components_in m)) [] h.told (components_in m)
+    && has_component (invokes_busy table h (h.outgoing ++ components_in m)) [] h.outgoing (components_in m)
 is_of_half_kind table side id items m h kinds.BadLink =
-    not (is_wrong_half side items m h) && has_component (links_badly table h) [] h.told (components_in m)
+    not (is_wrong_half side items m h) && has_component (links_badly table h) [] h.outgoing (components_in m)
 is_of_half_kind table side id items m h kinds.AnsweredAlready =
-    not (is_wrong_half side items m h) && has_component (answers_again table h) [] h.told (components_in m)
+    not (is_wrong_half side items m h) && has_component (answers_again table h) [] h.outgoing (components_in m)
 is_of_half_kind table side id items m h kinds.RejectNotAllowed =
-    not (is_wrong_half side items m h) && has_component (rejects_wrongly table h) [] h.told (components_in m)
+    not (is_wrong_half side items m h) && has_component (rejects_wrongly table h) [] h.outgoing (components_in m)
 is_of_half_kind table side id items m h kind = false
 
 -- F14, for an Abort of the provider with this cause.
-abbrev pub is_of_reply_kind : Table → Side → List ℕ → List Item → HalfOf → ℕ → Kind → Bool
+abbrev pub is_of_reply_kind : Table → Side → List ℕ → List Item → HalfMessages → ℕ → Kind → Bool
 is_of_reply_kind table side id items h cause kinds.WrongReply = is_wrong_reply table side id items h cause
 is_of_reply_kind table side id items h cause kind = false
 

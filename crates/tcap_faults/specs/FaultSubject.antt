@@ -16,34 +16,37 @@ use Rattle.tcap_refute.specs.declared.kind.Kind.TheVariants as kinds
 use Rattle.tcap_refute.specs.declared.kind.Refutation.{Refutation}
 use Rattle.tcap_refute.specs.EarlierMessages.{since_quiet}
 use Rattle.tcap_faults.specs.Components.{invokes_again, is_linked}
-use Rattle.tcap_refute.specs.FirstComponent.{first_component, first_so}
-use Rattle.tcap_faults.specs.declared.dialogue.half_origin.How.TheVariants.{Nowhere}
+use Rattle.tcap_refute.specs.FirstComponent.{first_component, first_where}
+use Rattle.tcap_faults.specs.declared.dialogue.half_origin.HalfOrigin.TheVariants.{Nowhere}
 use Rattle.tcap_faults.specs.declared.verdict.fault_subject.Subject.{Subject}
 use Rattle.tcap_faults.specs.ComponentKinds.{answers_again, invokes_busy, links_badly, rejects_wrongly}
-use Rattle.tcap_faults.specs.HalfByPeerId.{HalfOf, half_of}
+use Rattle.tcap_faults.specs.HalfByPeerId.{HalfMessages, half_of}
 
 -- ---- the component
 
 -- The number of the first component that passes a test, counted from `number`. The test gets the components before it
 -- in the message, and all that were sent before it.
-abbrev pub component_so : (List Component → List Component → Component → Bool) → ℕ → List Component → List Component
+abbrev pub first_component_where : (List Component → List Component → Component → Bool) → ℕ → List Component
+    → List Component
     → List Component → Option ℕ
-component_so is_so number own before [] = None
-component_so is_so number own before (c ∷ more) =
-    cond (is_so own before c) (Some number) (component_so is_so (number + 1) (own ++ c ∷ []) (before ++ c ∷ []) more)
+first_component_where is_so number own before [] = None
+first_component_where is_so number own before (c ∷ more) =
+    cond (is_so own before c) (Some number)
+    (first_component_where is_so (number + 1) (own ++ c ∷ []) (before ++ c ∷ []) more)
 
 -- The component that gives a message over a half this kind.
-abbrev pub half_component : Table → HalfOf → List Component → Kind → Option ℕ
-half_component table h cs kinds.InvokeIdBusy = component_so (invokes_busy table h (h.told ++ cs)) 0 [] h.told cs
-half_component table h cs kinds.BadLink = component_so (links_badly table h) 0 [] h.told cs
-half_component table h cs kinds.AnsweredAlready = component_so (answers_again table h) 0 [] h.told cs
-half_component table h cs kinds.RejectNotAllowed = component_so (rejects_wrongly table h) 0 [] h.told cs
+abbrev pub half_component : Table → HalfMessages → List Component → Kind → Option ℕ
+half_component table h cs kinds.InvokeIdBusy =
+    first_component_where (invokes_busy table h (h.outgoing ++ cs)) 0 [] h.outgoing cs
+half_component table h cs kinds.BadLink = first_component_where (links_badly table h) 0 [] h.outgoing cs
+half_component table h cs kinds.AnsweredAlready = first_component_where (answers_again table h) 0 [] h.outgoing cs
+half_component table h cs kinds.RejectNotAllowed = first_component_where (rejects_wrongly table h) 0 [] h.outgoing cs
 half_component table h cs kind = None
 
 -- The component that gives a message without destination ID this kind.
 abbrev pub alone_component : List Component → Kind → Option ℕ
-alone_component cs kinds.InvokeIdBusy = component_so invokes_again 0 [] [] cs
-alone_component cs kinds.BadLink = first_so is_linked 0 cs
+alone_component cs kinds.InvokeIdBusy = first_component_where invokes_again 0 [] [] cs
+alone_component cs kinds.BadLink = first_where is_linked 0 cs
 alone_component cs kind = None
 
 -- The component that gives a message this kind: F5, F6, or one of F10 to F13. `of_one` is whether F5 was asked of one
@@ -60,16 +63,16 @@ component_of of_one table side items m kind =
 
 -- The subject of an entry that is no message.
 abbrev pub no_subject : Subject
-no_subject = record { how = Nowhere; own = None; component = None }
+no_subject = record { origin = Nowhere; own = None; component = None }
 
 -- The subject of a message after these items since the last quiet mark.
 abbrev pub subject : Bool → Table → Side → List Item → Message → Kind → Subject
 subject of_one table side items m kind = by (dtid_in m)
   where
     by : Option (List ℕ) → Subject
-    by None = record { how = Nowhere; own = None; component = component_of of_one table side items m kind }
+    by None = record { origin = Nowhere; own = None; component = component_of of_one table side items m kind }
     by (Some id) = record {
-      how = (half_of side items id).how;
+      origin = (half_of side items id).origin;
       own = (half_of side items id).own;
       component = component_of of_one table side items m kind;
     }

@@ -16,13 +16,13 @@ use Rattle.tcap_model.specs.World.{Item}
 use Rattle.tcap_model.specs.SinceMark.{ended_by, is_begin_with_request}
 use Rattle.tcap_refute.specs.EarlierMessages.{components_of, is_a, sent_by}
 use Rattle.tcap_refute.specs.Facts.{FromFact, shows_from}
-use Rattle.tcap_refute.specs.KeptFacts.{tells_from}
+use Rattle.tcap_refute.specs.KeptFacts.{from_fact_noted}
 use Rattle.tcap_faults.specs.ClosedHalves.{shows_closed}
 use Rattle.tcap_faults.specs.Counts.{count, is_nothing}
-use Rattle.tcap_faults.specs.SentToId.{goes_on_to, has_ended, has_used, is_cause, one_passes}
+use Rattle.tcap_faults.specs.SentToId.{is_continue_to, has_ended, has_used, is_cause, one_passes}
 use Rattle.tcap_faults.specs.declared.transaction.history.Facts.{Facts}
 use Rattle.tcap_faults.specs.declared.transaction.history.SideFacts.{SideFacts}
-use Rattle.tcap_faults.specs.declared.transaction.sent_from_id.Came.{Came}
+use Rattle.tcap_faults.specs.declared.transaction.sent_from_id.ContinueTallies.{ContinueTallies}
 use Rattle.tcap_faults.specs.declared.transaction.sent_from_id.FirstBegin.{FirstBegin}
 use Rattle.tcap_faults.specs.declared.transaction.sent_from_id.SentFrom.{SentFrom}
 use Rattle.tcap_faults.specs.declared.transaction.sent_to_id.SentTo.{SentTo}
@@ -63,13 +63,13 @@ before_response [] = []
 before_response (m ∷ ms) = cond (responds m) [] (m ∷ before_response ms)
 
 -- `kept` summarizes these Continues.
-pub record IsCame (table : Table) (ms : List Message) (kept : Came) : Type 0 where
+pub record IsContinueTallies (table : Table) (ms : List Message) (kept : ContinueTallies) : Type 0 where
   pub answered : kept.answered ≡ list_any responds ms
   pub sooner : IsTally table (components_of (before_response ms)) kept.sooner
   pub since : IsTally table (components_of (from_first responds ms)) kept.since
 
-abbrev pub IsCameAt : Table → List Message → Option Came → Type 0
-IsCameAt table ms kept = IsAt (IsCame table) ms kept
+abbrev pub IsContinueTalliesAt : Table → List Message → Option ContinueTallies → Type 0
+IsContinueTalliesAt table ms kept = IsAt (IsContinueTallies table) ms kept
 
 -- ---- what was sent from an ID
 
@@ -86,12 +86,13 @@ pub record IsFrom (table : Table) (ms : List Message) (kept : SentFrom) : Type 0
   pub twice : kept.begun_twice ≡ nat_le 2 (count (is_a forms.Begin) ms)
   pub continues : length ms ≤ 2 ^ 126 → kept.continues ≡ count (is_a forms.Continue) ms
   pub to : AreIds (dtids_of ms) kept.to
-  pub came : (own : List ℕ) → IsCameAt table (filter (goes_on_to own) ms) (lookup (is_at (octets_cmp own)) kept.came.entries)
+  pub came : (own : List ℕ) → IsContinueTalliesAt table (filter (is_continue_to own) ms)
+      (lookup (is_at (octets_cmp own)) kept.came.entries)
 
 -- `kept` summarizes these messages from one ID, with the notes for F2 to F7.
 pub record IsFromWhole (table : Table) (ms : List Message) (kept : SentFrom) : Type 0 where
   pub from : IsFrom table ms kept
-  pub first : (fact : FromFact) → tells_from fact kept.first ≡ list_any (shows_from table fact) ms
+  pub first : (fact : FromFact) → from_fact_noted fact kept.first ≡ list_any (shows_from table fact) ms
 
 abbrev pub IsFromAt : Table → List Message → Option SentFrom → Type 0
 IsFromAt table ms kept = IsAt (IsFromWhole table) ms kept
@@ -107,8 +108,8 @@ abbrev pub ends : Message → Bool
 ends m = is_some (ended_by m)
 
 -- An End or an Abort.
-abbrev pub silences : Message → Bool
-silences m = is_a forms.End m || is_a forms.Abort m
+abbrev pub is_end_or_abort : Message → Bool
+is_end_or_abort m = is_a forms.End m || is_a forms.Abort m
 
 -- `kept` summarizes these messages to one ID.
 pub record IsTo (table : Table) (ms : List Message) (kept : SentTo) : Type 0 where
@@ -117,7 +118,7 @@ pub record IsTo (table : Table) (ms : List Message) (kept : SentTo) : Type 0 whe
   pub refused : kept.refused ≡ list_any (λ m. is_cause 4 (cause_in m)) ms
   pub unknown : length ms ≤ 2 ^ 126 → kept.unknown ≡ count (λ m. is_cause 1 (cause_in m)) ms
   pub ended : kept.ended ≡ list_any ends ms
-  pub silenced : kept.silenced ≡ list_any silences ms
+  pub silenced : kept.silenced ≡ list_any is_end_or_abort ms
   pub components : IsTally table (components_of (of_user ms)) kept.components
 
 abbrev pub IsToAt : Table → List Message → Option SentTo → Type 0

@@ -6,11 +6,11 @@ use Rattle.tcap_msg.specs.declared.message.Message.{Message}
 use Rattle.tcap_end.specs.End.{is_id}
 use Rattle.tcap_end.specs.Table.{Table, octets_cmp}
 use Rattle.tcap_refute.specs.EarlierMessages.{components_of}
-use Rattle.tcap_faults.specs.declared.transaction.sent_from_id.Came.{Came}
+use Rattle.tcap_faults.specs.declared.transaction.sent_from_id.ContinueTallies.{ContinueTallies}
 use Rattle.tcap_faults.specs.declared.transaction.sent_from_id.SentFrom.{SentFrom}
 use Rattle.tcap_faults.specs.declared.transaction.sent_to_id.SentTo.{SentTo}
 use Rattle.tcap_faults.specs.IdList.{AreIds}
-use Rattle.tcap_faults.specs.History.{IsAt, IsCame, IsFromWhole, IsTo, of_user, otids_of}
+use Rattle.tcap_faults.specs.History.{IsAt, IsContinueTallies, IsFromWhole, IsTo, of_user, otids_of}
 use Rattle.tcap_faults.specs.InvokeCounts.{more_if}
 use Rattle.tcap_faults.specs.TallyMeaning.{IsTally}
 
@@ -24,8 +24,8 @@ with_more id_in m lists id = lists id ++ cond (is_id id (id_in m)) (m ∷ []) []
 abbrev pub AreAt : {X : Type 0} → (List Message → X → Type 0) → (List ℕ → List Message) → BTreeMap (List ℕ) X → Type 0
 AreAt of lists kept = (id : List ℕ) → IsAt of (lists id) (lookup (is_at (octets_cmp id)) kept.entries)
 
-abbrev pub AreCame : Table → (List ℕ → List Message) → BTreeMap (List ℕ) Came → Type 0
-AreCame table lists kept = AreAt (IsCame table) lists kept
+abbrev pub AreContinueTallies : Table → (List ℕ → List Message) → BTreeMap (List ℕ) ContinueTallies → Type 0
+AreContinueTallies table lists kept = AreAt (IsContinueTallies table) lists kept
 
 abbrev pub AreFrom : Table → (List ℕ → List Message) → BTreeMap (List ℕ) SentFrom → Type 0
 AreFrom table lists kept = AreAt (IsFromWhole table) lists kept
@@ -46,7 +46,7 @@ pub record IsCaused (cause : ℕ) (old new : SentTo) : Type 0 where
   pub components : new.components ≡ old.components
 
 -- `new` is `old` with one more message that is no Abort of the provider, but without whether it ends anything.
-pub record IsTold (table : Table) (ms : List Message) (m : Message) (old new : SentTo) : Type 0 where
+pub record IsOutgoingAdded (table : Table) (ms : List Message) (m : Message) (old new : SentTo) : Type 0 where
   pub spoke : new.spoke ≡ true
   pub from : AreIds (otids_of (ms ++ m ∷ [])) new.from
   pub components : IsTally table (components_of (of_user (ms ++ m ∷ []))) new.components

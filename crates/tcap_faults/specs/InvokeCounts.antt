@@ -8,7 +8,7 @@ use Rattle.tcap_parts.specs.declared.component.Component.TheVariants.{Invoke, Re
 use Rattle.tcap_end.specs.Component.{is_code}
 use Rattle.tcap_end.specs.Table.{Table, expires_of}
 use Rattle.tcap_refute.specs.EarlierMessages.{is_invoke_id}
-use Rattle.tcap_faults.specs.Counts.{any_problem, count, has_class, invokes_linked, invokes_so, is_error, is_last_result, is_not_last, is_result, is_result_of, rejects_error, rejects_invoke, rejects_result}
+use Rattle.tcap_faults.specs.Counts.{any_problem, count, has_class, invokes_linked, invokes_where, is_error, is_last_result, is_not_last, is_result, is_result_of, rejects_error, rejects_invoke, rejects_result}
 use Rattle.tcap_faults.specs.Components.{is_of_link, is_problem}
 use Rattle.tcap_faults.specs.ComponentKinds.{rejects_generally}
 use Rattle.tcap_faults.specs.declared.component.component_sort.Class.{Class}
@@ -45,8 +45,8 @@ not_expiring table class code = not (expires_of table code) && is_of_class table
 
 -- Whether a component has this invoke ID and is of this sort.
 abbrev pub is_sort : Table → ℤ → Sort → Component → Bool
-is_sort table id (sorts.Invokes class) = invokes_so id (is_of_class table class)
-is_sort table id (sorts.Lasting class) = invokes_so id (not_expiring table class)
+is_sort table id (sorts.Invokes class) = invokes_where id (is_of_class table class)
+is_sort table id (sorts.Lasting class) = invokes_where id (not_expiring table class)
 is_sort table id sorts.Linked = invokes_linked id
 is_sort table id sorts.Results = is_result id
 is_sort table id sorts.LastResults = is_last_result id
@@ -65,9 +65,9 @@ invokes_link id passes (Invoke other (Some linked) code parameter) = is_invoke_i
 invokes_link id passes _ = false
 
 -- A Return Result with this ID, last or not, that names an operation that passes a test.
-abbrev pub results_so : ℤ → (Code → Bool) → Component → Bool
-results_so id passes (ReturnResult last other (Some body)) = is_invoke_id id other && passes body.code
-results_so id passes _ = false
+abbrev pub results_where : ℤ → (Code → Bool) → Component → Bool
+results_where id passes (ReturnResult last other (Some body)) = is_invoke_id id other && passes body.code
+results_where id passes _ = false
 
 -- ---- components that are counted
 
@@ -90,11 +90,11 @@ pub record Tallied : Type 0 where
 abbrev pub tallied : Table → List Component → Tallied
 tallied table cs = record {
   count = λ id sort. count (is_sort table id sort) cs;
-  invokes_of = λ id code. count (invokes_so id (is_code code)) cs;
+  invokes_of = λ id code. count (invokes_where id (is_code code)) cs;
   results_of = λ id code. count (is_result_of id code) cs;
-  has_operation = λ id passes. list_any (invokes_so id passes) cs;
+  has_operation = λ id passes. list_any (invokes_where id passes) cs;
   has_link = λ id passes. list_any (invokes_link id passes) cs;
-  has_result = λ id passes. list_any (results_so id passes) cs;
+  has_result = λ id passes. list_any (results_where id passes) cs;
 }
 
 -- The counts of no components.

@@ -12,7 +12,7 @@ use Rattle.tcap_faults.specs.declared.component.component_sort.Class.{Class}
 use Rattle.tcap_faults.specs.declared.component.component_sort.Class.TheVariants as classes
 use Rattle.tcap_faults.specs.declared.component.component_sort.Sort.{Sort}
 use Rattle.tcap_faults.specs.declared.component.component_sort.Sort.TheVariants as sorts
-use Rattle.tcap_faults.specs.declared.component.preceding_components.Before.{Before}
+use Rattle.tcap_faults.specs.declared.component.preceding_components.PrecedingComponents.{PrecedingComponents}
 use Rattle.tcap_faults.specs.declared.dialogue.half.Half.{Half}
 use Rattle.tcap_faults.specs.declared.component.tally.Tally.{Tally}
 use Rattle.tcap_faults.specs.InvokeCounts.{Tallied, both_tallied, sum}
@@ -22,28 +22,28 @@ use Rattle.tcap_faults.specs.LinkProblems.{is_of_none}
 -- The counts before a component.
 pub record Counted : Type 0 where
   -- The components that the half heard.
-  pub heard : Tallied
+  pub incoming : Tallied
   -- The components that contain its own invocations.
   pub invoked : Tallied
   -- The components that it sent, and those of this message before this component.
-  pub told : Tallied
+  pub outgoing : Tallied
   -- The components of this message before this component.
   pub own : Tallied
   -- The components that it sent, and all Rejects of this message.
-  pub all_told : Tallied
+  pub all_outgoing : Tallied
 
 -- The counts from a half, a tally of the message's components before this one, and a tally of its Rejects.
 abbrev pub counted_by : Half → Tally → Tally → Counted
 counted_by half own rejects = record {
-  heard = tallies_of (map (λ b. b.now) half.heard.items);
+  incoming = tallies_of (map (λ b. b.now) half.incoming.items);
   invoked = tallies_of (map (λ b. b.now) half.invoked.items);
-  told = both_tallied (tallies_of (map (λ b. b.now) half.told.items)) (tally_of own);
+  outgoing = both_tallied (tallies_of (map (λ b. b.now) half.outgoing.items)) (tally_of own);
   own = tally_of own;
-  all_told = both_tallied (tallies_of (map (λ b. b.now) half.told.items)) (tally_of rejects);
+  all_outgoing = both_tallied (tallies_of (map (λ b. b.now) half.outgoing.items)) (tally_of rejects);
 }
 
 -- The counts before a component, from what is kept.
-abbrev pub counted : Before → Counted
+abbrev pub counted : PrecedingComponents → Counted
 counted before = counted_by before.half.now before.own.now before.rejects.now
 
 -- The number of Invokes with this ID that are of this class, or of any.
@@ -54,9 +54,10 @@ invokes_in of id class = of.count id (sorts.Invokes class)
 
 -- The number of heard components that can have ended an invocation.
 abbrev pub ends_by : Tallied → ℤ → ℕ
-ends_by heard id =
-    sum (sum (sum (heard.count id sorts.LastResults) (heard.count id sorts.Errors)) (heard.count id sorts.InvokeRejects))
-    (heard.count id sorts.GeneralRejects)
+ends_by incoming id =
+    sum (sum (sum (incoming.count id sorts.LastResults) (incoming.count id sorts.Errors))
+    (incoming.count id sorts.InvokeRejects))
+    (incoming.count id sorts.GeneralRejects)
 
 -- Whether some lasting invocations are left. Those of class 1 and 3 can have ended by `ends` or by own Rejects with a
 -- result or a general problem. Those of any class can have ended by `ends` or by answers that are not the last.
@@ -68,9 +69,9 @@ more_last_by all of_1 of_3 ends results generals not_lasts =
 abbrev pub is_busy_by : Counted → ℤ → Bool
 is_busy_by by id =
     not (lasting classes.Any == 0)
-    && more_last_by (lasting classes.Any) (lasting classes.One) (lasting classes.Three) (ends_by by.heard id)
-    (by.all_told.count id sorts.ResultRejects) (by.all_told.count id sorts.GeneralRejects)
-    (by.heard.count id sorts.NotLasts)
+    && more_last_by (lasting classes.Any) (lasting classes.One) (lasting classes.Three) (ends_by by.incoming id)
+    (by.all_outgoing.count id sorts.ResultRejects) (by.all_outgoing.count id sorts.GeneralRejects)
+    (by.incoming.count id sorts.NotLasts)
   where
     lasting : Class → ℕ
     lasting class = by.invoked.count id (sorts.Lasting class)
@@ -85,15 +86,16 @@ invokes_busy_by by _ = false
 
 -- The number of invocations of an ID that were taken.
 abbrev pub taken_by : Tallied → ℤ → ℕ
-taken_by told id =
-    sum (sum (told.count id sorts.LastResults) (told.count id sorts.Errors)) (told.count id sorts.InvokeRejects)
+taken_by outgoing id =
+    sum (sum (outgoing.count id sorts.LastResults) (outgoing.count id sorts.Errors))
+    (outgoing.count id sorts.InvokeRejects)
 
 -- Whether at least as many invocations of the linked ID were taken as were heard, or none that was heard has an
 -- operation that lists this one.
 abbrev pub is_badly_linked_by : Table → Counted → ℤ → Code → Bool
 is_badly_linked_by table by id code =
-    nat_le (invokes_in by.heard id classes.Any) (taken_by by.told id)
-    || not (by.heard.has_operation id (λ to. links table to code))
+    nat_le (invokes_in by.incoming id classes.Any) (taken_by by.outgoing id)
+    || not (by.incoming.has_operation id (λ to. links table to code))
 
 -- F11: An Invoke is linked to an ID that does not allow it.
 abbrev pub links_badly_by : Table → Counted → Component → Bool
@@ -104,32 +106,32 @@ links_badly_by table by _ = false
 
 -- Whether this many Return Results, Return Errors and Rejects answer more than the heard Invokes of the ID allow.
 abbrev pub more_answered_by : Tallied → ℤ → ℕ → ℕ → ℕ → Bool
-more_answered_by heard id results errors rejects =
+more_answered_by incoming id results errors rejects =
     nat_lt (sum of_1 of_3) results || nat_lt (sum of_1 of_2) errors
     || nat_lt (sum (sum of_1 of_2) of_3) (sum results errors)
-    || nat_lt (invokes_in heard id classes.Any) (sum (sum results errors) rejects)
+    || nat_lt (invokes_in incoming id classes.Any) (sum (sum results errors) rejects)
   where
     of_1 : ℕ
-    of_1 = invokes_in heard id classes.One
+    of_1 = invokes_in incoming id classes.One
 
     of_2 : ℕ
-    of_2 = invokes_in heard id classes.Two
+    of_2 = invokes_in incoming id classes.Two
 
     of_3 : ℕ
-    of_3 = invokes_in heard id classes.Three
+    of_3 = invokes_in incoming id classes.Three
 
 -- Whether more is answered than was heard, with this many Return Results, Return Errors and Rejects besides those that
 -- were sent.
 abbrev pub is_overspent_by : Counted → ℤ → ℕ → ℕ → ℕ → Bool
 is_overspent_by by id results errors rejects =
-    more_answered_by by.heard id (sum (by.told.count id sorts.LastResults) results)
-    (sum (by.told.count id sorts.Errors) errors) (sum (by.told.count id sorts.InvokeRejects) rejects)
+    more_answered_by by.incoming id (sum (by.outgoing.count id sorts.LastResults) results)
+    (sum (by.outgoing.count id sorts.Errors) errors) (sum (by.outgoing.count id sorts.InvokeRejects) rejects)
 
 -- Whether at least as many Return Results Last that name the operation were sent as Invokes of it were heard.
 abbrev pub is_operation_overspent_by : Counted → ℤ → Option ResultBody → Bool
 is_operation_overspent_by by id None = false
 is_operation_overspent_by by id (Some body) =
-    nat_le (by.heard.invokes_of id body.code) (by.told.results_of id body.code)
+    nat_le (by.incoming.invokes_of id body.code) (by.outgoing.results_of id body.code)
 
 -- F12: With this component, more is answered than was heard.
 abbrev pub answers_again_by : Counted → Component → Bool
@@ -147,13 +149,16 @@ is_link_fine_by table by id problem =
     || (problem == 7 && not (is_linked_by (λ to code. not (lists_nothing table to) && not (links table to code))))
   where
     is_linked_by : (Code → Code → Bool) → Bool
-    is_linked_by passes = by.heard.has_link id (λ linked code. by.invoked.has_operation linked (λ to. passes to code))
+    is_linked_by passes =
+        by.incoming.has_link id (λ linked code. by.invoked.has_operation linked (λ to. passes to code))
 
 -- Whether a Reject of an Invoke, with this problem, is wrong.
 abbrev pub is_invoke_reject_wrong_by : Table → Counted → ℤ → ℕ → Bool
 is_invoke_reject_wrong_by table by id problem =
-    (problem == 0 && nat_le (invokes_in by.heard id classes.Any) (sum (by.told.count id sorts.DuplicateRejects) 1))
-    || (is_of_link problem && nat_lt (by.heard.count id sorts.Linked) (sum (by.told.count id sorts.LinkRejects) 1))
+    (problem == 0 && nat_le (invokes_in by.incoming id classes.Any)
+    (sum (by.outgoing.count id sorts.DuplicateRejects) 1))
+    || (is_of_link problem && nat_lt (by.incoming.count id sorts.Linked)
+    (sum (by.outgoing.count id sorts.LinkRejects) 1))
     || is_link_fine_by table by id problem
     || nat_lt 7 problem
 
@@ -177,8 +182,8 @@ suited_by false invoked id = sum (invokes_in invoked id classes.One) (invokes_in
 abbrev pub is_expected_by : Counted → Bool → ℤ → Bool
 is_expected_by by of_result id =
     (suited_by of_result by.invoked id == invokes_in by.invoked id classes.Any)
-    && nat_lt (sum (by.heard.count id sorts.Results) (by.heard.count id sorts.Errors)) 2
-    && not (by.heard.has_result id (is_of_none by.invoked id))
+    && nat_lt (sum (by.incoming.count id sorts.Results) (by.incoming.count id sorts.Errors)) 2
+    && not (by.incoming.has_result id (is_of_none by.invoked id))
 
 -- Whether the own invocations of the ID rule out this problem for each Return Result (if `of_result`), or Return Error.
 abbrev pub is_known_wrong_by : Counted → Bool → ℤ → ℕ → Bool
@@ -189,7 +194,7 @@ is_known_wrong_by by of_result id problem =
 -- Whether a Reject of an answer, with this problem, is wrong.
 abbrev pub is_answer_reject_wrong_by : Counted → Bool → ℤ → ℕ → Bool
 is_answer_reject_wrong_by by of_result id problem =
-    nat_lt (by.heard.count id (answers_of of_result)) (sum (by.told.count id (rejects_of of_result)) 1)
+    nat_lt (by.incoming.count id (answers_of of_result)) (sum (by.outgoing.count id (rejects_of of_result)) 1)
     || nat_lt (cond of_result 2 4) problem
     || is_known_wrong_by by of_result id problem
 

@@ -14,9 +14,9 @@ pub mod InvokeCounts
 pub mod TallyMeaning
 pub mod CountUpdate
 pub mod LinkProblems
-pub mod KeptHalf
+pub mod KeyedHalf
 pub mod KindsByCounts
-pub mod Faults
+pub mod ComponentFaults
 pub mod WorkedFaults
 pub mod IdList
 pub mod History

@@ -13,31 +13,31 @@ use Rattle.tcap_model.specs.World.{Item, Sent, is_side}
 use Rattle.tcap_refute.specs.EarlierMessages.{is_a}
 use Rattle.tcap_faults.specs.declared.transaction.history.Facts.{Facts}
 use Rattle.tcap_faults.specs.Replay.{items_up_to}
-use Rattle.tcap_faults.specs.SearchState.{AreCounted, IsKept}
+use Rattle.tcap_faults.specs.SearchState.{AreCounted, IsHalfKey}
 
 -- Whether an item matters for the half of this end with this ID.
-abbrev pub matters : Side → List ℕ → Item → Bool
-matters side id (Sent sender m) =
+abbrev pub matters_for_half : Side → List ℕ → Item → Bool
+matters_for_half side id (Sent sender m) =
     cond (is_side sender side) (is_a forms.Begin m || is_id id (dtid_in m)) (is_id id (otid_in m))
-matters side id Item.Quiet = true
+matters_for_half side id Item.Quiet = true
 
 -- The items that matter for the half with this ID; none if there is no ID.
-abbrev pub those_for : Side → Option (List ℕ) → List Item → List Item
-those_for side None items = []
-those_for side (Some id) items = filter (matters side id) items
+abbrev pub items_for_half : Side → Option (List ℕ) → List Item → List Item
+items_for_half side None items = []
+items_for_half side (Some id) items = filter (matters_for_half side id) items
 
 -- The items that matter for the half with the destination ID of an entry's message.
-abbrev pub those_for_entry : Side → Result Item Reason → List Item → List Item
-those_for_entry side (Ok (Sent sender m)) items = those_for side (dtid_in m) items
-those_for_entry side (Ok Item.Quiet) items = []
-those_for_entry side (Err reason) items = []
+abbrev pub items_for_entry : Side → Result Item Reason → List Item → List Item
+items_for_entry side (Ok (Sent sender m)) items = items_for_half side (dtid_in m) items
+items_for_entry side (Ok Item.Quiet) items = []
+items_for_entry side (Err reason) items = []
 
 -- `kept` is the history of these items, and they are at most `number`.
 pub record IsNoted (table : Table) (items : List Item) (number : ℕ) (kept : Facts) : Type 0 where
-  pub are : IsKept table items kept
+  pub are : IsHalfKey table items kept
   pub counted : AreCounted items number
 
 -- `kept` is the history of those among the first `number` entries that matter for the half with this ID.
 abbrev pub IsNotedFor : Table → Side → List ℕ → List Entry → ℕ → Facts → Type 0
 IsNotedFor table side id entries number kept =
-    IsNoted table (filter (matters side id) (items_up_to entries number)) number kept
+    IsNoted table (filter (matters_for_half side id) (items_up_to entries number)) number kept

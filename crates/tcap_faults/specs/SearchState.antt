@@ -12,7 +12,7 @@ use Rattle.tcap_refute.specs.declared.kind.Kind.{Kind}
 use Rattle.tcap_refute.specs.declared.kind.Kind.TheVariants as kinds
 use Rattle.tcap_refute.specs.EarlierMessages.{since_quiet}
 use Rattle.tcap_faults.specs.declared.transaction.history.Facts.{Facts}
-use Rattle.tcap_faults.specs.declared.verdict.first_fault.Looking.{Looking}
+use Rattle.tcap_faults.specs.declared.verdict.first_fault.EndSearch.{EndSearch}
 use Rattle.tcap_faults.specs.declared.verdict.first_fault.SearchState.{SearchState}
 use Rattle.tcap_faults.specs.Fault.{bad_entry_of, blamed, blamed_behind, fault_since}
 use Rattle.tcap_faults.specs.History.{AreFacts}
@@ -26,8 +26,8 @@ kind_of_components busy linked answered rejected =
     (cond rejected (Some kinds.RejectNotAllowed) None)))
 
 -- `kept` is the history of these items since the last quiet mark.
-abbrev pub IsKept : Table → List Item → Facts → Type 0
-IsKept table items kept = AreFacts table (since_quiet items) kept
+abbrev pub IsHalfKey : Table → List Item → Facts → Type 0
+IsHalfKey table items kept = AreFacts table (since_quiet items) kept
 
 -- The number of components in these items.
 abbrev pub components_in_all : List Item → ℕ
@@ -48,43 +48,44 @@ pub record AreCounted (items : List Item) (number : ℕ) : Type 0 where
 -- ---- what was found for an end
 
 -- The search for an end before the first entry; it is over if the end is not asked for.
-abbrev pub looking_first : Bool → Looking
-looking_first is_asked = record { is_over = not is_asked; found = None }
+abbrev pub search_begun : Bool → EndSearch
+search_begun is_asked = record { is_over = not is_asked; found = None }
 
 -- The search after an entry with this kind, if it has one.
-abbrev pub looking_with : ℕ → Option Kind → Looking → Looking
-looking_with number None looking = looking
-looking_with number (Some kind) looking =
+abbrev pub search_ended : ℕ → Option Kind → EndSearch → EndSearch
+search_ended number None end_search = end_search
+search_ended number (Some kind) end_search =
     record { is_over = true; found = Some (record { entry = number; kind = kind }) }
 
 -- The search after an entry with this kind, unless it was over before.
-abbrev pub looking_on : ℕ → Option Kind → Looking → Looking
-looking_on number kind looking = cond looking.is_over looking (looking_with number kind looking)
+abbrev pub search_continued : ℕ → Option Kind → EndSearch → EndSearch
+search_continued number kind end_search = cond end_search.is_over end_search (search_ended number kind end_search)
 
 -- The search after an item with this number, which comes after these items.
-abbrev pub looking_behind : Table → List Item → ℕ → Item → Side → Looking → Looking
-looking_behind table items number item side looking =
-    looking_on number (fault_since table side (since_quiet items) item) looking
+abbrev pub search_after_item : Table → List Item → ℕ → Item → Side → EndSearch → EndSearch
+search_after_item table items number item side end_search =
+    search_continued number (fault_since table side (since_quiet items) item) end_search
 
 -- The search after an entry that is no item.
-abbrev pub looking_bad : ℕ → Option Side → Reason → Side → Looking → Looking
-looking_bad number sender reason side looking = looking_on number (bad_entry_of side sender reason) looking
+abbrev pub search_after_bad : ℕ → Option Side → Reason → Side → EndSearch → EndSearch
+search_after_bad number sender reason side end_search =
+    search_continued number (bad_entry_of side sender reason) end_search
 
 -- The state of the search for an end.
-abbrev pub looking_at : Side → SearchState → Looking
-looking_at A search = search.a
-looking_at B search = search.b
+abbrev pub search_of : Side → SearchState → EndSearch
+search_of A search = search.a
+search_of B search = search.b
 
 -- The search with this state for an end.
-abbrev pub looking_put : Side → Looking → SearchState → SearchState
-looking_put A looking search = record search { a = looking }
-looking_put B looking search = record search { b = looking }
+abbrev pub with_search : Side → EndSearch → SearchState → SearchState
+with_search A end_search search = record search { a = end_search }
+with_search B end_search search = record search { b = end_search }
 
 -- `new` is `old` after an item with this number: the item is kept, and judged for both ends.
 pub record IsTaken (table : Table) (items : List Item) (number : ℕ) (item : Item) (old new : SearchState) : Type 0 where
-  pub are : IsKept table (items ++ item ∷ []) new.kept
-  pub looking : (side : Side)
-      → looking_at side new ≡ looking_behind table items number item side (looking_at side old)
+  pub are : IsHalfKey table (items ++ item ∷ []) new.kept
+  pub end_search : (side : Side)
+      → search_of side new ≡ search_after_item table items number item side (search_of side old)
 
 -- `new` is `old` after an entry with this number. An item is kept and judged, and the search goes on if it is not
 -- over for both ends. An entry that is no item is judged, and the search stops.
@@ -95,15 +96,15 @@ Takes table items number entry more old new = by (item_of entry)
     by (Ok item) = IsTaken table items number item old new × (more ≡ (not new.a.is_over || not new.b.is_over))
     by (Err reason) =
         (more ≡ false)
-        × ((side : Side) → looking_at side new ≡ looking_bad number entry.side reason side (looking_at side old))
+        × ((side : Side) → search_of side new ≡ search_after_bad number entry.side reason side (search_of side old))
 
 -- What is known of an end after these items, the first `number` entries. If its search is over, the result is what is
 -- blamed on it. Else nothing was found yet, and the remaining entries decide.
-abbrev pub IsFound : Table → Side → List Entry → List Item → ℕ → Looking → Type 0
-IsFound table side entries items number looking = by looking.is_over
+abbrev pub IsFound : Table → Side → List Entry → List Item → ℕ → EndSearch → Type 0
+IsFound table side entries items number end_search = by end_search.is_over
   where
     by : Bool → Type 0
-    by true = looking.found ≡ blamed table side entries
-    by false = (looking.found ≡ None)
+    by true = end_search.found ≡ blamed table side entries
+    by false = (end_search.found ≡ None)
         × (blamed_behind table side items number (map (λ e. (e.side, item_of e)) (drop number entries))
         ≡ blamed table side entries)

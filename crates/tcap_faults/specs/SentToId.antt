@@ -18,16 +18,16 @@ one_passes passes seen (item ∷ items) = passes seen item || one_passes passes 
 -- ---- what an end sent
 
 -- A message to this ID that is no Abort of the provider.
-abbrev pub tells_to : List ℕ → Message → Bool
-tells_to id m = is_id id (dtid_in m) && is_none (cause_in m)
+abbrev pub is_outgoing_to : List ℕ → Message → Bool
+is_outgoing_to id m = is_id id (dtid_in m) && is_none (cause_in m)
 
 -- What an end sent to this ID, without the Aborts of its provider: `to d` in docs/KINDS.md.
-abbrev pub told : Side → List ℕ → List Item → List Message
-told side id items = filter (tells_to id) (sent_by side items)
+abbrev pub outgoing : Side → List ℕ → List Item → List Message
+outgoing side id items = filter (is_outgoing_to id) (sent_by side items)
 
 -- A Continue to this ID.
-abbrev pub goes_on_to : List ℕ → Message → Bool
-goes_on_to id m = is_a forms.Continue m && is_id id (dtid_in m)
+abbrev pub is_continue_to : List ℕ → Message → Bool
+is_continue_to id m = is_a forms.Continue m && is_id id (dtid_in m)
 
 -- Whether there is a cause, and it is this number.
 abbrev pub is_cause : ℕ → Option ℕ → Bool
@@ -45,16 +45,16 @@ was_refused side id items = list_any (is_abort_with 4 id) (sent_by side items)
 -- ---- its own IDs
 
 -- A Begin from this ID.
-abbrev pub begins_from : List ℕ → Message → Bool
-begins_from id m = is_a forms.Begin m && is_id id (otid_in m)
+abbrev pub is_begin_from : List ℕ → Message → Bool
+is_begin_from id m = is_a forms.Begin m && is_id id (otid_in m)
 
 -- A Continue from this ID.
-abbrev pub goes_on_from : List ℕ → Message → Bool
-goes_on_from id m = is_a forms.Continue m && is_id id (otid_in m)
+abbrev pub is_continue_from : List ℕ → Message → Bool
+is_continue_from id m = is_a forms.Continue m && is_id id (otid_in m)
 
 -- The first Begin that an end sent from this ID.
 abbrev pub begin_from : Side → List ℕ → List Item → Option Message
-begin_from side id items = find (begins_from id) (sent_by side items)
+begin_from side id items = find (is_begin_from id) (sent_by side items)
 
 -- Whether an end sent a Begin from this ID.
 abbrev pub began : Side → List ℕ → List Item → Bool

@@ -17,7 +17,7 @@ use Rattle.tcap_faults.specs.declared.component.component_sort.Sort.TheVariants 
 use Rattle.tcap_faults.specs.declared.component.code_counts.CodeCounts.{CodeCounts}
 use Rattle.tcap_faults.specs.declared.component.code_count_maps.ManyCodes.{ManyCodes}
 use Rattle.tcap_faults.specs.declared.component.class_counts.ByClass.{ByClass}
-use Rattle.tcap_faults.specs.declared.component.invoke_history.OfId.{OfId}
+use Rattle.tcap_faults.specs.declared.component.invoke_history.IdHistory.{IdHistory}
 use Rattle.tcap_faults.specs.declared.component.tally.Tally.{Tally}
 use Rattle.tcap_faults.specs.CountedCodes.{counted}
 use Rattle.tcap_faults.specs.InvokeCounts.{AreFew, Tallied, both_tallied, nothing_tallied, tallied}
@@ -62,7 +62,7 @@ count_of_class classes.Three kept = kept.three
 -- ---- for one invoke ID
 
 -- The number of components of a sort with this invoke ID.
-abbrev pub count_in : Sort → OfId → ℕ
+abbrev pub count_in : Sort → IdHistory → ℕ
 count_in (sorts.Invokes class) kept = count_of_class class kept.invokes
 count_in (sorts.Lasting class) kept = count_of_class class kept.lasting
 count_in sorts.Linked kept = kept.linked
@@ -82,25 +82,25 @@ abbrev pub links_at : (ℤ → Code → Bool) → ℤ × CodeCounts → Bool
 links_at passes (linked, kept) = codes_any (passes linked) kept
 
 -- Whether an Invoke's operation passes a test.
-abbrev pub invokes_in : (Code → Bool) → OfId → Bool
+abbrev pub invokes_in : (Code → Bool) → IdHistory → Bool
 invokes_in passes kept = codes_any passes kept.operations
 
 -- Whether a linked Invoke's linked ID passes a test with its operation.
-abbrev pub links_in : (ℤ → Code → Bool) → OfId → Bool
+abbrev pub links_in : (ℤ → Code → Bool) → IdHistory → Bool
 links_in passes kept = list_any (links_at passes) kept.by_link.entries
 
 -- Whether the operation that a Return Result names passes a test.
-abbrev pub answers_in : (Code → Bool) → OfId → Bool
+abbrev pub answers_in : (Code → Bool) → IdHistory → Bool
 answers_in passes kept = codes_any passes kept.answered
 
 -- ---- for all invoke IDs
 
 -- What is kept of this ID.
-abbrev pub kept_of : ℤ → Tally → Option OfId
+abbrev pub kept_of : ℤ → Tally → Option IdHistory
 kept_of id tally = option_map (λ kept. kept.value) (lookup (is_at (int_cmp id)) tally.ids.entries)
 
 -- A part of what is kept, or `nothing` if nothing is kept.
-abbrev pub of_kept : {A : Type 0} → A → (OfId → A) → Option OfId → A
+abbrev pub of_kept : {A : Type 0} → A → (IdHistory → A) → Option IdHistory → A
 of_kept nothing f None = nothing
 of_kept nothing f (Some kept) = f kept
 

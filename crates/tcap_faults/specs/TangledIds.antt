@@ -13,12 +13,12 @@ use Rattle.tcap_msg.specs.Parts.{dtid_in, otid_in}
 use Rattle.tcap_record.specs.declared.entry.End.{End as Side}
 use Rattle.tcap_record.specs.Ends.{other}
 use Rattle.tcap_model.specs.World.{Item, Sent, is_side}
-use Rattle.tcap_refute.specs.EarlierMessages.{asked, has_a, is_a, sent_by}
+use Rattle.tcap_refute.specs.EarlierMessages.{peer_sent_from, has_a, is_a, sent_by}
 use Rattle.tcap_faults.specs.declared.verdict.unblamed_reason.Tangle.{Tangle}
 use Rattle.tcap_faults.specs.declared.verdict.unblamed_reason.Tangle.TheVariants.{TwoIds, BegunTwice, BothBegan, Guessed}
 use Rattle.tcap_faults.specs.declared.verdict.unblamed_reason.TangledId.{TangledId}
 use Rattle.tcap_faults.specs.Counts.{count}
-use Rattle.tcap_faults.specs.SentToId.{began, goes_on_from, goes_on_to, has_used, one_passes}
+use Rattle.tcap_faults.specs.SentToId.{began, is_continue_from, is_continue_to, has_used, one_passes}
 
 -- ---- joined IDs
 
@@ -26,14 +26,14 @@ use Rattle.tcap_faults.specs.SentToId.{began, goes_on_from, goes_on_to, has_used
 -- sent one from them to the own ID, and the end used the own ID.
 abbrev pub peers_of : Side → List Item → List ℕ → List (List ℕ)
 peers_of side items own =
-    filter_map dtid_in (filter (goes_on_from own) (sent_by side items))
-    ++ cond (has_used side items own) (filter_map otid_in (filter (goes_on_to own) (sent_by (other side) items))) []
+    filter_map dtid_in (filter (is_continue_from own) (sent_by side items))
+    ++ cond (has_used side items own) (filter_map otid_in (filter (is_continue_to own) (sent_by (other side) items))) []
 
 -- The own IDs that are joined with an ID of the peer.
 abbrev pub owns_of : Side → List Item → List ℕ → List (List ℕ)
 owns_of side items id =
-    filter_map otid_in (filter (goes_on_to id) (sent_by side items))
-    ++ filter (has_used side items) (filter_map dtid_in (filter (goes_on_from id) (sent_by (other side) items)))
+    filter_map otid_in (filter (is_continue_to id) (sent_by side items))
+    ++ filter (has_used side items) (filter_map dtid_in (filter (is_continue_from id) (sent_by (other side) items)))
 
 -- Whether two of these IDs differ.
 abbrev pub two_differ : List (List ℕ) → Bool
@@ -58,7 +58,8 @@ goes_to_begun side items m = by (dtid_in m)
 -- guesses that ID.
 abbrev pub guesses : Side → List ℕ → List Item → Item → Bool
 guesses side id seen (Sent sender m) =
-    is_side (other side) sender && goes_on_from id m && has_a forms.Begin (asked side id seen) && by (dtid_in m)
+    is_side (other side) sender && is_continue_from id m && has_a forms.Begin (peer_sent_from side id seen)
+    && by (dtid_in m)
   where
     by : Option (List ℕ) → Bool
     by None = false
@@ -73,8 +74,9 @@ guesses side id seen Item.Quiet = false
 abbrev pub is_peer_tangled : Side → List Item → List ℕ → Bool
 is_peer_tangled side items id =
     two_differ (owns_of side items id)
-    || nat_le 2 (count (is_a forms.Begin) (asked side id items))
-    || (has_a forms.Begin (asked side id items) && list_any (goes_to_begun side items) (asked side id items))
+    || nat_le 2 (count (is_a forms.Begin) (peer_sent_from side id items))
+    || (has_a forms.Begin (peer_sent_from side id items)
+    && list_any (goes_to_begun side items) (peer_sent_from side id items))
     || one_passes (guesses side id) [] items
 
 -- ---- a message that goes over them
@@ -116,8 +118,9 @@ tangle_of_own side items own = cond (is_own_tangled side items own) (Some TwoIds
 abbrev pub tangle_of_peer : Side → List Item → List ℕ → Option Tangle
 tangle_of_peer side items id =
     cond (two_differ (owns_of side items id)) (Some TwoIds)
-    (cond (nat_le 2 (count (is_a forms.Begin) (asked side id items))) (Some BegunTwice)
-    (cond (has_a forms.Begin (asked side id items) && list_any (goes_to_begun side items) (asked side id items)) (Some BothBegan)
+    (cond (nat_le 2 (count (is_a forms.Begin) (peer_sent_from side id items))) (Some BegunTwice)
+    (cond (has_a forms.Begin (peer_sent_from side id items)
+    && list_any (goes_to_begun side items) (peer_sent_from side id items)) (Some BothBegan)
     (cond (one_passes (guesses side id) [] items) (Some Guessed) None)))
 
 -- An ID of this end, if there is a reason why it is tangled.

@@ -10,9 +10,9 @@ use Rattle.tcap_record.specs.declared.entry.End.{End as Side}
 use Rattle.tcap_record.specs.Ends.{other}
 use Rattle.tcap_end.specs.Table.{Table}
 use Rattle.tcap_model.specs.World.{Item, Sent, is_side}
-use Rattle.tcap_refute.specs.EarlierMessages.{asked, ends_to, has_a, sent_by}
+use Rattle.tcap_refute.specs.EarlierMessages.{peer_sent_from, ends_to, has_a, sent_by}
 use Rattle.tcap_faults.specs.Counts.{is_nothing}
-use Rattle.tcap_faults.specs.SentToId.{has_ended, has_used, one_passes, told}
+use Rattle.tcap_faults.specs.SentToId.{has_ended, has_used, one_passes, outgoing}
 use Rattle.tcap_faults.specs.TangledIds.{owns_of, peers_of}
 
 -- Whether the transaction of an own ID may be over. The peer sent an End or an Abort to it, the end sent a user's end
@@ -29,8 +29,8 @@ abbrev pub uses_again : Table → Side → List Item → Message → Bool
 uses_again table side items (Begin otid dialogue components) =
     has_used side items otid && may_be_over table side items otid
 uses_again table side items (Continue otid dtid dialogue components) =
-    has_used side items otid && may_be_over table side items otid && has_a forms.Begin (asked side dtid items)
-    && is_nothing (told side dtid items) && not (list_any (bytes_eq otid) (owns_of side items dtid))
+    has_used side items otid && may_be_over table side items otid && has_a forms.Begin (peer_sent_from side dtid items)
+    && is_nothing (outgoing side dtid items) && not (list_any (bytes_eq otid) (owns_of side items dtid))
 uses_again table side items m = false
 
 -- Whether an item is a message of the end that uses an own ID again.

@@ -9,7 +9,7 @@ mod transaction;
 mod verdict;
 
 pub use component::component_sort::{Class, Sort};
-pub use dialogue::half_origin::How;
+pub use dialogue::half_origin::HalfOrigin;
 pub use verdict::fault_subject::{Subject, subject_of};
 pub use verdict::first_fault::{BlamedEnds, blame, blame_both};
 pub use verdict::unblamed::unblamed;

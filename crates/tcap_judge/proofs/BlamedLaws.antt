@@ -25,9 +25,9 @@ use Rattle.tcap_judge.specs.Outcome.{outcome_line, outcome_status}
 use Rattle.tcap_judge.specs.LawfulOutcome.{AreLawful, AreLawfulUnheard, IsShown, MayBeSent, MayBeSentUnheard, replayed_by}
 use Rattle.tcap_judge.specs.CheckOutcome.{ReadsRecord, ReadsTable, out_of_memory}
 use Rattle.tcap_judge.specs.Device.{Device}
-use Rattle.tcap_judge.specs.Verdict.{named_by, proposed_by, record_verdict, verdict}
+use Rattle.tcap_judge.specs.Verdict.{refutation_by, proposed_by, record_verdict, verdict}
 use Rattle.tcap_judge.specs.EndFindings.{AreBlamed}
-use Rattle.tcap_judge.specs.BlameOutcome.{AreFound, FindsLawfulEnds, GivesBlame, GivesBlameWith, IsBlamed, IsFound, PrintsBlame, SaysLines, blame_status, ends_lines, ends_of, finding, is_blamed, is_lawful, joint_record_verdict, joint_verdict, lines_behind, record_ends, unblamed_status, verdict_by_ends}
+use Rattle.tcap_judge.specs.BlameOutcome.{AreFound, FindsLawfulEnds, GivesBlame, GivesBlameWith, IsBlamed, IsFound, PrintsBlame, IsBlameText, blame_status, ends_lines, ends_of, finding, is_blamed, is_lawful, joint_record_verdict, joint_verdict, lines_behind, record_ends, unblamed_status, verdict_by_ends}
 use Rattle.tcap_judge.proofs.LawfulLaws.{IsFineOf, fine_fault, finds, found_said as found_by_verdict, table_fault}
 use Rattle.tcap_judge.proofs.SpellsNothingLaws.{spells_nothing}
 use Rattle.tcap_judge.proofs.VerdictLaws.{between, verdict_is}
@@ -36,9 +36,9 @@ use Rattle.tcap_judge.proofs.VerdictLaws.{between, verdict_is}
 
 -- An entry is one item.
 same_item : (entry : Entry) (x y : Item) → IsItem entry x → IsItem entry y → x ≡ y
-same_item entry (Sent side message) (Sent other told) is are = cc
+same_item entry (Sent side message) (Sent other returned) is are = cc
 same_item entry (Sent side message) Item.Quiet is are = let bad : Some side ≡ None = sym is.0 ∙ are.0 in cc
-same_item entry Item.Quiet (Sent other told) is are = let bad : None ≡ Some other = sym is.0 ∙ are.0 in cc
+same_item entry Item.Quiet (Sent other returned) is are = let bad : None ≡ Some other = sym is.0 ∙ are.0 in cc
 same_item entry Item.Quiet Item.Quiet is are = refl
 
 same_items : (entries : List Entry) (xs ys : List Item) → AreItems entries xs → AreItems entries ys → xs ≡ ys
@@ -109,11 +109,11 @@ shown_by_ends table entries count ends outcome shown found = by (is_lawful ends.
     by true is = found.both is
     by false is = shown
 
-pub are_blamed : (table : Table) (entries : List Entry) (outcome : Outcome) (ends : Ends) (count : ℕ) (said : Outcome)
-    → count ≡ length entries → said ≡ verdict_by_ends count ends outcome → outcome ≡ verdict table entries
+pub are_blamed : (table : Table) (entries : List Entry) (outcome : Outcome) (ends : Ends) (count : ℕ) (reported : Outcome)
+    → count ≡ length entries → reported ≡ verdict_by_ends count ends outcome → outcome ≡ verdict table entries
     → IsShown None table entries outcome → ends ≡ ends_of table entries → AreFound table entries ends
-    → AreBlamed table entries said (Some ends)
-are_blamed table entries outcome ends count said count_is said_is outcome_is shown ends_are found = (
+    → AreBlamed table entries reported (Some ends)
+are_blamed table entries outcome ends count reported count_is said_is outcome_is shown ends_are found = (
   said_is ∙ ap₂ (verdict_by_ends count) ends_are outcome_is
       ∙ ap (λ (n : ℕ). verdict_by_ends n (ends_of table entries) (verdict table entries)) count_is,
   subst (IsShown None table entries) (sym said_is) (shown_by_ends table entries count ends outcome shown found),
@@ -131,7 +131,7 @@ BlamesRightly = (table : Table) (side : Side) (entries : List Entry) (r : Refuta
 pub gives_blame : BlamesRightly → (table : Table) (d : Device) (entries : List Entry) (end : Result (Unit {0}) FeedFault)
     (outcome : Outcome) (ends : Option Ends) → ReadsRecord d entries end
     → outcome ≡ joint_record_verdict None table entries end → IsShown None table entries outcome
-    → ends ≡ record_ends table entries end → ((said : Ends) → ends ≡ Some said → AreFound table entries said)
+    → ends ≡ record_ends table entries end → ((reported : Ends) → ends ≡ Some reported → AreFound table entries reported)
     → GivesBlame table d outcome ends
 gives_blame rightly table d entries end outcome ends reads says shown ends_are found = inr (record {
   entries = entries;
@@ -142,23 +142,23 @@ gives_blame rightly table d entries end outcome ends reads says shown ends_are f
   ends_are = ends_are;
   at_fault = λ side r is. rightly table side entries r is;
   spells_nothing = λ side r is kind.
-      spells_nothing (Some side) table entries reads.told reads.is_read.rest r reads.is_read.framed (rightly table side entries r is) kind;
+      spells_nothing (Some side) table entries reads.returned reads.is_read.rest r reads.is_read.framed (rightly table side entries r is) kind;
   found = found;
 })
 
 -- the findings if the record has no fault
-pub ends_said : (table : Table) (entries : List Entry) (said : Option Ends) (ends : Ends) → said ≡ Some ends
-    → ends ≡ ends_of table entries → said ≡ record_ends table entries (Ok tt)
-ends_said table entries said ends is are = is ∙ ap Some are
+pub ends_said : (table : Table) (entries : List Entry) (reported : Option Ends) (ends : Ends) → reported ≡ Some ends
+    → ends ≡ ends_of table entries → reported ≡ record_ends table entries (Ok tt)
+ends_said table entries reported ends is are = is ∙ ap Some are
 
-pub found_said : (table : Table) (entries : List Entry) (said : Option Ends) (ends : Ends) → said ≡ Some ends
-    → AreFound table entries ends → (other : Ends) → said ≡ Some other → AreFound table entries other
-found_said table entries said ends is found other are =
+pub found_said : (table : Table) (entries : List Entry) (reported : Option Ends) (ends : Ends) → reported ≡ Some ends
+    → AreFound table entries ends → (other : Ends) → reported ≡ Some other → AreFound table entries other
+found_said table entries reported ends is found other are =
     let same : ends ≡ other = let both : Some ends ≡ Some other = sym is ∙ are in cc in subst (AreFound table entries) same found
 
-pub found_none : (table : Table) (entries : List Entry) (said : Option Ends) → said ≡ None → (other : Ends)
-    → said ≡ Some other → AreFound table entries other
-found_none table entries said none other is = let bad : None ≡ Some other = sym none ∙ is in cc
+pub found_none : (table : Table) (entries : List Entry) (reported : Option Ends) → reported ≡ None → (other : Ends)
+    → reported ≡ Some other → AreFound table entries other
+found_none table entries reported none other is = let bad : None ≡ Some other = sym none ∙ is in cc
 
 pub shown_fault : (table : Table) (entries : List Entry) (outcome : Outcome) (number place : ℕ)
     → outcome ≡ Faulty number place → IsShown None table entries outcome
@@ -169,17 +169,17 @@ shown_fault table entries outcome number place is = subst (IsShown None table en
 -- the writer took the lines of what the readers returned
 pub prints_blame : (entries table : Device) (outcome : Outcome) (ends : Option Ends) (taken taken' : Option (List ℕ))
     (result : Result Status WriteFailed) → IsBlamed entries table outcome ends
-    → IfOk result (λ status. (text : List ℕ) × SaysLines outcome ends text status × Appends taken taken' text)
+    → IfOk result (λ status. (text : List ℕ) × IsBlameText outcome ends text status × Appends taken taken' text)
     → IfOk result (PrintsBlame entries table taken taken')
-prints_blame entries table outcome ends taken taken' (Ok status) judged said = record {
+prints_blame entries table outcome ends taken taken' (Ok status) judged reported = record {
   outcome = outcome;
   ends = ends;
-  text = said.0;
+  text = reported.0;
   judged = judged;
-  says = said.1;
-  takes = said.2;
+  says = reported.1;
+  takes = reported.2;
 }
-prints_blame entries table outcome ends taken taken' (Err failed) judged said = tt
+prints_blame entries table outcome ends taken taken' (Err failed) judged reported = tt
 
 -- A run with status Fine has an outcome with this status.
 fine_choice : (blames : Bool) (status : Status) → cond blames statuses.Refuted status ≡ statuses.Fine → status ≡ statuses.Fine
@@ -197,14 +197,14 @@ fine_unblamed (Faulty number place) fine = fine
 fine_by : (outcome : Outcome) (ends : Option Ends) → blame_status ends outcome ≡ statuses.Fine
     → outcome_status outcome ≡ statuses.Fine
 fine_by outcome None fine = fine
-fine_by outcome (Some said) fine =
-    fine_unblamed outcome (fine_choice (is_blamed said.a || is_blamed said.b) (unblamed_status outcome) fine)
+fine_by outcome (Some reported) fine =
+    fine_unblamed outcome (fine_choice (is_blamed reported.a || is_blamed reported.b) (unblamed_status outcome) fine)
 
 fine_lines : (outcome : Outcome) (ends : Option Ends) (text : List ℕ) (status : Status)
-    → SaysLines outcome ends text status → status ≡ statuses.Fine
+    → IsBlameText outcome ends text status → status ≡ statuses.Fine
     → (outcome_status outcome ≡ statuses.Fine) × (text ≡ outcome_line outcome ++ lines_behind ends)
-fine_lines outcome ends text status (inl said) fine = (fine_by outcome ends (sym said.1 ∙ fine), said.0)
-fine_lines outcome ends text status (inr said) fine = let bad : statuses.Fault ≡ statuses.Fine = sym said.1 ∙ fine in cc
+fine_lines outcome ends text status (inl reported) fine = (fine_by outcome ends (sym reported.1 ∙ fine), reported.0)
+fine_lines outcome ends text status (inr reported) fine = let bad : statuses.Fault ≡ statuses.Fine = sym reported.1 ∙ fine in cc
 
 -- A lawful joint verdict has the number of entries.
 joint_fine : (table : Table) (entries : List Entry) → IsFineOf None (length entries) (joint_verdict None table entries)
@@ -213,7 +213,7 @@ joint_fine table entries = by (is_lawful (finding table entries sides.A) && is_l
     by : (both : Bool) → IsFineOf None (length entries) (cond both (Lawful (length entries)) (verdict table entries))
     by true = λ fine. (0, refl)
     by false =
-        verdict_is None (length entries) (named_by None table entries)
+        verdict_is None (length entries) (refutation_by None table entries)
         (replayed_by None table (proposed_by None entries) entries)
 
 by_end : (entries table : Device) (operations : Table) (taken taken' : Option (List ℕ)) (outcome : Outcome) (ends : Option Ends)
@@ -224,7 +224,7 @@ by_end : (entries table : Device) (operations : Table) (taken taken' : Option (L
 by_end entries table operations taken taken' outcome ends read (Err fault) reads given says shown are fine line =
     absurd (fine_fault outcome (record_verdict None operations read (Err fault)) says refl fine)
 by_end entries table operations taken taken' outcome ends read (Ok end) reads given says shown are fine line =
-    let lines = subst (λ (said : Option Ends). Appends taken taken' (outcome_line outcome ++ lines_behind said)) are line in
+    let lines = subst (λ (reported : Option Ends). Appends taken taken' (outcome_line outcome ++ lines_behind reported)) are line in
     let (there, before, rest) = between taken taken' (outcome_line outcome) (ends_lines (ends_of operations read)) lines in (
       there,
       ends_of operations read,
@@ -247,8 +247,8 @@ by_table : (given : Result Table Outcome) (entries table : Device) (taken taken'
     (ends : Option Ends) → ReadsTable table given → GivesBlameWith given entries outcome ends
     → outcome_status outcome ≡ statuses.Fine → Appends taken taken' (outcome_line outcome ++ lines_behind ends)
     → FindsLawfulEnds entries table taken taken'
-by_table (Err said) entries table taken taken' outcome ends reads gives fine line =
-    absurd (fine_fault outcome said gives.0 (table_fault table said reads) fine)
+by_table (Err reported) entries table taken taken' outcome ends reads gives fine line =
+    absurd (fine_fault outcome reported gives.0 (table_fault table reported reads) fine)
 by_table (Ok operations) entries table taken taken' outcome ends reads gives fine line =
     by_record entries table operations taken taken' outcome ends reads gives fine line
 

@@ -14,9 +14,9 @@ use Rattle.tcap_refute.specs.declared.kind.Refutation.{Refutation}
 use Rattle.tcap_refute.specs.Kind.{refuted}
 use Rattle.tcap_refute.proofs.RefutedLaws.{never_lawful}
 use Rattle.tcap_judge.specs.declared.outcome.Outcome.TheVariants.{Lawful, LawfulFor, Refuted}
-use Rattle.tcap_judge.specs.CheckOutcome.{replay_says}
+use Rattle.tcap_judge.specs.CheckOutcome.{replay_outcome}
 use Rattle.tcap_judge.specs.LawfulOutcome.{replayed_by}
-use Rattle.tcap_judge.specs.Verdict.{named_by, proposed_by, verdict, verdict_by}
+use Rattle.tcap_judge.specs.Verdict.{refutation_by, proposed_by, verdict, verdict_by}
 use Rattle.tcap_judge.specs.BlameOutcome.{IsFound, finding, finding_by, is_lawful, items_before, joint_verdict}
 use Rattle.tcap_judge.proofs.BlamedLaws.{are_found}
 use Rattle.tcap_judge.proofs.LawfulLaws.{shown_by_replay}
@@ -24,7 +24,7 @@ use Rattle.tcap_judge.proofs.LawfulLaws.{shown_by_replay}
 -- A finding holds.
 found_so : (side : Side) (table : Table) (entries : List Entry) → IsFound side table entries (finding table entries side)
 found_so side table entries =
-    by (named_by (Some side) table entries) (replayed_by (Some side) table (proposed_by (Some side) entries) entries) refl
+    by (refutation_by (Some side) table entries) (replayed_by (Some side) table (proposed_by (Some side) entries) entries) refl
   where
     by : (named : Option Refutation) (replay : Result (List Event) CheckFault)
         → replayed_by (Some side) table (proposed_by (Some side) entries) entries ≡ replay
@@ -34,7 +34,7 @@ found_so side table entries =
     by None (Err fault) is = tt
     by None (Ok events) is =
         shown_by_replay (Some side) table (proposed_by (Some side) entries) entries
-        (LawfulFor (length entries) (unheard_of side events)) (sym (ap (replay_says (Some side) (length entries)) is))
+        (LawfulFor (length entries) (unheard_of side events)) (sym (ap (replay_outcome (Some side) (length entries)) is))
 
 pub refuted_joint : (table : Table) (entries : List Entry) (r : Refutation) → refuted table (map item_of entries) ≡ Some r
     → joint_verdict None table entries ≡ Refuted r

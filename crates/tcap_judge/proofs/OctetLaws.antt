@@ -31,7 +31,7 @@ use Rattle.tcap_model.specs.Run.{Event, IsRunOf}
 use Rattle.tcap_end.specs.Table.{Table}
 use Rattle.tcap_certificate.specs.Certificate.{Certificate, IsPrompt, prompt}
 use Rattle.tcap_certificate.specs.DescribedRun.{IsPlain}
-use Rattle.tcap_check.specs.GivenRun.{DeliversAtOnce, IsSeen}
+use Rattle.tcap_check.specs.GivenRun.{DeliversAtOnce, IsVisible}
 use Rattle.tcap_certificate.specs.Replay.{replayed_by}
 use Rattle.tcap_check.proofs.prompt_laws.AtOnceLaws.{at_once_follows, followed_at_once}
 use Rattle.tcap_check.proofs.described_run_laws.DescribedRuns.{followed_is_given}
@@ -282,7 +282,7 @@ read_spells items octets entries reads are =
 
 pub prompt_given : (table : Table) (items : List Item) (octets : List ℕ) (entries : List Entry) (events : List Event)
     → SpellsRecord items octets → length items ≤ entry_limit → IsReadAs entries (Ok tt) octets → IsRunOf items table events
-    → AllByRecursion IsSeen events → DeliversAtOnce table events
+    → AllByRecursion IsVisible events → DeliversAtOnce table events
     → (given : List Event) × (replayed_by None table (prompt (length items)) entries ≡ Ok given)
 prompt_given table items octets entries events spells few reads run seen at_once =
     let are = (read_as_items items octets entries (Ok tt) spells few reads tt).1 in

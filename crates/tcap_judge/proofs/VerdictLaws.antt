@@ -21,22 +21,22 @@ use Rattle.tcap_judge.specs.declared.outcome.Outcome.TheVariants.{Lawful, Lawful
 use Rattle.tcap_lines.specs.declared.status.Status.{Status}
 use Rattle.tcap_lines.specs.declared.status.Status.TheVariants as statuses
 use Rattle.tcap_lines.specs.declared.status.WriteFailed.{WriteFailed}
-use Rattle.tcap_judge.specs.Outcome.{SaysWith, outcome_line, outcome_status, refuted_line}
-use Rattle.tcap_judge.specs.LawfulOutcome.{IsShown, replayed_by, said_lawful}
+use Rattle.tcap_judge.specs.Outcome.{IsOutcomeText, outcome_line, outcome_status, refuted_line}
+use Rattle.tcap_judge.specs.LawfulOutcome.{IsShown, replayed_by, lawful_outcome}
 use Rattle.tcap_judge.specs.CheckOutcome.{ReadsRecord, ReadsTable, out_of_memory}
 use Rattle.tcap_judge.specs.Device.{Device}
-use Rattle.tcap_judge.specs.Verdict.{FindsFault, FindsLawfulThen, GivesVerdict, GivesVerdictWith, IsAtFaultBy, IsCertificateLine, IsJudged, PrintsVerdict, certificate_line, named_by, proposed_by, record_verdict, verdict_by}
+use Rattle.tcap_judge.specs.Verdict.{FindsFault, FindsLawfulThen, GivesVerdict, GivesVerdictWith, IsAtFaultBy, IsCertificateLine, IsJudged, PrintsVerdict, certificate_line, refutation_by, proposed_by, record_verdict, verdict_by}
 use Rattle.tcap_judge.proofs.LawfulLaws.{IsFineOf, IsFoundBy, fine_fault, finds, found_said, lawful_is, no_fault, table_fault, table_text}
 use Rattle.tcap_judge.proofs.SpellsNothingLaws.{spells_nothing}
 
 -- ---- the status of a run
 
 -- If the status is not a fault, it is that of the outcome, and the text begins with its line.
-said_so : (outcome : Outcome) (behind text : List ℕ) (status : Status) → SaysWith outcome behind text status
+said_so : (outcome : Outcome) (behind text : List ℕ) (status : Status) → IsOutcomeText outcome behind text status
     → (status ≡ statuses.Fault → ⊥)
     → (outcome_status outcome ≡ status) × (text ≡ outcome_line outcome ++ behind)
-said_so outcome behind text status (inl said) other = (sym said.1, said.0)
-said_so outcome behind text status (inr said) other = absurd (other said.1)
+said_so outcome behind text status (inl reported) other = (sym reported.1, reported.0)
+said_so outcome behind text status (inr reported) other = absurd (other reported.1)
 
 refuted_is : (outcome : Outcome) → outcome_status outcome ≡ statuses.Refuted → (r : Refutation) × (outcome ≡ Refuted r)
 refuted_is (Refuted r) ended = (r, refl)
@@ -57,14 +57,14 @@ verdict_is judged count None (Err fault) fine = let bad : statuses.NotShown ≡ 
 pub by_refutation : (judged : Option Side) (count : ℕ) (named : Option Refutation)
     (replay : Result (List Event) CheckFault) (r : Refutation) → Refuted r ≡ verdict_by judged count named replay
     → named ≡ Some r
-by_refutation judged count (Some other) replay r said = let same : Refuted r ≡ Refuted other = said in cc
-by_refutation None count None (Ok events) r said = cc
-by_refutation (Some side) count None (Ok events) r said = cc
-by_refutation judged count None (Err fault) r said = cc
+by_refutation judged count (Some other) replay r reported = let same : Refuted r ≡ Refuted other = reported in cc
+by_refutation None count None (Ok events) r reported = cc
+by_refutation (Some side) count None (Ok events) r reported = cc
+by_refutation judged count None (Err fault) r reported = cc
 
 -- the text after LAWFUL
 is_line : (judged : Option Side) (with_certificate : Bool) (entries : List Entry) (count unheard : ℕ) (behind : List ℕ)
-    → behind ≡ certificate_line judged with_certificate entries (said_lawful judged count unheard)
+    → behind ≡ certificate_line judged with_certificate entries (lawful_outcome judged count unheard)
     → IsCertificateLine with_certificate behind
 is_line None true entries count unheard behind is = (proposed_by None entries, is)
 is_line (Some side) true entries count unheard behind is = (proposed_by (Some side) entries, is)
@@ -84,7 +84,7 @@ lawful_by_end : (judged : Option Side) (table : Table) (with_certificate : Bool)
 lawful_by_end judged table with_certificate d outcome behind entries (Err fault) reads says behind_is shown fine =
     absurd (fine_fault outcome (record_verdict judged table entries (Err fault)) says refl fine)
 lawful_by_end judged table with_certificate d outcome behind entries (Ok end) reads says behind_is shown fine =
-    let fine_of = verdict_is judged (length entries) (named_by judged table entries)
+    let fine_of = verdict_is judged (length entries) (refutation_by judged table entries)
     (replayed_by judged table (proposed_by judged entries) entries) in
     let (unheard, lawful) = fine_of (sym (ap outcome_status says) ∙ fine) in (
       found_said judged table d outcome (record_verdict judged table entries (Ok end)) entries end reads fine_of says shown
@@ -107,18 +107,18 @@ pub record IsNamedBy (judged : Option Side) (table : Table) (d : Device) (r : Re
   pub entries : List Entry
   pub end : Unit {0}
   pub reads : ReadsRecord d entries (Ok end)
-  pub named : named_by judged table entries ≡ Some r
+  pub named : refutation_by judged table entries ≡ Some r
 
 named_by_end : (judged : Option Side) (table : Table) (d : Device) (r : Refutation) (entries : List Entry)
     (end : Result (Unit {0}) FeedFault) → ReadsRecord d entries end → Refuted r ≡ record_verdict judged table entries end
     → IsNamedBy judged table d r
-named_by_end judged table d r entries (Err fault) reads said = cc
-named_by_end judged table d r entries (Ok end) reads said = record {
+named_by_end judged table d r entries (Err fault) reads reported = cc
+named_by_end judged table d r entries (Ok end) reads reported = record {
   entries = entries;
   end = end;
   reads = reads;
-  named = by_refutation judged (length entries) (named_by judged table entries)
-      (replayed_by judged table (proposed_by judged entries) entries) r said;
+  named = by_refutation judged (length entries) (refutation_by judged table entries)
+      (replayed_by judged table (proposed_by judged entries) entries) r reported;
 }
 
 pub refuted_record : (judged : Option Side) (table : Table) (with_certificate : Bool) (d : Device) (r : Refutation)
@@ -143,8 +143,8 @@ lawful_table : (judged : Option Side) (given : Result Table Outcome) (with_certi
     → GivesVerdictWith judged given with_certificate entries outcome behind → outcome_status outcome ≡ statuses.Fine
     → Appends taken taken' (outcome_line outcome ++ behind)
     → FindsLawfulThen judged with_certificate entries table taken taken'
-lawful_table judged (Err said) with_certificate entries table taken taken' outcome behind reads gives fine line =
-    absurd (fine_fault outcome said gives.0 (table_fault table said reads) fine)
+lawful_table judged (Err reported) with_certificate entries table taken taken' outcome behind reads gives fine line =
+    absurd (fine_fault outcome reported gives.0 (table_fault table reported reads) fine)
 lawful_table judged (Ok operations) with_certificate entries table taken taken' outcome behind reads gives fine line =
     let (found, certificate) = lawful_record judged operations with_certificate entries outcome behind gives fine in
     let (there, before, rest) = between taken taken' (outcome_line outcome) behind line in
@@ -152,7 +152,7 @@ lawful_table judged (Ok operations) with_certificate entries table taken taken' 
 
 -- what is needed of the laws on faults: an entry found at fault is at fault
 abbrev pub NamesRightly : Option Side → Type 0
-NamesRightly judged = (table : Table) (entries : List Entry) (r : Refutation) → named_by judged table entries ≡ Some r
+NamesRightly judged = (table : Table) (entries : List Entry) (r : Refutation) → refutation_by judged table entries ≡ Some r
     → IsAtFaultBy judged table entries r
 
 pub rightly : ((table : Table) (entries : List (Result Item Reason)) (r : Refutation)
@@ -167,14 +167,14 @@ refuted_table : (judged : Option Side) → NamesRightly judged → (given : Resu
     (entries table : Device) (taken taken' : Option (List ℕ)) (r : Refutation) (behind : List ℕ) → ReadsTable table given
     → GivesVerdictWith judged given with_certificate entries (Refuted r) behind
     → Appends taken taken' (refuted_line r ++ behind) → FindsFault judged entries table taken taken'
-refuted_table judged rightly (Err said) with_certificate entries table taken taken' r behind reads gives line =
+refuted_table judged rightly (Err reported) with_certificate entries table taken taken' r behind reads gives line =
     let bad : statuses.Refuted ≡ statuses.Fault =
-    no_fault (Refuted r) said statuses.Refuted gives.0 (table_fault table said reads) refl in cc
+    no_fault (Refuted r) reported statuses.Refuted gives.0 (table_fault table reported reads) refl in cc
 refuted_table judged rightly (Ok operations) with_certificate entries table taken taken' r behind reads gives line =
     let (named, none) = refuted_record judged operations with_certificate entries r behind gives in
     let text = table_text table operations reads in
     record {
-      octets = named.reads.told;
+      octets = named.reads.returned;
       text = text.0;
       operations = operations;
       read = named.entries;
@@ -185,7 +185,7 @@ refuted_table judged rightly (Ok operations) with_certificate entries table take
       is_read = named.reads.is_read;
       at_fault = rightly operations named.entries r named.named;
       spells_nothing = λ is.
-          spells_nothing judged operations named.entries named.reads.told named.reads.is_read.rest r named.reads.is_read.framed
+          spells_nothing judged operations named.entries named.reads.returned named.reads.is_read.rest r named.reads.is_read.framed
           (rightly operations named.entries r named.named) is;
       line = subst (Appends taken taken') (ap (λ (x : List ℕ). refuted_line r ++ x) none ∙ append-nil (refuted_line r)) line;
     }
@@ -196,17 +196,17 @@ refuted_table judged rightly (Ok operations) with_certificate entries table take
 pub prints_of : (judged : Option Side) (with_certificate : Bool) (entries table : Device) (outcome : Outcome)
     (behind given : List ℕ) (taken taken' : Option (List ℕ)) (result : Result Status WriteFailed) → given ≡ behind
     → IsJudged judged with_certificate entries table outcome behind
-    → IfOk result (λ status. (text : List ℕ) × SaysWith outcome given text status × Appends taken taken' text)
+    → IfOk result (λ status. (text : List ℕ) × IsOutcomeText outcome given text status × Appends taken taken' text)
     → IfOk result (PrintsVerdict judged with_certificate entries table taken taken')
-prints_of judged with_certificate entries table outcome behind given taken taken' (Ok status) is gives said = record {
+prints_of judged with_certificate entries table outcome behind given taken taken' (Ok status) is gives reported = record {
   outcome = outcome;
   behind = given;
-  text = said.0;
+  text = reported.0;
   given = subst (IsJudged judged with_certificate entries table outcome) (sym is) gives;
-  says = said.1;
-  takes = said.2;
+  says = reported.1;
+  takes = reported.2;
 }
-prints_of judged with_certificate entries table outcome behind given taken taken' (Err failed) is gives said = tt
+prints_of judged with_certificate entries table outcome behind given taken taken' (Err failed) is gives reported = tt
 
 -- after status Fine, the record is lawful
 pub lawful_run : (judged : Option Side) (with_certificate : Bool) (entries table : Device) (taken taken' : Option (List ℕ))

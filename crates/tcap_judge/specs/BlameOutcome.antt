@@ -55,12 +55,12 @@ finding table entries side = finding_by (items_before (map item_of entries)) (ve
 -- whether an entry is blamed on the end
 abbrev pub is_blamed : Finding → Bool
 is_blamed (findings.Blamed r) = true
-is_blamed said = false
+is_blamed reported = false
 
 -- whether the end may have sent its part
 abbrev pub is_lawful : Finding → Bool
 is_lawful (findings.Lawful count unheard) = true
-is_lawful said = false
+is_lawful reported = false
 
 -- the findings on both ends
 abbrev pub ends_of : Table → List Entry → Ends
@@ -97,14 +97,14 @@ finding_line side (findings.NotBlamed count) =
     codes "NOT BLAMED " ++ letter side ++ codes " " ++ decimal count ++ line_end
 
 -- whether the line of A comes after the line of B: B is blamed, and A is not, or for a later entry
-abbrev pub stands_behind : Finding → Finding → Bool
-stands_behind (findings.Blamed a) (findings.Blamed b) = nat_lt b.entry a.entry
-stands_behind said (findings.Blamed b) = true
-stands_behind said other = false
+abbrev pub comes_after : Finding → Finding → Bool
+comes_after (findings.Blamed a) (findings.Blamed b) = nat_lt b.entry a.entry
+comes_after reported (findings.Blamed b) = true
+comes_after reported other = false
 
 -- the lines of both ends: blamed ends first, in the order of their entries, else A before B
 abbrev pub ends_lines : Ends → List ℕ
-ends_lines ends = cond (stands_behind ends.a ends.b) (finding_line sides.B ends.b ++ finding_line sides.A ends.a)
+ends_lines ends = cond (comes_after ends.a ends.b) (finding_line sides.B ends.b ++ finding_line sides.A ends.a)
     (finding_line sides.A ends.a ++ finding_line sides.B ends.b)
 
 -- ---- a whole run
@@ -118,7 +118,7 @@ record_ends table entries (Err fault) = None
 -- both findings are lawful, two lawful ends may have sent the record.
 abbrev pub IsFound : Side → Table → List Entry → Finding → Type 0
 IsFound side table entries (findings.Lawful count unheard) = AreLawfulUnheard (Some side) table entries unheard
-IsFound side table entries said = Unit {0}
+IsFound side table entries reported = Unit {0}
 
 -- Both findings hold. If both are lawful, two lawful ends may have sent the record.
 pub record AreFound (table : Table) (entries : List Entry) (ends : Ends) : Type 0 where
@@ -142,8 +142,8 @@ pub record SaysBlame (table : Table) (d : Device) (outcome : Outcome) (ends : Op
   pub at_fault : (side : Side) (r : Refutation) → blamed table side entries ≡ Some r
       → IsAtFaultOf table side entries r
   pub spells_nothing : (side : Side) (r : Refutation) → blamed table side entries ≡ Some r → r.kind ≡ kinds.BadMessage
-      → SpellsNothing entries r.entry reads.told
-  pub found : (said : Ends) → ends ≡ Some said → AreFound table entries said
+      → SpellsNothing entries r.entry reads.returned
+  pub found : (reported : Ends) → ends ≡ Some reported → AreFound table entries reported
 
 -- `SaysBlame` holds, or memory ran out.
 abbrev pub GivesBlame : Table → Device → Outcome → Option Ends → Type 0
@@ -152,7 +152,7 @@ GivesBlame table d outcome ends = ((outcome ≡ out_of_memory) × (ends ≡ None
 -- If the table has a fault, the outcome is this fault, and nothing of the record is read.
 abbrev pub GivesBlameWith : Result Table Outcome → Device → Outcome → Option Ends → Type 0
 GivesBlameWith (Ok table) entries outcome ends = GivesBlame table entries outcome ends
-GivesBlameWith (Err said) entries outcome ends = (outcome ≡ said) × (ends ≡ None) × IsUntouched entries
+GivesBlameWith (Err reported) entries outcome ends = (outcome ≡ reported) × (ends ≡ None) × IsUntouched entries
 
 -- The outcome and the findings are those of what the two readers returned.
 abbrev pub IsBlamed : Device → Device → Outcome → Option Ends → Type 0
@@ -177,8 +177,8 @@ blame_status (Some ends) outcome =
 
 -- The text is the line of the outcome and the lines after it, with their status. Or the text reports that memory ran
 -- out.
-abbrev pub SaysLines : Outcome → Option Ends → List ℕ → Status → Type 0
-SaysLines outcome ends text status =
+abbrev pub IsBlameText : Outcome → Option Ends → List ℕ → Status → Type 0
+IsBlameText outcome ends text status =
     ((text ≡ outcome_line outcome ++ lines_behind ends) × (status ≡ blame_status ends outcome))
     ⊎ ((text ≡ memory_line) × (status ≡ statuses.Fault))
 
@@ -189,7 +189,7 @@ pub record PrintsBlame (entries table : Device) (taken taken' : Option (List ℕ
   pub ends : Option Ends
   pub text : List ℕ
   pub judged : IsBlamed entries table outcome ends
-  pub says : SaysLines outcome ends text status
+  pub says : IsBlameText outcome ends text status
   pub takes : Appends taken taken' text
 
 -- ---- what the lines mean

@@ -26,7 +26,7 @@ use Rattle.tcap_judge.specs.declared.outcome.Outcome.TheVariants.{Lawful, NotSho
 use Rattle.tcap_lines.specs.declared.status.Status.{Status}
 use Rattle.tcap_judge.specs.Device.{Device, IsUntouched}
 use Rattle.tcap_judge.specs.LawfulOutcome.{IsShown, lawful_by, replayed_by}
-use Rattle.tcap_judge.specs.Outcome.{Says}
+use Rattle.tcap_judge.specs.Outcome.{IsOutcomeLine}
 use Rattle.tcap_judge.specs.Text.{ReadsText}
 
 -- the outcome if memory ran out
@@ -40,27 +40,28 @@ abbrev pub text_limit : ℕ
 text_limit = 67108864
 
 -- the outcome if a text could not be read; its number is `too_long` if the text is too long
-abbrev pub said_of_text : ℕ → TextFault → Outcome
-said_of_text too_long faults.TooLong = Faulty too_long 0
-said_of_text too_long (faults.Read place) = Faulty (feed_number_of feed.Read) place
-said_of_text too_long faults.Memory = out_of_memory
+abbrev pub text_fault_outcome : ℕ → TextFault → Outcome
+text_fault_outcome too_long faults.TooLong = Faulty too_long 0
+text_fault_outcome too_long (faults.Read place) = Faulty (feed_number_of feed.Read) place
+text_fault_outcome too_long faults.Memory = out_of_memory
 
 -- the table, or the outcome if it has a fault
-abbrev pub said_of_table : Result Table TableFault → Result Table Outcome
-said_of_table (Ok table) = Ok table
-said_of_table (Err fault) = Err (Faulty (table_number_of fault.reason) fault.place)
+abbrev pub table_or_outcome : Result Table TableFault → Result Table Outcome
+table_or_outcome (Ok table) = Ok table
+table_or_outcome (Err fault) = Err (Faulty (table_number_of fault.reason) fault.place)
 
 -- The table that a text is, or the outcome if there is no table.
 abbrev pub IsTableGiven : Result (List ℕ) TextFault → Result Table Outcome → Type 0
 IsTableGiven (Ok octets) given =
-    (result : Result Table TableFault) × IsTableOf octets result × (given ≡ said_of_table result)
-IsTableGiven (Err fault) given = given ≡ Err (said_of_text 30 fault)
+    (result : Result Table TableFault) × IsTableOf octets result × (given ≡ table_or_outcome result)
+IsTableGiven (Err fault) given = given ≡ Err (text_fault_outcome 30 fault)
 
 -- The certificate that a text is, or the outcome if there is no certificate.
 abbrev pub IsCertificateGiven : Result (List ℕ) TextFault → Result Certificate Outcome → Type 0
 IsCertificateGiven (Ok octets) (Ok c) = IsCertificateText octets c
-IsCertificateGiven (Ok octets) (Err said) = (said ≡ Faulty 60 0) × ((c : Certificate) → IsCertificateText octets c → ⊥)
-IsCertificateGiven (Err fault) given = given ≡ Err (said_of_text 60 fault)
+IsCertificateGiven (Ok octets) (Err reported) =
+    (reported ≡ Faulty 60 0) × ((c : Certificate) → IsCertificateText octets c → ⊥)
+IsCertificateGiven (Err fault) given = given ≡ Err (text_fault_outcome 60 fault)
 
 -- The reader returned the text of this table, or there is no table for this reason; or memory ran out.
 pub record ReadsTable (d : Device) (given : Result Table Outcome) : Type 0 where
@@ -77,22 +78,22 @@ pub record ReadsCertificate (d : Device) (given : Result Certificate Outcome) : 
 -- ---- the record
 
 -- the outcome of a replay over this many entries
-abbrev pub replay_says : Option Side → ℕ → Result (List Event) CheckFault → Outcome
-replay_says judged count (Ok events) = lawful_by judged count events
-replay_says judged count (Err fault) = NotShown fault
+abbrev pub replay_outcome : Option Side → ℕ → Result (List Event) CheckFault → Outcome
+replay_outcome judged count (Ok events) = lawful_by judged count events
+replay_outcome judged count (Err fault) = NotShown fault
 
 -- the outcome of these entries, or the fault of the record that ends them
-abbrev pub record_says : Option Side → Table → Certificate → List Entry → Result (Unit {0}) FeedFault → Outcome
-record_says judged table c entries (Ok end) =
-    replay_says judged (length entries) (replayed_by judged table c entries)
-record_says judged table c entries (Err fault) = Faulty (feed_number_of fault.reason) fault.place
+abbrev pub record_outcome : Option Side → Table → Certificate → List Entry → Result (Unit {0}) FeedFault → Outcome
+record_outcome judged table c entries (Ok end) =
+    replay_outcome judged (length entries) (replayed_by judged table c entries)
+record_outcome judged table c entries (Err fault) = Faulty (feed_number_of fault.reason) fault.place
 
 -- The reader returned these entries, and this end after them. The reader is at its end if the record ends, even within
 -- an entry. It failed once if the end is its failure.
 pub record ReadsRecord (d : Device) (entries : List Entry) (end : Result (Unit {0}) FeedFault) : Type 0 where
-  pub told : List ℕ
-  pub tells : Consumes d.before d.after told
-  pub is_read : IsReadAs entries end told
+  pub returned : List ℕ
+  pub tells : Consumes d.before d.after returned
+  pub is_read : IsReadAs entries end returned
   pub ended : EndsOnlyAtEnd d.after end
   pub failed : FailsOnlyByReader d.failed_before d.failed_after end
 
@@ -113,7 +114,7 @@ pub record SaysOfRecord (judged : Option Side) (table : Table) (c : Certificate)
   pub entries : List Entry
   pub end : Result (Unit {0}) FeedFault
   pub reads : ReadsRecord d entries end
-  pub says : outcome ≡ record_says judged table c entries end
+  pub says : outcome ≡ record_outcome judged table c entries end
   pub shown : IsShown judged table entries outcome
   pub reasoned : IsReasoned judged table c entries outcome
   pub described : judged ≡ None → SaysOfDescribed table c entries end outcome
@@ -127,14 +128,14 @@ JudgesRecord judged table c d outcome = (outcome ≡ out_of_memory) ⊎ SaysOfRe
 -- If the certificate has a fault, the outcome is this fault, and nothing of the record is read.
 abbrev pub JudgesBy : Option Side → Table → Result Certificate Outcome → Device → Outcome → Type 0
 JudgesBy judged table (Ok c) entries outcome = JudgesRecord judged table c entries outcome
-JudgesBy judged table (Err said) entries outcome = (outcome ≡ said) × IsUntouched entries
+JudgesBy judged table (Err reported) entries outcome = (outcome ≡ reported) × IsUntouched entries
 
 -- If the table has a fault, the outcome is this fault, and nothing of the certificate and the record is read.
 abbrev pub JudgesWith : Option Side → Result Table Outcome → Device → Device → Outcome → Type 0
 JudgesWith judged (Ok table) certificate entries outcome =
     (given : Result Certificate Outcome) × ReadsCertificate certificate given × JudgesBy judged table given entries outcome
-JudgesWith judged (Err said) certificate entries outcome =
-    (outcome ≡ said) × IsUntouched certificate × IsUntouched entries
+JudgesWith judged (Err reported) certificate entries outcome =
+    (outcome ≡ reported) × IsUntouched certificate × IsUntouched entries
 
 -- The outcome is that of what the three readers returned.
 abbrev pub Judges : Option Side → Device → Device → Device → Outcome → Type 0
@@ -148,5 +149,5 @@ pub record Checks (judged : Option Side) (entries table certificate : Device) (t
   pub outcome : Outcome
   pub line : List ℕ
   pub judges : Judges judged entries table certificate outcome
-  pub says : Says outcome line status
+  pub says : IsOutcomeLine outcome line status
   pub takes : Appends taken taken' line

@@ -24,4 +24,5 @@ lost_of side _ _ = 0
 -- The outcome is the verdict on both ends, and it holds; the findings are those on each end, and they hold.
 abbrev pub AreBlamed : Table → List Entry → Outcome → Option Ends → Type 0
 AreBlamed table entries outcome ends = (outcome ≡ joint_verdict None table entries) × IsShown None table entries outcome
-    × ((said : Ends) × (ends ≡ Some said) × (said ≡ ends_of table entries) × AreFound table entries said)
+    × ((reported : Ends) × (ends ≡ Some reported) × (reported ≡ ends_of table entries)
+    × AreFound table entries reported)

@@ -7,7 +7,7 @@ use Rattle.tcap_model.specs.World.{Item}
 use Rattle.tcap_certificate.specs.LossCounts.{IsLawfulUnheard}
 use Rattle.tcap_judge.specs.declared.outcome.Outcome.TheVariants.{LawfulFor}
 use Rattle.tcap_judge.specs.Device.{Device}
-use Rattle.tcap_judge.specs.LawfulRecord.{FindsLawful, TellsItems}
+use Rattle.tcap_judge.specs.LawfulRecord.{FindsLawful, ReadsItems}
 use Rattle.tcap_judge.specs.Outcome.{outcome_line}
 
 -- The readers returned a record and an operation table. Some run, in which this end keeps the rules and its peer may do
@@ -17,7 +17,7 @@ pub record FindsLawfulFor (side : Side) (entries table : Device) (taken taken' :
   pub operations : Table
   pub items : List Item
   pub unheard : ℕ
-  pub told : TellsItems entries table operations items
+  pub returned : ReadsItems entries table operations items
   pub lawful : IsLawfulUnheard side items operations unheard
   pub line : Appends taken taken' (outcome_line (LawfulFor (length items) unheard))
 

@@ -19,9 +19,9 @@ lawful_by None count events = Lawful count
 lawful_by (Some side) count events = LawfulFor count (unheard_of side events)
 
 -- the lawful outcome for this many entries and, for one end, this many unheard messages of its peer
-abbrev pub said_lawful : Option Side → ℕ → ℕ → Outcome
-said_lawful None count unheard = Lawful count
-said_lawful (Some side) count unheard = LawfulFor count unheard
+abbrev pub lawful_outcome : Option Side → ℕ → ℕ → Outcome
+lawful_outcome None count unheard = Lawful count
+lawful_outcome (Some side) count unheard = LawfulFor count unheard
 
 -- The entries are items that the judged ends may have sent.
 abbrev pub AreLawful : Option Side → Table → List Entry → Type 0

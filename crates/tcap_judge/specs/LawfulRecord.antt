@@ -23,16 +23,16 @@ SpellsRecord (Item.Quiet ∷ items) octets =
     (others : List ℕ) × (octets ≡ quiet_octet ∷ others) × SpellsRecord items others
 
 -- The reader returned these octets, up to its end.
-abbrev pub TellsAll : Device → List ℕ → Type 0
-TellsAll d octets = Consumes d.before d.after octets × IsAtEnd d.after
+abbrev pub ReadsAllOctets : Device → List ℕ → Type 0
+ReadsAllOctets d octets = Consumes d.before d.after octets × IsAtEnd d.after
 
 -- Two readers returned the octets of a record and the text of an operation table, both up to their ends, and the octets
 -- spell these items.
-pub record TellsItems (entries table : Device) (operations : Table) (items : List Item) : Type 0 where
+pub record ReadsItems (entries table : Device) (operations : Table) (items : List Item) : Type 0 where
   pub octets : List ℕ
   pub text : List ℕ
-  pub tells : TellsAll entries octets
-  pub tells_table : TellsAll table text
+  pub tells : ReadsAllOctets entries octets
+  pub tells_table : ReadsAllOctets table text
   pub is_table : IsTableOf text (Ok operations)
   pub spells : SpellsRecord items octets
 
@@ -47,6 +47,6 @@ pub record FindsLawful (entries table : Device) (taken taken' : Option (List ℕ
   pub operations : Table
   pub items : List Item
   pub moves : ℕ
-  pub told : TellsItems entries table operations items
+  pub returned : ReadsItems entries table operations items
   pub lawful : IsLawful items operations moves
   pub line : Appends taken taken' (lawful_line (length items))

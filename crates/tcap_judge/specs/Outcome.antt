@@ -74,14 +74,14 @@ outcome_status (Faulty number place) = statuses.Fault
 
 -- The line and the status are those of the outcome. Or the line reports that memory ran out, with the status of a
 -- fault.
-abbrev pub Says : Outcome → List ℕ → Status → Type 0
-Says outcome line status =
+abbrev pub IsOutcomeLine : Outcome → List ℕ → Status → Type 0
+IsOutcomeLine outcome line status =
     ((line ≡ outcome_line outcome) × (status ≡ outcome_status outcome))
     ⊎ ((line ≡ memory_line) × (status ≡ statuses.Fault))
 
 -- The text and the status are those of the outcome, with more text after its line. Or the text reports only that memory
 -- ran out.
-abbrev pub SaysWith : Outcome → List ℕ → List ℕ → Status → Type 0
-SaysWith outcome behind text status =
+abbrev pub IsOutcomeText : Outcome → List ℕ → List ℕ → Status → Type 0
+IsOutcomeText outcome behind text status =
     ((text ≡ outcome_line outcome ++ behind) × (status ≡ outcome_status outcome))
     ⊎ ((text ≡ memory_line) × (status ≡ statuses.Fault))

@@ -27,16 +27,16 @@ use Rattle.tcap_judge.specs.declared.outcome.Outcome.{Outcome}
 use Rattle.tcap_judge.specs.declared.outcome.Outcome.TheVariants.{Lawful, LawfulFor, Refuted, Undecided, Faulty}
 use Rattle.tcap_lines.specs.declared.status.Status.{Status}
 use Rattle.tcap_judge.specs.LawfulOutcome.{IsShown, lawful_by, replayed_by}
-use Rattle.tcap_judge.specs.Outcome.{SaysWith, refuted_line}
+use Rattle.tcap_judge.specs.Outcome.{IsOutcomeText, refuted_line}
 use Rattle.tcap_judge.specs.CheckOutcome.{ReadsRecord, ReadsTable, out_of_memory}
 use Rattle.tcap_judge.specs.Device.{Device, IsUntouched}
 use Rattle.tcap_judge.specs.LawfulEnd.{FindsLawfulBy}
-use Rattle.tcap_judge.specs.LawfulRecord.{TellsAll}
+use Rattle.tcap_judge.specs.LawfulRecord.{ReadsAllOctets}
 
 -- the entry at fault: the first that `refuted` finds for both ends, or that `blamed` finds for one end
-abbrev pub named_by : Option Side → Table → List Entry → Option Refutation
-named_by None table entries = refuted table (map item_of entries)
-named_by (Some side) table entries = blamed table side entries
+abbrev pub refutation_by : Option Side → Table → List Entry → Option Refutation
+refutation_by None table entries = refuted table (map item_of entries)
+refutation_by (Some side) table entries = blamed table side entries
 
 -- the proposed certificate
 abbrev pub proposed_by : Option Side → List Entry → Certificate
@@ -52,7 +52,7 @@ verdict_by judged count None (Err fault) = Undecided fault
 -- the verdict on these entries, for both ends or for one alone
 abbrev pub verdict_of : Option Side → Table → List Entry → Outcome
 verdict_of judged table entries =
-    verdict_by judged (length entries) (named_by judged table entries)
+    verdict_by judged (length entries) (refutation_by judged table entries)
     (replayed_by judged table (proposed_by judged entries) entries)
 
 -- the verdict on both ends
@@ -121,8 +121,8 @@ GivesVerdict judged table with_certificate d outcome behind =
 abbrev pub GivesVerdictWith : Option Side → Result Table Outcome → Bool → Device → Outcome → List ℕ → Type 0
 GivesVerdictWith judged (Ok table) with_certificate entries outcome behind =
     GivesVerdict judged table with_certificate entries outcome behind
-GivesVerdictWith judged (Err said) with_certificate entries outcome behind =
-    (outcome ≡ said) × (behind ≡ []) × IsUntouched entries
+GivesVerdictWith judged (Err reported) with_certificate entries outcome behind =
+    (outcome ≡ reported) × (behind ≡ []) × IsUntouched entries
 
 -- The outcome, and the text after its line, are those of what the two readers returned.
 abbrev pub IsJudged : Option Side → Bool → Device → Device → Outcome → List ℕ → Type 0
@@ -138,7 +138,7 @@ pub record PrintsVerdict (judged : Option Side) (with_certificate : Bool) (entri
   pub behind : List ℕ
   pub text : List ℕ
   pub given : IsJudged judged with_certificate entries table outcome behind
-  pub says : SaysWith outcome behind text status
+  pub says : IsOutcomeText outcome behind text status
   pub takes : Appends taken taken' text
 
 -- ---- what the lines mean
@@ -179,8 +179,8 @@ pub record FindsFault (judged : Option Side) (entries table : Device) (taken tak
   pub operations : Table
   pub read : List Entry
   pub refutation : Refutation
-  pub tells : TellsAll entries octets
-  pub tells_table : TellsAll table text
+  pub tells : ReadsAllOctets entries octets
+  pub tells_table : ReadsAllOctets table text
   pub is_table : IsTableOf text (Ok operations)
   pub is_read : IsReadAs read (Ok tt) octets
   pub at_fault : IsAtFaultBy judged operations read refutation

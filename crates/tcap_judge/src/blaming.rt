@@ -12,17 +12,17 @@ ghost use Rattle.tcap_refute.specs.Kind.{refuted};
 ghost use Rattle.tcap_faults.specs.Fault.{blamed};
 ghost use Rattle.tcap_search.specs.CertificateSoFar.{or_both};
 ghost use Rattle.tcap_search.specs.ProposedCertificate.{proposed, proposed_for};
-ghost use Rattle.tcap_judge.specs.BlameOutcome.{AreFound, FindsLawfulEnds, GivesBlame, IsBlamed, IsFound, PrintsBlame, SaysLines, ends_of, finding, lines_behind};
+ghost use Rattle.tcap_judge.specs.BlameOutcome.{AreFound, FindsLawfulEnds, GivesBlame, IsBlamed, IsFound, PrintsBlame, IsBlameText, ends_of, finding, lines_behind};
 ghost use Rattle.tcap_judge.specs.Device.{device};
 ghost use Rattle.tcap_judge.specs.EndFindings.{AreBlamed};
 ghost use Rattle.tcap_judge.specs.LawfulOutcome.{IsShown};
 ghost use Rattle.tcap_judge.specs.Outcome.{outcome_line};
 ghost use Rattle.tcap_judge.specs.Verdict.{verdict};
 
-use crate::case_reading::read_table;
 use crate::each_end::{find_alike, find_lawful, find_with, items_before};
 use crate::findings::{Ends, Finding, blame_status};
 use crate::outcome::{OUT_OF_MEMORY, Outcome, push_outcome};
+use crate::table_and_certificate::read_table;
 use crate::verdicts::{judge_by_search, replay};
 use std::alloc::{AllocError, Global};
 use tcap_ber::{Read, Write};
@@ -74,8 +74,8 @@ fn find_end(
 ) -> Result<Finding, AllocError>
     requires few { length read.now.entries.items ≤ 100000 }
     requires named { named ≡ blamed table.now end read.now.entries.items }
-    ensures { IfOk result (λ said. (said ≡ finding table.now read.now.entries.items end)
-        × IsFound end table.now read.now.entries.items said) }
+    ensures { IfOk result (λ reported. (reported ≡ finding table.now read.now.entries.items end)
+        × IsFound end table.now read.now.entries.items reported) }
 {
     if let Some(refutation) = named {
         return Ok(Finding::Blamed(refutation));
@@ -115,8 +115,8 @@ fn find_lawful_end(
     requires few { length read.now.entries.items ≤ 100000 }
     requires given { (events : List Event) × (replayed_by None table.now both.now read.now.entries.items ≡ Ok events) }
     requires proposed { or_both both.now alone.now ≡ proposed_for end read.now.entries.items }
-    ensures { IfOk result (λ said. (said ≡ finding table.now read.now.entries.items end)
-        × IsFound end table.now read.now.entries.items said) }
+    ensures { IfOk result (λ reported. (reported ≡ finding table.now read.now.entries.items end)
+        × IsFound end table.now read.now.entries.items reported) }
 {
     match alone {
         Some(certificate) => find_lawful(alloc, read, table, both, certificate, end),
@@ -137,8 +137,8 @@ fn find_other_end(
 ) -> Result<Finding, AllocError>
     requires proposed { or_both both.now alone.now ≡ proposed_for end read.now.entries.items }
     requires named { named ≡ blamed table.now end read.now.entries.items }
-    ensures { IfOk result (λ said. (said ≡ finding table.now read.now.entries.items end)
-        × IsFound end table.now read.now.entries.items said) }
+    ensures { IfOk result (λ reported. (reported ≡ finding table.now read.now.entries.items end)
+        × IsFound end table.now read.now.entries.items reported) }
 {
     match alone {
         Some(certificate) => find_with(alloc, read, table, certificate, end, named),
@@ -209,7 +209,7 @@ fn joined(read: &Record, table: &Table, outcome: Outcome, ends: Ends) -> Blame
 fn blame_by_search(alloc: Global, read: &Record, table: &Table) -> Result<Blame, AllocError>
     requires few { length read.now.entries.items ≤ 100000 }
     requires sound { refuted table.now (map item_of read.now.entries.items) ≡ None }
-    ensures { IfOk result (λ said. AreBlamed table.now read.now.entries.items said.outcome said.ends) }
+    ensures { IfOk result (λ reported. AreBlamed table.now read.now.entries.items reported.outcome reported.ends) }
 {
     let Ok(proposals) = search_each(alloc, read) else {
         return Err(AllocError);
@@ -234,7 +234,7 @@ fn blame_by_search(alloc: Global, read: &Record, table: &Table) -> Result<Blame,
 /// `AllocError` if memory runs out.
 pub fn blame_record(alloc: Global, read: &Record, table: &Table) -> Result<Blame, AllocError>
     requires few { length read.now.entries.items ≤ 100000 }
-    ensures { IfOk result (λ said. AreBlamed table.now read.now.entries.items said.outcome said.ends) }
+    ensures { IfOk result (λ reported. AreBlamed table.now read.now.entries.items reported.outcome reported.ends) }
 {
     match refute(alloc, read, table) {
         Ok(Some(refutation)) => {
@@ -253,7 +253,7 @@ fn blame_told<R: Read>(alloc: Global, reader: &mut R, table: &Table) -> Blame
     laws::blamed_is_at_fault();
     match read_record(alloc, reader) {
         Ok(read) => match blame_record(alloc, &read, table) {
-            Ok(said) => said,
+            Ok(reported) => reported,
             Err(AllocError) => Blame::alone(OUT_OF_MEMORY),
         },
         Err(fault) => Blame::alone(Outcome::Faulty(fault.reason.number(), fault.place)),
@@ -273,12 +273,12 @@ pub fn blame_outcome<R: Read, T: Read>(alloc: Global, entries: &mut R, table: &m
 }
 
 /// Appends the line of the outcome, and the lines of the findings. Fails if memory runs out.
-fn push_said(text: &mut String, said: &Blame) -> Result<(), AllocError>
+fn push_said(text: &mut String, reported: &Blame) -> Result<(), AllocError>
     ensures { OnOk result (string_bytes text.new
-        ≡ string_bytes text.old ++ outcome_line said.now.outcome ++ lines_behind said.now.ends) }
+        ≡ string_bytes text.old ++ outcome_line reported.now.outcome ++ lines_behind reported.now.ends) }
 {
-    push_outcome(text, said.outcome)?;
-    match said.ends {
+    push_outcome(text, reported.outcome)?;
+    match reported.ends {
         Some(ends) => ends.push(text),
         None => Ok(()),
     }
@@ -286,18 +286,22 @@ fn push_said(text: &mut String, said: &Blame) -> Result<(), AllocError>
 
 /// Writes the lines of a verdict with findings, or the line that memory ran out, and returns the status. The text is
 /// complete before its first octet is written. Fails if the writer fails.
-fn write_said<W: Write>(alloc: Global, said: &Blame, writer: &mut W) -> Result<Status, WriteFailed>
+fn write_said<W: Write>(
+    alloc: Global,
+    reported: &Blame,
+    writer: &mut W,
+) -> Result<Status, WriteFailed>
     ensures text { IfOk result (λ status. (text : List ℕ)
-        × SaysLines said.now.outcome said.now.ends text status
+        × IsBlameText reported.now.outcome reported.now.ends text status
         × Appends (W.taken writer.old) (W.taken writer.new) text) }
     ensures counts { OnOk result (W.failures writer.new ≡ W.failures writer.old) }
     ensures failed { OnErr result (W.failures writer.new ≡ one_more (W.failures writer.old)) }
 {
     let mut text = String::new(alloc);
-    match push_said(&mut text, said) {
+    match push_said(&mut text, reported) {
         Ok(()) => {
             write_line(writer, text.as_bytes())?;
-            Ok(blame_status(said.ends, said.outcome))
+            Ok(blame_status(reported.ends, reported.outcome))
         }
         Err(AllocError) => {
             write_line(writer, MEMORY_LINE.as_bytes())?;
@@ -343,6 +347,6 @@ pub fn run_blame<R: Read, T: Read, W: Write>(
     ensures counts { OnOk result (W.failures writer.new ≡ W.failures writer.old) }
     ensures failed { OnErr result (W.failures writer.new ≡ one_more (W.failures writer.old)) }
 {
-    let said = blame_outcome(alloc, entries, table);
-    write_said(alloc, &said, writer)
+    let reported = blame_outcome(alloc, entries, table);
+    write_said(alloc, &reported, writer)
 }

@@ -7,17 +7,17 @@ ghost use Rattle.tcap_record.specs.declared.entry.Entry.{Entry};
 ghost use Rattle.tcap_record.specs.declared.fault.FeedFault.{FeedFault};
 ghost use Rattle.tcap_record.specs.declared.fault.FeedReason.{FeedReason};
 ghost use Rattle.tcap_record.specs.FramingResult.{feed_fault};
-ghost use Rattle.tcap_record.specs.PartialRecord.{IsFront, IsHeld, IsPart, IsWhole, nothing_held};
+ghost use Rattle.tcap_record.specs.PartialRecord.{IsFront, IsFramerState, IsPart, IsWhole, empty_framer};
 ghost use Rattle.tcap_record.specs.EntryView.{entry_read};
 ghost use Rattle.tcap_judge.specs.CheckOutcome.{Checks, Judges, JudgesRecord};
 ghost use Rattle.tcap_judge.specs.Device.{device};
 ghost use Rattle.tcap_judge.specs.LawfulEnd.{FindsLawfulBy};
-ghost use Rattle.tcap_judge.specs.LawfulOutcome.{said_lawful};
+ghost use Rattle.tcap_judge.specs.LawfulOutcome.{lawful_outcome};
 ghost use Rattle.tcap_judge.specs.PiecewiseReplay.{Finishes, Leads, LeadsFed, LeadsToEnd, IsCheckerOf, Takes};
-ghost use Rattle.tcap_judge.specs.Outcome.{Says};
+ghost use Rattle.tcap_judge.specs.Outcome.{IsOutcomeLine};
 
-use crate::case_reading::{read_certificate, read_table};
 use crate::outcome::{OUT_OF_MEMORY, Outcome, write_outcome};
+use crate::table_and_certificate::{read_certificate, read_table};
 use std::alloc::{AllocError, Global};
 use tcap_ber::{Failed, Read, Write};
 use tcap_check::{Certificate, CheckFault, Checker, Reason, Report};
@@ -69,7 +69,7 @@ fn take_piece(
         × LeadsFed frames.old checker.old (take n piece.now) frames.new) }
     ensures grows { OnOk result (frames.new.place + length frames.new.octets
         ≡ frames.old.place + length frames.old.octets + length piece.now) }
-    ensures held { IsHeld frames.old → IsHeld frames.new }
+    ensures held { IsFramerState frames.old → IsFramerState frames.new }
 {
     let mut rest = piece;
     loop {
@@ -88,16 +88,16 @@ fn take_all<R: Read>(
     checker: &mut Result<Checker, CheckFault>,
     reader: &mut R,
 ) -> Result<(), FeedFault>
-    requires fresh { frames.old ≡ nothing_held }
+    requires fresh { frames.old ≡ empty_framer }
     ensures { LeadsToEnd checker.old (device R.untold R.failures reader.old reader.new)
         frames.new checker.new result }
 {
     let mut piece = [0; PIECE_LEN];
     loop {
         let taken = frames.taken();
-        let told = match reader.read(&mut piece) {
+        let returned = match reader.read(&mut piece) {
             Ok(0) => return frames.finish(),
-            Ok(told) => told,
+            Ok(returned) => returned,
             Err(Failed) => {
                 return Err(FeedFault {
                     reason: FeedReason::Read,
@@ -105,13 +105,13 @@ fn take_all<R: Read>(
                 });
             }
         };
-        take_piece(frames, checker, &piece[..told])?;
+        take_piece(frames, checker, &piece[..returned])?;
     }
 }
 
 /// Returns the lawful outcome for this many entries, from the report of a run.
 pub(crate) fn lawful_of(judged: Option<End>, count: usize, report: Report) -> Outcome
-    ensures { result ≡ said_lawful judged count report.unheard }
+    ensures { result ≡ lawful_outcome judged count report.unheard }
 {
     match judged {
         None => Outcome::Lawful(count),

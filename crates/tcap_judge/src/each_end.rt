@@ -93,8 +93,8 @@ fn find_by(
 ) -> Result<Finding, AllocError>
     requires sound { blamed table.now end read.now.entries.items ≡ None }
     requires proposed { certificate.now ≡ proposed_for end read.now.entries.items }
-    ensures { IfOk result (λ said. (said ≡ finding table.now read.now.entries.items end)
-        × IsFound end table.now read.now.entries.items said) }
+    ensures { IfOk result (λ reported. (reported ≡ finding table.now read.now.entries.items end)
+        × IsFound end table.now read.now.entries.items reported) }
 {
     let count = items_before(&read.entries);
     match replay(alloc, read, table, certificate, Some(end)) {
@@ -116,8 +116,8 @@ pub(crate) fn find_with(
 ) -> Result<Finding, AllocError>
     requires proposed { certificate.now ≡ proposed_for end read.now.entries.items }
     requires named { named ≡ blamed table.now end read.now.entries.items }
-    ensures { IfOk result (λ said. (said ≡ finding table.now read.now.entries.items end)
-        × IsFound end table.now read.now.entries.items said) }
+    ensures { IfOk result (λ reported. (reported ≡ finding table.now read.now.entries.items end)
+        × IsFound end table.now read.now.entries.items reported) }
 {
     match named {
         Some(refutation) => Ok(Finding::Blamed(refutation)),
@@ -137,8 +137,8 @@ pub(crate) fn find_lawful(
 ) -> Result<Finding, AllocError>
     requires given { (events : List Event) × (replayed_by None table.now both.now read.now.entries.items ≡ Ok events) }
     requires proposed { certificate.now ≡ proposed_for end read.now.entries.items }
-    ensures { IfOk result (λ said. (said ≡ finding table.now read.now.entries.items end)
-        × IsFound end table.now read.now.entries.items said) }
+    ensures { IfOk result (λ reported. (reported ≡ finding table.now read.now.entries.items end)
+        × IsFound end table.now read.now.entries.items reported) }
 {
     laws::blamed_is_never_given();
     find_by(alloc, read, table, certificate, end)

@@ -2,7 +2,7 @@
 
 ghost use Rattle.std.specs.Prelude.{◌≡◌, ◌&&◌, ◌++◌, Some, OnOk};
 ghost use Rattle.std.specs.String.{string_bytes};
-ghost use Rattle.tcap_judge.specs.BlameOutcome.{blame_status, ends_lines, finding_by, finding_line, is_blamed, is_lawful, stands_behind, unblamed_status, verdict_by_ends};
+ghost use Rattle.tcap_judge.specs.BlameOutcome.{blame_status, ends_lines, finding_by, finding_line, is_blamed, is_lawful, comes_after, unblamed_status, verdict_by_ends};
 
 use crate::outcome::Outcome;
 use std::alloc::AllocError;
@@ -81,8 +81,8 @@ pub fn push_finding(text: &mut String, end: End, finding: Finding) -> Result<(),
 }
 
 /// Returns whether the line of A comes after the line of B: B is blamed, and A is not, or for a later entry.
-pub fn stands_behind(a: Finding, b: Finding) -> bool
-    ensures { result ≡ stands_behind a b }
+pub fn comes_after(a: Finding, b: Finding) -> bool
+    ensures { result ≡ comes_after a b }
 {
     match (a, b) {
         (Finding::Blamed(a), Finding::Blamed(b)) => b.entry < a.entry,
@@ -107,7 +107,7 @@ impl Ends {
     pub(crate) fn push(self, text: &mut String) -> Result<(), AllocError>
         ensures { OnOk result (string_bytes text.new ≡ string_bytes text.old ++ ends_lines self) }
     {
-        if stands_behind(self.a, self.b) {
+        if comes_after(self.a, self.b) {
             push_finding(text, End::B, self.b)?;
             push_finding(text, End::A, self.a)
         } else {

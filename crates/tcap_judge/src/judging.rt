@@ -6,9 +6,9 @@ ghost use Rattle.tcap_ber.specs.Device.{one_more};
 ghost use Rattle.tcap_judge.specs.Device.{device};
 ghost use Rattle.tcap_judge.specs.Verdict.{FindsFault, FindsLawfulThen, GivesVerdict, IsJudged, PrintsVerdict};
 
-use crate::case_reading::read_table;
 use crate::outcome::{OUT_OF_MEMORY, Outcome, write_outcome};
-use crate::verdicts::{Said, judge_record};
+use crate::table_and_certificate::read_table;
+use crate::verdicts::{RecordVerdict, judge_record};
 use std::alloc::{AllocError, Global};
 use tcap_ber::{Read, Write};
 use tcap_end::Table;
@@ -23,15 +23,18 @@ fn judge_told<R: Read>(
     table: &Table,
     judged: Option<End>,
     with_certificate: bool,
-) -> Said
+) -> RecordVerdict
     ensures { GivesVerdict judged table.now with_certificate (device R.untold R.failures reader.old reader.new) result.outcome (string_bytes result.behind) }
 {
     match read_record(alloc, reader) {
         Ok(read) => match judge_record(alloc, &read, table, judged, with_certificate) {
-            Ok(said) => said,
-            Err(AllocError) => Said::alone(alloc, OUT_OF_MEMORY),
+            Ok(reported) => reported,
+            Err(AllocError) => RecordVerdict::alone(alloc, OUT_OF_MEMORY),
         },
-        Err(fault) => Said::alone(alloc, Outcome::Faulty(fault.reason.number(), fault.place)),
+        Err(fault) => RecordVerdict::alone(
+            alloc,
+            Outcome::Faulty(fault.reason.number(), fault.place),
+        ),
     }
 }
 
@@ -43,13 +46,13 @@ fn judge<R: Read, T: Read>(
     table: &mut T,
     judged: Option<End>,
     with_certificate: bool,
-) -> Said
+) -> RecordVerdict
     ensures { IsJudged judged with_certificate (device R.untold R.failures entries.old entries.new)
         (device T.untold T.failures table.old table.new) result.outcome (string_bytes result.behind) }
 {
     match read_table(alloc, table) {
         Ok(table) => judge_told(alloc, entries, &table, judged, with_certificate),
-        Err(outcome) => Said::alone(alloc, outcome),
+        Err(outcome) => RecordVerdict::alone(alloc, outcome),
     }
 }
 
@@ -110,6 +113,6 @@ pub fn run_judge<R: Read, T: Read, W: Write>(
 {
     laws::refuted_is_at_fault();
     tcap_faults::laws::blamed_is_at_fault();
-    let said = judge(alloc, entries, table, judged, with_certificate);
-    write_outcome(alloc, said.outcome, &said.behind, writer)
+    let reported = judge(alloc, entries, table, judged, with_certificate);
+    write_outcome(alloc, reported.outcome, &reported.behind, writer)
 }

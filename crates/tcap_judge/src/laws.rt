@@ -14,7 +14,7 @@ ghost use Rattle.tcap_model.specs.Run.{Event, IsRunOf};
 ghost use Rattle.tcap_model.specs.World.{Item};
 ghost use Rattle.tcap_certificate.specs.Certificate.{Certificate, IsPrompt, prompt};
 ghost use Rattle.tcap_certificate.specs.DescribedRun.{IsPlain};
-ghost use Rattle.tcap_check.specs.GivenRun.{DeliversAtOnce, IsSeen};
+ghost use Rattle.tcap_check.specs.GivenRun.{DeliversAtOnce, IsVisible};
 ghost use Rattle.tcap_certificate.specs.Replay.{replayed_by};
 ghost use Rattle.tcap_refute.specs.declared.kind.Refutation.{Refutation};
 ghost use Rattle.tcap_faults.specs.Fault.{blamed};
@@ -54,7 +54,7 @@ pub fn octets_spell_one_list()
 pub fn prompt_octets_are_given()
     ensures { (table : Table) (items : List Item) (octets : List ℕ) (entries : List Entry) (events : List Event)
         → SpellsRecord items octets → length items ≤ entry_limit → IsReadAs entries (Ok tt) octets
-        → IsRunOf items table events → AllByRecursion IsSeen events → DeliversAtOnce table events
+        → IsRunOf items table events → AllByRecursion IsVisible events → DeliversAtOnce table events
         → (given : List Event) × (replayed_by None table (prompt (length items)) entries ≡ Ok given) }
 {}
 

@@ -4,7 +4,7 @@ ghost use Rattle.std.specs.Prelude.{◌≡◌, ◌++◌, ℕ, List, IfOk, OnOk, 
 ghost use Rattle.std.specs.Io.KnownBytes.{Appends};
 ghost use Rattle.std.specs.String.{string_bytes};
 ghost use Rattle.tcap_ber.specs.Device.{one_more};
-ghost use Rattle.tcap_judge.specs.Outcome.{SaysWith, inner_number, not_shown_line, reason_text};
+ghost use Rattle.tcap_judge.specs.Outcome.{IsOutcomeText, inner_number, not_shown_line, reason_text};
 ghost use Rattle.tcap_judge.specs.Outcome.{outcome_line, outcome_status, refuted_line, undecided_line};
 
 use std::alloc::{AllocError, Global};
@@ -141,7 +141,7 @@ pub fn write_outcome<W: Write>(
     behind: &str,
     writer: &mut W,
 ) -> Result<Status, WriteFailed>
-    ensures text { IfOk result (λ status. (text : List ℕ) × SaysWith outcome behind.now text status
+    ensures text { IfOk result (λ status. (text : List ℕ) × IsOutcomeText outcome behind.now text status
         × Appends (W.taken writer.old) (W.taken writer.new) text) }
     ensures counts { OnOk result (W.failures writer.new ≡ W.failures writer.old) }
     ensures failed { OnErr result (W.failures writer.new ≡ one_more (W.failures writer.old)) }

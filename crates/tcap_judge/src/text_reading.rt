@@ -39,14 +39,14 @@ pub(crate) fn read_text<R: Read>(
     let mut piece = [0; PIECE_LEN];
     let mut text = Vec::new(alloc);
     loop {
-        let told = match reader.read(&mut piece) {
+        let returned = match reader.read(&mut piece) {
             Ok(0) => return Ok(text),
-            Ok(told) => told,
+            Ok(returned) => returned,
             Err(Failed) => return Err(TextFault::Read(text.len() as u64)),
         };
-        if told > limit - text.len() {
+        if returned > limit - text.len() {
             return Err(TextFault::TooLong);
         }
-        text.extend_from_slice(&piece[..told])?;
+        text.extend_from_slice(&piece[..returned])?;
     }
 }

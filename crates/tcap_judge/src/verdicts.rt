@@ -8,7 +8,7 @@ ghost use Rattle.tcap_model.specs.declared.reason.Reason.TheVariants as reasons;
 ghost use Rattle.tcap_model.specs.Entries.{item_of};
 ghost use Rattle.tcap_refute.specs.Kind.{refuted};
 ghost use Rattle.tcap_judge.specs.LawfulOutcome.{IsShown, lawful_by, replayed_by};
-ghost use Rattle.tcap_judge.specs.Verdict.{IsVerdict, IsVerdictBySearch, line_asked, line_of_certificate, named_by, proposed_by};
+ghost use Rattle.tcap_judge.specs.Verdict.{IsVerdict, IsVerdictBySearch, line_asked, line_of_certificate, refutation_by, proposed_by};
 
 use crate::checking::lawful_of;
 use crate::laws;
@@ -24,20 +24,20 @@ use tcap_search::{search, search_for};
 
 /// A verdict on a record, with the text to print after its line.
 #[derive(Debug, Drop)]
-pub struct Said {
+pub struct RecordVerdict {
     /// The verdict.
     pub outcome: Outcome,
     /// The text after the verdict's line: the certificate on its own line, or nothing.
     pub behind: String,
 }
 
-impl Said {
+impl RecordVerdict {
     /// Returns this verdict with no text after it.
-    pub(crate) fn alone(alloc: Global, outcome: Outcome) -> Said
+    pub(crate) fn alone(alloc: Global, outcome: Outcome) -> RecordVerdict
         ensures outcome { result.outcome ≡ outcome }
         ensures behind { string_bytes result.behind ≡ [] }
     {
-        Said {
+        RecordVerdict {
             outcome,
             behind: String::new(alloc),
         }
@@ -57,7 +57,7 @@ pub fn named(
     table: &Table,
     judged: Option<End>,
 ) -> Result<Option<Refutation>, AllocError>
-    ensures { IfOk result (λ r. r ≡ named_by judged table.now read.now.entries.items) }
+    ensures { IfOk result (λ r. r ≡ refutation_by judged table.now read.now.entries.items) }
 {
     let found = match judged {
         None => refute(alloc, read, table),
@@ -119,14 +119,14 @@ fn shown(
     outcome: Outcome,
     certificate: &Certificate,
     with_certificate: bool,
-) -> Result<Said, AllocError>
-    ensures { IfOk result (λ said. (said.outcome ≡ outcome)
-        × (string_bytes said.behind ≡ line_asked with_certificate certificate.now)) }
+) -> Result<RecordVerdict, AllocError>
+    ensures { IfOk result (λ reported. (reported.outcome ≡ outcome)
+        × (string_bytes reported.behind ≡ line_asked with_certificate certificate.now)) }
 {
     if !with_certificate {
-        return Ok(Said::alone(alloc, outcome));
+        return Ok(RecordVerdict::alone(alloc, outcome));
     }
-    Ok(Said {
+    Ok(RecordVerdict {
         outcome,
         behind: line_of(alloc, certificate)?,
     })
@@ -139,16 +139,16 @@ pub(crate) fn judge_by_search(
     table: &Table,
     judged: Option<End>,
     with_certificate: bool,
-) -> Result<Said, AllocError>
+) -> Result<RecordVerdict, AllocError>
     requires few { length read.now.entries.items ≤ 100000 }
-    ensures { IfOk result (λ said. IsVerdictBySearch judged table.now with_certificate read.now.entries.items said.outcome
-        (string_bytes said.behind)) }
+    ensures { IfOk result (λ reported. IsVerdictBySearch judged table.now with_certificate read.now.entries.items reported.outcome
+        (string_bytes reported.behind)) }
 {
     let certificate = propose(alloc, read, judged)?;
     match replay(alloc, read, table, &certificate, judged) {
         Ok(outcome) => shown(alloc, outcome, &certificate, with_certificate),
         Err(fault) if matches!(fault.reason, Reason::Memory) => Err(AllocError),
-        Err(fault) => Ok(Said::alone(alloc, Outcome::Undecided(fault))),
+        Err(fault) => Ok(RecordVerdict::alone(alloc, Outcome::Undecided(fault))),
     }
 }
 
@@ -171,20 +171,21 @@ fn judge_end(
     table: &Table,
     end: End,
     with_certificate: bool,
-) -> Result<Said, AllocError>
+) -> Result<RecordVerdict, AllocError>
     requires few { length read.now.entries.items ≤ 100000 }
-    ensures { IfOk result (λ said. IsVerdict (Some end) table.now with_certificate read.now.entries.items said.outcome
-        (string_bytes said.behind)) }
+    ensures { IfOk result (λ reported. IsVerdict
+        (Some end) table.now with_certificate read.now.entries.items reported.outcome
+        (string_bytes reported.behind)) }
 {
     laws::blamed_is_never_given();
-    let said = judge_by_search(alloc, read, table, Some(end), with_certificate)?;
-    if let Outcome::LawfulFor(_, _) = said.outcome {
-        return Ok(said);
+    let reported = judge_by_search(alloc, read, table, Some(end), with_certificate)?;
+    if let Outcome::LawfulFor(_, _) = reported.outcome {
+        return Ok(reported);
     }
     if let Some(refutation) = named(alloc, read, table, Some(end))? {
-        return Ok(Said::alone(alloc, Outcome::Refuted(refutation)));
+        return Ok(RecordVerdict::alone(alloc, Outcome::Refuted(refutation)));
     }
-    Ok(said)
+    Ok(reported)
 }
 
 /// Judges a record of at most 100,000 entries: one end alone, or both if `judged` is `None`. The verdict is an entry at
@@ -199,10 +200,10 @@ pub fn judge_record(
     table: &Table,
     judged: Option<End>,
     with_certificate: bool,
-) -> Result<Said, AllocError>
+) -> Result<RecordVerdict, AllocError>
     requires few { length read.now.entries.items ≤ 100000 }
-    ensures { IfOk result (λ said. IsVerdict judged table.now with_certificate read.now.entries.items said.outcome
-        (string_bytes said.behind)) }
+    ensures { IfOk result (λ reported. IsVerdict judged table.now with_certificate read.now.entries.items reported.outcome
+        (string_bytes reported.behind)) }
 {
     if let Some(end) = judged {
         if !is_refuted(alloc, read, table)? {
@@ -210,7 +211,7 @@ pub fn judge_record(
         }
     }
     match named(alloc, read, table, judged)? {
-        Some(refutation) => Ok(Said::alone(alloc, Outcome::Refuted(refutation))),
+        Some(refutation) => Ok(RecordVerdict::alone(alloc, Outcome::Refuted(refutation))),
         None => judge_by_search(alloc, read, table, judged, with_certificate),
     }
 }

@@ -59,12 +59,12 @@ Prints entries end text status =
 pub record Shows (untold untold' : Option (List ℕ)) (failures failures' : ℕ) (taken taken' : Option (List ℕ))
     (status : Status)
     : Type 0 where
-  pub told : List ℕ
+  pub returned : List ℕ
   pub entries : List Entry
   pub end : Result (Unit {0}) FeedFault
   pub text : List ℕ
-  pub tells : Consumes untold untold' told
-  pub is_read : IsReadAs entries end told
+  pub tells : Consumes untold untold' returned
+  pub is_read : IsReadAs entries end returned
   pub ended : EndsOnlyAtEnd untold' end
   pub failed : FailsOnlyByReader failures failures' end
   pub prints : Prints entries end text status

@@ -2,7 +2,7 @@
 
 ghost use Rattle.std.specs.Prelude.{◌≡◌, IfOk, OnOk, OnErr, ◌⊎◌};
 ghost use Rattle.tcap_ber.specs.Device.{one_more};
-ghost use Rattle.tcap_lines.specs.PackRun.{PacksTold};
+ghost use Rattle.tcap_lines.specs.PackRun.{PacksRead};
 
 use crate::fault_lines::write_fault;
 use crate::status::{Status, WriteFailed};
@@ -23,7 +23,7 @@ pub fn run_pack<R: Read, W: Write, F: Write>(
     writer: &mut W,
     faults: &mut F,
 ) -> Result<Status, WriteFailed>
-    ensures packed { IfOk result (PacksTold (R.untold reader.old) (R.untold reader.new)
+    ensures packed { IfOk result (PacksRead (R.untold reader.old) (R.untold reader.new)
         (R.failures reader.old) (R.failures reader.new)
         (W.taken writer.old) (W.taken writer.new) (F.taken faults.old) (F.taken faults.new)) }
     ensures counts { OnOk result ((W.failures writer.new ≡ W.failures writer.old)

@@ -7,7 +7,7 @@ ghost use Rattle.tcap_record.specs.declared.fault.FeedFault.{FeedFault};
 ghost use Rattle.tcap_record.specs.declared.fault.FeedReason.{FeedReason};
 ghost use Rattle.tcap_record.specs.declared.entry.Entry.{Entry};
 ghost use Rattle.tcap_record.specs.FramingResult.{feed_fault};
-ghost use Rattle.tcap_record.specs.PartialRecord.{IsFront, IsHeld, IsPart, IsWhole, nothing_held};
+ghost use Rattle.tcap_record.specs.PartialRecord.{IsFront, IsFramerState, IsPart, IsWhole, empty_framer};
 ghost use Rattle.tcap_record.specs.Lines.{entry_lines};
 ghost use Rattle.tcap_record.specs.EntryView.{entry_read};
 ghost use Rattle.tcap_lines.specs.declared.stop.Stop.{Stop};
@@ -23,7 +23,7 @@ use tcap_record::{BodyView, EntryView, FeedFault, FeedReason, Frames, PIECE_LEN,
 
 /// The state of printing a record in pieces.
 #[derive(Drop)]
-struct Showing {
+struct ShowState {
     frames: Frames,
     // The lines of one entry.
     text: String,
@@ -78,7 +78,7 @@ fn show_front<W: Write>(
     Ok(Some(show_entry(frames.dropped(), &entry, text, writer)?))
 }
 
-impl Showing {
+impl ShowState {
     /// Takes the whole entries at the front of `piece`, if no octets are held, and writes their lines. Returns the
     /// number of octets taken.
     fn show_whole<W: Write>(&mut self, piece: &[u8], writer: &mut W) -> Result<usize, Stop>
@@ -90,7 +90,7 @@ impl Showing {
             × Leads self.old.frames self.old.bad (W.taken writer.old) (take n piece.now) self.new.frames self.new.bad
             (W.taken writer.new)) }
         ensures octets { self.new.frames.octets ≡ self.old.frames.octets }
-        ensures held { IsHeld self.old.frames → IsHeld self.new.frames }
+        ensures held { IsFramerState self.old.frames → IsFramerState self.new.frames }
         ensures write { result ≡ Err Stop.Write → W.failures writer.new ≡ one_more (W.failures writer.old) }
         ensures others { result ≢ Err Stop.Write → W.failures writer.new ≡ W.failures writer.old }
     {
@@ -113,7 +113,7 @@ impl Showing {
         ensures most { IfOk result (λ n. n ≤ length piece.now) }
         ensures sound { IfOk result (λ n. self.new.frames.fault ≡ None) }
         ensures all { IfOk result (λ n. n < length piece.now → IsWhole self.new.frames.octets) }
-        ensures framed { IfOk result (λ n. IsHeld self.new.frames) }
+        ensures framed { IfOk result (λ n. IsFramerState self.new.frames) }
         ensures grows { IfOk result (λ n. length self.new.frames.octets ≤ length self.old.frames.octets + n) }
         ensures shows { IfOk result (λ n. Leads self.old.frames self.old.bad (W.taken writer.old)
             (take n piece.now) self.new.frames self.new.bad (W.taken writer.new)) }
@@ -122,7 +122,7 @@ impl Showing {
             × ((n : ℕ) × (n ≤ length piece.now)
             × Leads self.old.frames self.old.bad (W.taken writer.old) (take n piece.now) self.new.frames self.new.bad
             (W.taken writer.new)) }
-        ensures held { IsHeld self.old.frames → IsHeld self.new.frames }
+        ensures held { IsFramerState self.old.frames → IsFramerState self.new.frames }
         ensures write { result ≡ Err Stop.Write → W.failures writer.new ≡ one_more (W.failures writer.old) }
         ensures others { result ≢ Err Stop.Write → W.failures writer.new ≡ W.failures writer.old }
     {
@@ -140,7 +140,7 @@ impl Showing {
         ensures sound { OnOk result ((self.new.frames.fault ≡ None) × IsPart self.new.frames.octets) }
         ensures fault { (f : FeedFault) → result ≡ Err (Stop.Fault f) → (f ≡ feed_fault FeedReason.Memory 0)
             ⊎ (self.new.frames.fault ≡ Some f) }
-        ensures held { IsHeld self.old.frames → IsHeld self.new.frames }
+        ensures held { IsFramerState self.old.frames → IsFramerState self.new.frames }
         ensures write { result ≡ Err Stop.Write → W.failures writer.new ≡ one_more (W.failures writer.old) }
         ensures others { result ≢ Err Stop.Write → W.failures writer.new ≡ W.failures writer.old }
     {
@@ -159,11 +159,11 @@ impl Showing {
 
 /// Writes the lines of the record of `reader`, up to its end or the first fault.
 fn show_all<R: Read, W: Write>(
-    showing: &mut Showing,
+    showing: &mut ShowState,
     reader: &mut R,
     writer: &mut W,
 ) -> Result<(), Stop>
-    requires fresh { showing.old.frames ≡ nothing_held }
+    requires fresh { showing.old.frames ≡ empty_framer }
     requires fine { showing.old.bad ≡ false }
     ensures shows { UnlessWrite (ShowsAll (R.untold reader.old) (R.untold reader.new) (R.failures reader.old)
         (R.failures reader.new)
@@ -174,9 +174,9 @@ fn show_all<R: Read, W: Write>(
     let mut piece = [0; PIECE_LEN];
     loop {
         let taken = showing.frames.taken();
-        let told = match reader.read(&mut piece) {
+        let returned = match reader.read(&mut piece) {
             Ok(0) => return Ok(showing.frames.finish()?),
-            Ok(told) => told,
+            Ok(returned) => returned,
             Err(Failed) => {
                 return Err(Stop::Fault(FeedFault {
                     reason: FeedReason::Read,
@@ -184,7 +184,7 @@ fn show_all<R: Read, W: Write>(
                 }));
             }
         };
-        showing.show_piece(&piece[..told], writer)?;
+        showing.show_piece(&piece[..returned], writer)?;
     }
 }
 
@@ -208,7 +208,7 @@ pub fn run_show<R: Read, W: Write>(
     ensures counts { OnOk result (W.failures writer.new ≡ W.failures writer.old) }
     ensures failed { OnErr result (W.failures writer.new ≡ one_more (W.failures writer.old)) }
 {
-    let mut showing = Showing {
+    let mut showing = ShowState {
         frames: Frames::new(alloc),
         text: String::new(alloc),
         bad: false,

@@ -9,14 +9,14 @@ use Rattle.tcap_end.specs.End.{End, nothing, quiet}
 use Rattle.tcap_end.specs.HiddenSteps.{close, expire}
 use Rattle.tcap_end.specs.Message.{receive, send}
 use Rattle.tcap_record.specs.Ends.{other}
-use Rattle.tcap_model.specs.World.{Item, OnItsWay, Sent, World, channel_from, end_at}
-use Rattle.tcap_model.specs.Run.{Event, Sends, Receives, Replies, Loses, Expires, Closes, Quiet, Tells, after, is_told_by, reply_to}
+use Rattle.tcap_model.specs.World.{Item, MessageInTransit, Sent, World, channel_from, end_at}
+use Rattle.tcap_model.specs.Run.{Event, Sends, Receives, Replies, Loses, Expires, Closes, Quiet, Tells, after, is_tells_by, reply_to}
 use Rattle.tcap_model.proofs.RunLaws.{closing, delivery, expiry, loss, quiet as quiet_step, reply, sending, telling}
 
 -- an end, the messages in transit to it, and the items sent
 pub record Seen : Type 0 where
   pub at : End
-  pub coming : List OnItsWay
+  pub coming : List MessageInTransit
   pub sent : List Item
 
 -- the view of a world
@@ -24,7 +24,7 @@ abbrev pub seen : Side → World → Seen
 seen side w = record { at = end_at side w; coming = channel_from (other side) w; sent = w.sent }
 
 -- a message that joins those in transit
-abbrev pub newest : List Item → Message → OnItsWay
+abbrev pub newest : List Item → Message → MessageInTransit
 newest sent m = record { number = length sent; message = m }
 
 -- An act leads from one view to another.
@@ -33,14 +33,14 @@ pub data Acts (table : Table) (side : Side) (s t : Seen) : Type 0 where
   Says : (m : Message) (made : End) → send table s.at m ≡ Ok made
       → t ≡ record s { at = made; sent = s.sent ++ Sent side m ∷ [] } → Acts table side s t
   -- the end receives a message
-  Hears : (head : OnItsWay) (more : List OnItsWay) (made : End) → s.coming ≡ head ∷ more → receive table s.at head.message ≡ Ok made
+  Hears : (head : MessageInTransit) (more : List MessageInTransit) (made : End) → s.coming ≡ head ∷ more → receive table s.at head.message ≡ Ok made
       → t ≡ record s { at = made; coming = more } → Acts table side s t
   -- its provider answers a message
-  Refuses : (head : OnItsWay) (more : List OnItsWay) (abort : Message) → s.coming ≡ head ∷ more
+  Refuses : (head : MessageInTransit) (more : List MessageInTransit) (abort : Message) → s.coming ≡ head ∷ more
       → reply_to s.at head.message ≡ Some abort → t ≡ record s { coming = more; sent = s.sent ++ Sent side abort ∷ [] }
       → Acts table side s t
   -- a message to it is lost
-  Misses : (head : OnItsWay) (more : List OnItsWay) → s.coming ≡ head ∷ more → t ≡ record s { coming = more } → Acts table side s t
+  Misses : (head : MessageInTransit) (more : List MessageInTransit) → s.coming ≡ head ∷ more → t ≡ record s { coming = more } → Acts table side s t
   -- an invocation expires
   Drops : (name : HalfName) (id : ℤ) (made : End) → expire table s.at name id ≡ Ok made → t ≡ record s { at = made }
       → Acts table side s t
@@ -57,7 +57,7 @@ pub data Acts (table : Table) (side : Side) (s t : Seen) : Type 0 where
 
 -- Each step in which the end keeps the rules is an act for it.
 pub step_acts : (table : Table) (side : Side) (event : Event) (w next : World) → after table event w ≡ Some next
-    → is_told_by side event ≡ false → Acts table side (seen side w) (seen side next)
+    → is_tells_by side event ≡ false → Acts table side (seen side w) (seen side next)
 step_acts table A (Sends A m) w next is untold = let s = sending table A m w next is in rw s.next_is (Says m s.made s.step refl)
 step_acts table A (Sends B m) w next is untold = rw (sending table B m w next is).next_is (Told m refl)
 step_acts table B (Sends A m) w next is untold = rw (sending table A m w next is).next_is (Told m refl)

@@ -12,7 +12,7 @@ use Rattle.tcap_msg.specs.declared.message.Message.{Message}
 use Rattle.tcap_record.specs.declared.entry.End.{End as Side}
 use Rattle.tcap_record.specs.declared.entry.End.TheVariants.{A, B}
 use Rattle.tcap_end.specs.Table.{Table}
-use Rattle.tcap_model.specs.World.{Item, OnItsWay, Sent, World, channel_from, empty, is_side}
+use Rattle.tcap_model.specs.World.{Item, MessageInTransit, Sent, World, channel_from, empty, is_side}
 use Rattle.tcap_model.specs.Run.{Event, Sends, Receives, Replies, Loses, Expires, Closes, Quiet, Tells, Runs, after, numbers_of, numbers_sent, numbers_taken, takes_from}
 use Rattle.tcap_model.specs.SinceMark.{WasSent}
 use Rattle.tcap_model.proofs.ListLaws.{all_both, all_weaker}
@@ -91,11 +91,11 @@ get_new [] item = refl
 get_new (first ∷ items) item = get_new items item
 
 -- Messages in transit remain sent since the last mark, if no mark is added.
-still_sent : (side : Side) (w next : World) (messages : List OnItsWay) → IsSentOn w next → AllByRecursion (WasSent w side) messages
+still_sent : (side : Side) (w next : World) (messages : List MessageInTransit) → IsSentOn w next → AllByRecursion (WasSent w side) messages
     → AllByRecursion (WasSent next side) messages
 still_sent side w next messages on = all_weaker (WasSent w side) (WasSent next side) messages (by on)
   where
-    by : IsSentOn w next → (m : OnItsWay) → WasSent w side m → WasSent next side m
+    by : IsSentOn w next → (m : MessageInTransit) → WasSent w side m → WasSent next side m
     by (inl same) m was = record { listed = rw same was.listed; since = rw same was.since }
     by (inr (sender, n, more)) m was = record {
       listed = rw more (get_more w.sent (Sent sender n) (Sent side m.message) m.number was.listed);
@@ -105,7 +105,7 @@ still_sent side w next messages on = all_weaker (WasSent w side) (WasSent next s
     }
 
 -- the newest message in transit
-abbrev newest : World → Message → OnItsWay
+abbrev newest : World → Message → MessageInTransit
 newest w m = record { number = length w.sent; message = m }
 
 -- The newest message is in the sent list.
@@ -120,9 +120,9 @@ newest_was_sent side w next m more = record {
 -- What a step does to a channel: it takes messages from the front, or appends the newest message. The rest stay sent
 -- since the last mark.
 record Passes (event : Event) (side : Side) (w next : World) : Type 0 where
-  gone : List OnItsWay
-  left : List OnItsWay
-  new : List OnItsWay
+  gone : List MessageInTransit
+  left : List MessageInTransit
+  new : List MessageInTransit
   was : channel_from side w ≡ gone ++ left
   now : channel_from side next ≡ left ++ new
   taken_is : takes_from side event ≡ numbers_of gone
@@ -145,7 +145,7 @@ module _ {event : Event} {side : Side} {w next : World} where
   }
 
   -- The channel loses its head.
-  loses_head : (head : OnItsWay) (more : List OnItsWay) → takes_from side event ≡ head.number ∷ [] → channel_from side w ≡ head ∷ more
+  loses_head : (head : MessageInTransit) (more : List MessageInTransit) → takes_from side event ≡ head.number ∷ [] → channel_from side w ≡ head ∷ more
       → channel_from side next ≡ more → IsNotSent side w next → Passes event side w next
   loses_head head more took was now on = record {
     gone = head ∷ [];
@@ -175,7 +175,7 @@ module _ {event : Event} {side : Side} {w next : World} where
 -- ---- each kind of step
 
 -- the number taken is the head's
-head_number : (head : OnItsWay) (number : ℕ) → head.number ≡ number → number ∷ [] ≡ head.number ∷ []
+head_number : (head : MessageInTransit) (number : ℕ) → head.number ≡ number → number ∷ [] ≡ head.number ∷ []
 head_number head number is = rw is refl
 
 -- A quiet mark leaves the empty channels empty.
@@ -261,7 +261,7 @@ passed_more side before event next =
     ∙ append_assoc (numbers_taken side before) (takes_from side event) (numbers_of (channel_from side next))
 
 -- append is associative, over numbers
-numbers_regroup : (gone left new : List OnItsWay)
+numbers_regroup : (gone left new : List MessageInTransit)
     → numbers_of gone ++ numbers_of (left ++ new) ≡ numbers_of (gone ++ left) ++ numbers_of new
 numbers_regroup [] left new = map-append (λ m. m.number) left new
 numbers_regroup (first ∷ gone) left new = ap (λ more. first.number ∷ more) (numbers_regroup gone left new)

@@ -7,22 +7,22 @@ use Rattle.tcap_msg.specs.declared.message.Message.{Message}
 use Rattle.tcap_record.specs.declared.entry.End.{End as Side}
 use Rattle.tcap_end.specs.declared.half.Phase.{Phase}
 use Rattle.tcap_end.specs.declared.half.Phase.TheVariants as phases
-use Rattle.tcap_end.specs.declared.half.Standing.TheVariants as standings
+use Rattle.tcap_end.specs.declared.half.DialogueState.TheVariants as dialogue_states
 use Rattle.tcap_end.specs.Table.{Table}
 use Rattle.tcap_end.specs.Half.{Answer, Half, Invocation, listed}
-use Rattle.tcap_end.specs.End.{KeptHalf}
-use Rattle.tcap_end.specs.ReachableEnd.{FitsPhase, Has, IsEnd, IsHalf}
+use Rattle.tcap_end.specs.End.{KeyedHalf}
+use Rattle.tcap_end.specs.ReachableEnd.{FitsPhase, HasHalf, IsEnd, IsHalf}
 use Rattle.tcap_record.specs.Ends.{other}
 use Rattle.tcap_model.specs.World.{World, end_at}
 use Rattle.tcap_model.specs.Run.{Event, Runs}
 use Rattle.tcap_model.specs.SinceMark.{originating}
-use Rattle.tcap_model.specs.SinceMark.{AnswersWereSent, CameFromPeer, InvokesWereSent, IsAnswer, PeerWasSent, RequestWasSent, SentSince, is_begin_with_request}
+use Rattle.tcap_model.specs.SinceMark.{AnswersWereSent, PeerSentComponent, InvokesWereSent, IsAnswer, PeerWasSent, RequestWasSent, SentSince, is_begin_with_request}
 use Rattle.tcap_model.proofs.ListLaws.{all_weaker}
 use Rattle.tcap_model.proofs.Moves.{HasCome, IsAsked, IsFrom, Turns, blank}
 use Rattle.tcap_model.proofs.WorldMoves.{Advances, CameSince, EndMoves, SentMore, worlds_keep}
 
 -- all four properties of one half
-pub record Knows (w : World) (side : Side) (f : KeptHalf) : Type 0 where
+pub record Knows (w : World) (side : Side) (f : KeyedHalf) : Type 0 where
   pub peer : PeerWasSent w side f
   pub request : RequestWasSent w side f
   pub invokes : InvokesWereSent w side f
@@ -56,28 +56,28 @@ peer_or_bare h half = by h.phase refl half.phase
 -- ---- one half
 
 -- A component that came from the peer still did, if the half keeps its peer ID.
-still_came : {event : Event} → (w next : World) (side : Side) (f g : KeptHalf) (component : Component) → SentMore event w next → f.half.peer ≡ g.half.peer
-    → CameFromPeer w side f component → CameFromPeer next side g component
+still_came : {event : Event} → (w next : World) (side : Side) (f g : KeyedHalf) (component : Component) → SentMore event w next → f.half.peer ≡ g.half.peer
+    → PeerSentComponent w side f component → PeerSentComponent next side g component
 still_came w next side f g component sent same (m, since, from, has) = (m, sent.keeps (other side) m since, from ∙ same, has)
 
 -- The components of the received message come from the peer.
-now_came : {event : Event} → (w next : World) (side : Side) (g : KeptHalf) (came : Option Message) (component : Component) → SentMore event w next
-    → CameSince w side came → HasCome came component → IsFrom came g.half.peer → CameFromPeer next side g component
+now_came : {event : Event} → (w next : World) (side : Side) (g : KeyedHalf) (came : Option Message) (component : Component) → SentMore event w next
+    → CameSince w side came → HasCome came component → IsFrom came g.half.peer → PeerSentComponent next side g component
 now_came w next side g None component sent since has from = absurd has
 now_came w next side g (Some m) component sent since has from = (m, sent.keeps (other side) m since, from, has)
 
 -- the peer sent this invocation, or this answer
-abbrev IsInvoked : World → Side → ℤ → KeptHalf → Invocation → Type 0
+abbrev IsInvoked : World → Side → ℤ → KeyedHalf → Invocation → Type 0
 IsInvoked w side id f item =
-    (linked : Option ℤ) × (parameter : Option (List ℕ)) × CameFromPeer w side f (Invoke id linked item.code parameter)
+    (linked : Option ℤ) × (parameter : Option (List ℕ)) × PeerSentComponent w side f (Invoke id linked item.code parameter)
 
-abbrev IsAnswered : World → Side → ℤ → KeptHalf → Answer → Type 0
-IsAnswered w side id f answer = (component : Component) × IsAnswer answer id component × CameFromPeer w side f component
+abbrev IsAnswered : World → Side → ℤ → KeyedHalf → Answer → Type 0
+IsAnswered w side id f answer = (component : Component) × IsAnswer answer id component × PeerSentComponent w side f component
 
 -- a half before and after a step
-module _ {event : Event} (w next : World) (side : Side) (g : KeptHalf) (h : Half) (came : Option Message) (since : CameSince w side came)
+module _ {event : Event} (w next : World) (side : Side) (g : KeyedHalf) (h : Half) (came : Option Message) (since : CameSince w side came)
     (sent : SentMore event w next) (turns : Turns came h g.half) (known : HasPeer h ⊎ IsBare h) where
-  abbrev was : KeptHalf
+  abbrev was : KeyedHalf
   was = record g { half = h }
 
   same_peer : HasPeer h → h.peer ≡ g.half.peer
@@ -96,7 +96,7 @@ module _ {event : Event} (w next : World) (side : Side) (g : KeptHalf) (h : Half
   request_kept old received is_asked = by came since known (turns.asked received is_asked)
     where
       by : (came : Option Message) → CameSince w side came → HasPeer h ⊎ IsBare h
-          → ((h.phase ≡ phases.Received) × (h.standing ≡ standings.Asked)) ⊎ (IsAsked came × IsFrom came g.half.peer)
+          → ((h.phase ≡ phases.Received) × (h.dialogue_state ≡ dialogue_states.Requested)) ⊎ (IsAsked came × IsFrom came g.half.peer)
           → (m : Message) × SentSince (other side) m next.sent × (is_begin_with_request m ≡ true) × (originating m ≡ g.half.peer)
       by came since (inl peer) (inl had) =
           let (m, there, so, from) = old had.0 had.1 in
@@ -134,7 +134,7 @@ module _ {event : Event} (w next : World) (side : Side) (g : KeptHalf) (h : Half
 -- ---- worlds
 
 -- A new half knows nothing.
-knows_blank : (w : World) (side : Side) (g : KeptHalf) → Knows w side (record g { half = blank })
+knows_blank : (w : World) (side : Side) (g : KeyedHalf) → Knows w side (record g { half = blank })
 knows_blank w side g = record {
   peer = λ id is. cc;
   request = λ received asked. cc;
@@ -144,7 +144,7 @@ knows_blank w side g = record {
 
 -- all halves of both ends have the four properties
 abbrev AllKnow : World → Type 0
-AllKnow w = (side : Side) (f : KeptHalf) → Has (end_at side w) f → Knows w side f
+AllKnow w = (side : Side) (f : KeyedHalf) → HasHalf (end_at side w) f → Knows w side f
 
 -- A step keeps this.
 keeps_known : (event : Event) (w next : World) → ((side : Side) → IsEnd (end_at side w)) → Advances event w next → AllKnow w → AllKnow next
@@ -156,9 +156,9 @@ keeps_known event w next sound advances held side g had = by (moves.moves.back g
     from : (h : Half) → HasPeer h ⊎ IsBare h → Turns moves.came h g.half → Knows w side (record g { half = h }) → Knows next side g
     from h known turns = knows_kept w next side g h moves.came moves.since advances.sent turns known
 
-    by : (h : Half) × (Has (end_at side w) (record g { half = h }) ⊎ (h ≡ blank)) × Turns moves.came h g.half → Knows next side g
+    by : (h : Half) × (HasHalf (end_at side w) (record g { half = h }) ⊎ (h ≡ blank)) × Turns moves.came h g.half → Knows next side g
     by (h, inl there, turns) =
-        let f : KeptHalf = record g { half = h } in
+        let f : KeyedHalf = record g { half = h } in
         from h (peer_or_bare h ((sound side).halves f there)) turns (held side f there)
     by (h, inr new, turns) = from h (rw new (inr (λ received. cc, refl, refl))) turns (rw new (knows_blank w side g))
 
@@ -168,6 +168,6 @@ all_know table = worlds_keep table (λ events w. AllKnow w) (λ events w none si
     (λ before. keeps_known)
 
 -- The four properties hold in each run.
-pub knows : (table : Table) (events : List Event) (w : World) (side : Side) (f : KeptHalf) → Runs table events w → Has (end_at side w) f
+pub knows : (table : Table) (events : List Event) (w : World) (side : Side) (f : KeyedHalf) → Runs table events w → HasHalf (end_at side w) f
     → Knows w side f
 knows table events w side f runs had = all_know table events w runs side f had

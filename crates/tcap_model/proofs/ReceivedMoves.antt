@@ -20,14 +20,14 @@ use Rattle.tcap_end.specs.declared.fault.EndFault.TheVariants as faults
 use Rattle.tcap_end.specs.declared.half.Phase.{Phase}
 use Rattle.tcap_end.specs.declared.half.Phase.TheVariants as phases
 use Rattle.tcap_end.specs.declared.half.Slot.TheVariants.{Begun, Accepted}
-use Rattle.tcap_end.specs.declared.half.Standing.TheVariants as standings
+use Rattle.tcap_end.specs.declared.half.DialogueState.TheVariants as dialogue_states
 use Rattle.tcap_end.specs.Table.{Table}
 use Rattle.tcap_end.specs.Half.{Answer, Half, Invocation, with_newest, closed_half, fresh, is_closed, listed, listed_by, with_listed}
 use Rattle.tcap_end.specs.Component.{answer_problems, answered_operation, receive_answer, receive_component, with_grant, wait_for_reject}
-use Rattle.tcap_end.specs.End.{End, KeptHalf, is_id, put, with_own, with_peer}
-use Rattle.tcap_end.specs.Dialogue.{answers_request, first_standing, is_request}
+use Rattle.tcap_end.specs.End.{End, KeyedHalf, is_id, put, with_own, with_peer}
+use Rattle.tcap_end.specs.Dialogue.{answers_request, first_dialogue_state, is_request}
 use Rattle.tcap_end.specs.Message.{active_half, receive_over, receive_components, receive_continue, receive_end, receive}
-use Rattle.tcap_end.specs.ReachableEnd.{FitsPhase, Has, IsEnd, IsHalf}
+use Rattle.tcap_end.specs.ReachableEnd.{FitsPhase, HasHalf, IsEnd, IsHalf}
 use Rattle.tcap_end.proofs.AnsweringLaws.{needs_ok, ok_same, some_ok, then_ok}
 use Rattle.tcap_end.proofs.ComponentLaws.{Receives, all_receives}
 use Rattle.tcap_end.proofs.FoundLaws.{none_peer, own_has}
@@ -159,26 +159,26 @@ message_gains table m h = all_gains table (Some m) (components_in m) h (all_come
 -- ---- halves
 
 -- A dialogue is in Asked only if there is a request.
-is_asked : (b : Bool) → cond b standings.Asked standings.Without ≡ standings.Asked → b ≡ true
+is_asked : (b : Bool) → cond b dialogue_states.Requested dialogue_states.Without ≡ dialogue_states.Requested → b ≡ true
 is_asked true is = refl
 is_asked false is = cc
 
 -- A Begin makes a new half.
 begins : (table : Table) (otid : List ℕ) (dialogue : Option Dialogue) (components : Option (List Component))
     → Turns (Some (Begin otid dialogue components)) blank
-    (receive_components table (fresh phases.Received None (Some otid) (first_standing dialogue)) (items_of components))
+    (receive_components table (fresh phases.Received None (Some otid) (first_dialogue_state dialogue)) (items_of components))
 begins table otid dialogue components = record {
   own = λ id is. cc;
   peer = λ id is. cc;
   learned = λ id is. inr (sym comes.follows.peer);
-  asked = λ received asked. inr (is_asked (is_request dialogue) (sym comes.follows.standing ∙ asked), sym comes.follows.peer);
+  asked = λ received asked. inr (is_asked (is_request dialogue) (sym comes.follows.dialogue_state ∙ asked), sym comes.follows.peer);
   closed = λ is. cc;
   inn = λ id P all new. gains.inn id P tt (λ item linked parameter has. new item linked parameter has (sym comes.follows.peer));
   grants = λ id P all new. gains.grants id P tt (λ answer component is has. new answer component is has (sym comes.follows.peer));
 }
   where
     start : Half
-    start = fresh phases.Received None (Some otid) (first_standing dialogue)
+    start = fresh phases.Received None (Some otid) (first_dialogue_state dialogue)
 
     comes : Receives start (receive_components table start (items_of components))
     comes = all_receives table (items_of components) start
@@ -220,7 +220,7 @@ goes_on table otid dtid dialogue components h at peer = record {
   own = λ id is. comes.follows.own ∙ is;
   peer = λ id is. comes.follows.peer ∙ is;
   learned = λ id is. inr from;
-  asked = λ received asked. inl (sym comes.follows.phase ∙ received, sym comes.follows.standing ∙ asked);
+  asked = λ received asked. inl (sym comes.follows.phase ∙ received, sym comes.follows.dialogue_state ∙ asked);
   closed = λ is. comes.follows.phase ∙ is;
   inn = λ id P all new. gains.inn id P all (λ item linked parameter has. new item linked parameter has from);
   grants = λ id P all new. gains.grants id P all (λ answer component is has. new answer component is has from);
@@ -251,12 +251,12 @@ begin_moves table e next otid dialogue components sound is =
     (new_moves (Some (Begin otid dialogue components)) e Accepted otid _ (apart (none_is (with_peer e otid) step.0))
     (begins table otid dialogue components)) step.1
   where
-    apart : with_peer e otid ≡ None → (g : KeptHalf) → Has e g → g.slot ≡ Accepted → g.key ≡ otid → ⊥
+    apart : with_peer e otid ≡ None → (g : KeyedHalf) → HasHalf e g → g.slot ≡ Accepted → g.key ≡ otid → ⊥
     apart none g in_g slots keys = none_peer e otid g none in_g (rw (slots, keys) at (sound.kept g in_g))
 
 -- A Continue changes this half.
 half_moves : (table : Table) (e next : End) (otid dtid : List ℕ) (dialogue : Option Dialogue) (components : Option (List Component))
-    (f : KeptHalf) → IsEnd e → Has e f → receive_over table e otid dialogue (items_of components) f f.half.phase ≡ Ok next
+    (f : KeyedHalf) → IsEnd e → HasHalf e f → receive_over table e otid dialogue (items_of components) f f.half.phase ≡ Ok next
     → Moves (Some (Continue otid dtid dialogue components)) e next
 half_moves table e next otid dtid dialogue components f sound had is = by f.half.phase refl is
   where
@@ -264,7 +264,7 @@ half_moves table e next otid dtid dialogue components f sound had is = by f.half
         → Moves (Some (Continue otid dtid dialogue components)) e next
     by phases.Sent at is =
         let free = needs_ok (is_none (with_peer e otid)) faults.IdUsed _ next is in
-        let asked = needs_ok (answers_request f.half.standing dialogue) faults.WrongDialogue _ next free.1 in
+        let asked = needs_ok (answers_request f.half.dialogue_state dialogue) faults.WrongDialogue _ next free.1 in
         moves_this (Some (Continue otid dtid dialogue components)) e _ next
         (put_moves (Some (Continue otid dtid dialogue components)) e f _ had
         (answers table otid dtid dialogue components f.half at (sound.halves f had))) asked.1
@@ -285,7 +285,7 @@ continue_moves table e next otid dtid dialogue components sound is =
     half_moves table e next otid dtid dialogue components f sound (own_has e dtid sound f (some_ok _ _ f ok)) step
 
 -- An End or an Abort closes a half, or changes nothing.
-end_moves : (came : Option Message) (e : End) (o : Option KeptHalf) → ((f : KeptHalf) → o ≡ Some f → Has e f)
+end_moves : (came : Option Message) (e : End) (o : Option KeyedHalf) → ((f : KeyedHalf) → o ≡ Some f → HasHalf e f)
     → Moves came e (receive_end e o)
 end_moves came e None had = moves_nowhere came e
 end_moves came e (Some f) had = by (is_closed f.half.phase)

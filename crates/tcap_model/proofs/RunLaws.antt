@@ -20,13 +20,13 @@ use Rattle.tcap_end.specs.ReachableEnd.{IsEnd}
 use Rattle.tcap_end.proofs.EndLaws.{nothing_sound}
 use Rattle.tcap_end.proofs.StepLaws.{closes, expires, receives, sends}
 use Rattle.tcap_record.specs.Ends.{other}
-use Rattle.tcap_model.specs.World.{Item, OnItsWay, Sent, World, channel_from, empty, end_at, is_side, with_channel, with_end}
-use Rattle.tcap_model.specs.Run.{Adds, Event, Sends, Receives, Replies, Loses, Expires, Closes, Quiet, Tells, Runs, abort_for, after, after_quiet, head_taken, joined, may_refuse, played, reply_to, then_so, where_so}
+use Rattle.tcap_model.specs.World.{Item, MessageInTransit, Sent, World, channel_from, empty, end_at, is_side, with_channel, with_end}
+use Rattle.tcap_model.specs.Run.{Adds, Event, Sends, Receives, Replies, Loses, Expires, Closes, Quiet, Tells, Runs, abort_for, after, after_quiet, head_taken, joined, may_refuse, played, reply_to, option_then, only_if}
 use Rattle.tcap_model.proofs.WorldLaws.{end_joined, end_with_channel, sent_joined, sent_with_channel}
 
 -- ---- options and conditions
 
-pub where_some : {A : Type 0} (b : Bool) (o : Option A) (x : A) → where_so b o ≡ Some x → (b ≡ true) × (o ≡ Some x)
+pub where_some : {A : Type 0} (b : Bool) (o : Option A) (x : A) → only_if b o ≡ Some x → (b ≡ true) × (o ≡ Some x)
 where_some true o x is = (refl, is)
 where_some false o x is = cc
 
@@ -34,7 +34,7 @@ pub map_some : {A B : Type 0} (f : A → B) (o : Option A) (y : B) → option_ma
 map_some f None y is = cc
 map_some f (Some x) y is = (x, refl, cc)
 
-pub then_some : {A B : Type 0} (o : Option A) (step : A → Option B) (y : B) → then_so o step ≡ Some y
+pub then_some : {A B : Type 0} (o : Option A) (step : A → Option B) (y : B) → option_then o step ≡ Some y
     → (x : A) × (o ≡ Some x) × (step x ≡ Some y)
 then_some None step y is = cc
 then_some (Some x) step y is = (x, refl, is)
@@ -67,7 +67,7 @@ one_more table (first ∷ before) event from w next is step =
     by : (o : Option World)
         → ((x : World) → played table before x ≡ Some w → after table event w ≡ Some next
         → played table (before ++ event ∷ []) x ≡ Some next)
-        → then_so o (played table before) ≡ Some w → then_so o (played table (before ++ event ∷ [])) ≡ Some next
+        → option_then o (played table before) ≡ Some w → option_then o (played table (before ++ event ∷ [])) ≡ Some next
     by None on is = cc
     by (Some x) on is = on x is step
 
@@ -84,7 +84,7 @@ keeps_on table Holds step (event ∷ events) before v w ran holds is =
     by : (o : Option World) → after table event v ≡ o
         → ((next : World) → Runs table (before ++ event ∷ []) next → Holds (before ++ event ∷ []) next → played table events next ≡ Some w
         → Holds ((before ++ event ∷ []) ++ events) w)
-        → then_so o (played table events) ≡ Some w → Holds (before ++ event ∷ events) w
+        → option_then o (played table events) ≡ Some w → Holds (before ++ event ∷ events) w
     by None at on is = cc
     by (Some next) at on is = rw (append_assoc before (event ∷ []) events) at
         (on next (one_more table before event empty v next ran at) (step before event v next ran at holds) is)
@@ -104,8 +104,8 @@ pub record IsSending (table : Table) (side : Side) (m : Message) (w next : World
 
 -- A delivery: the head of the channel, the end after it, and the world.
 pub record IsDelivery (table : Table) (side : Side) (number : ℕ) (w next : World) : Type 0 where
-  pub head : OnItsWay
-  pub more : List OnItsWay
+  pub head : MessageInTransit
+  pub more : List MessageInTransit
   pub made : End
   pub channel : channel_from (other side) w ≡ head ∷ more
   pub number_is : head.number ≡ number
@@ -114,8 +114,8 @@ pub record IsDelivery (table : Table) (side : Side) (number : ℕ) (w next : Wor
 
 -- A provider's reply: the head of the channel, the Abort, and the world.
 pub record IsReply (side : Side) (number : ℕ) (w next : World) : Type 0 where
-  pub head : OnItsWay
-  pub more : List OnItsWay
+  pub head : MessageInTransit
+  pub more : List MessageInTransit
   pub abort : Message
   pub channel : channel_from (other side) w ≡ head ∷ more
   pub number_is : head.number ≡ number
@@ -124,8 +124,8 @@ pub record IsReply (side : Side) (number : ℕ) (w next : World) : Type 0 where
 
 -- A loss: the head of the channel, and the world without it.
 pub record IsLoss (side : Side) (number : ℕ) (w next : World) : Type 0 where
-  pub head : OnItsWay
-  pub more : List OnItsWay
+  pub head : MessageInTransit
+  pub more : List MessageInTransit
   pub channel : channel_from side w ≡ head ∷ more
   pub number_is : head.number ≡ number
   pub next_is : next ≡ with_channel side more w
@@ -149,15 +149,15 @@ pub record IsQuiet (w next : World) : Type 0 where
   pub next_is : next ≡ record { a = nothing; b = nothing; from_a = []; from_b = []; sent = w.sent ++ Item.Quiet ∷ [] }
 
 -- The message taken is the head of the channel.
-record WasTaken (number : ℕ) (step : Message → List OnItsWay → Option World) (messages : List OnItsWay) (next : World) : Type 0 where
-  head : OnItsWay
-  more : List OnItsWay
+record WasTaken (number : ℕ) (step : Message → List MessageInTransit → Option World) (messages : List MessageInTransit) (next : World) : Type 0 where
+  head : MessageInTransit
+  more : List MessageInTransit
   channel : messages ≡ head ∷ more
   number_is : head.number ≡ number
   step_is : step head.message more ≡ Some next
 
 -- `head_taken` succeeds only at the head.
-takes_head : (number : ℕ) (step : Message → List OnItsWay → Option World) (messages : List OnItsWay) (next : World)
+takes_head : (number : ℕ) (step : Message → List MessageInTransit → Option World) (messages : List MessageInTransit) (next : World)
     → head_taken number step messages ≡ Some next → WasTaken number step messages next
 takes_head number step [] next is = cc
 takes_head number step (head ∷ more) next is =
@@ -234,7 +234,7 @@ telling table side m w next is = record { next_is = let same : joined side m w �
 
 -- Both ends are quiet at a quiet mark, and empty after it.
 both_quiet : (a b : Bool) (x : World) (sent : List Item)
-    → then_so (result_ok (needs a faults.StillOpen >> Ok nothing))
+    → option_then (result_ok (needs a faults.StillOpen >> Ok nothing))
     (λ p.
     option_map (λ q. record { a = p; b = q; from_a = []; from_b = []; sent = sent }) (result_ok (needs b faults.StillOpen >> Ok nothing)))
     ≡ Some x
@@ -248,7 +248,7 @@ both_quiet false b x sent is = cc
 pub quiet : (table : Table) (w next : World) → after table Quiet w ≡ Some next → IsQuiet w next
 quiet table w next is = by w.from_a w.from_b is
   where
-    by : (a b : List OnItsWay) → after_quiet (record w { from_a = a; from_b = b }) ≡ Some next
+    by : (a b : List MessageInTransit) → after_quiet (record w { from_a = a; from_b = b }) ≡ Some next
         → IsQuiet (record w { from_a = a; from_b = b }) next
     by [] [] is =
         let (a, b, next_is) = both_quiet (all_closed w.a.begun && all_closed w.a.accepted) (all_closed w.b.begun && all_closed w.b.accepted)
@@ -263,7 +263,7 @@ quiet table w next is = by w.from_a w.from_b is
 reply_is : (e : End) (m abort : Message) → reply_to e m ≡ Some abort → abort_for m ≡ Some abort
 reply_is e m abort is = by (abort_for m) is
   where
-    by : (o : Option Message) → then_so o (λ found. where_so (may_refuse e m found) (Some found)) ≡ Some abort
+    by : (o : Option Message) → option_then o (λ found. only_if (may_refuse e m found) (Some found)) ≡ Some abort
         → o ≡ Some abort
     by None is = cc
     by (Some found) is = ap Some ((cond_some _ _ abort is).1)
@@ -323,7 +323,7 @@ with_sound sides.B made w new old sides.A = old sides.A
 with_sound sides.B made w new old sides.B = new
 
 -- It does not depend on the channels.
-channel_sound : (side : Side) (messages : List OnItsWay) (w : World) → BothSound w → BothSound (with_channel side messages w)
+channel_sound : (side : Side) (messages : List MessageInTransit) (w : World) → BothSound w → BothSound (with_channel side messages w)
 channel_sound side messages w old at = rw (end_with_channel at side messages w) (old at)
 
 -- It still holds after a message joins a channel.
@@ -380,7 +380,7 @@ played_on table [] rest w mid is = let same : w ≡ mid = cc in ap (played table
 played_on table (event ∷ first) rest w mid is = by (after table event w) (λ x on. played_on table first rest x mid on) is
   where
     by : (o : Option World) → ((x : World) → played table first x ≡ Some mid → played table (first ++ rest) x ≡ played table rest mid)
-        → then_so o (played table first) ≡ Some mid → then_so o (played table (first ++ rest)) ≡ played table rest mid
+        → option_then o (played table first) ≡ Some mid → option_then o (played table (first ++ rest)) ≡ played table rest mid
     by None on is = cc
     by (Some x) on is = on x is
 

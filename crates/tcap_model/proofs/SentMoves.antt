@@ -23,11 +23,11 @@ use Rattle.tcap_end.specs.Step.{◌>>◌}
 use Rattle.tcap_end.specs.Table.{Table, operation_of}
 use Rattle.tcap_end.specs.Half.{Answer, Half, Invocation, closed_half, fresh, is_closed, one_fits, without_oldest_of}
 use Rattle.tcap_end.specs.Component.{allows, allows_for, may_answer, may_link, own_invocation, send_answer, send_component, send_invoke, send_reject}
-use Rattle.tcap_end.specs.End.{End, KeptHalf, first_half, half_where, is_id, named, put, with_own, with_peer}
-use Rattle.tcap_end.specs.Dialogue.{first_standing, may_abort, may_be_uni, may_begin, may_go_on}
+use Rattle.tcap_end.specs.End.{End, KeyedHalf, first_half, half_where, is_id, named, put, with_own, with_peer}
+use Rattle.tcap_end.specs.Dialogue.{first_dialogue_state, may_abort, may_be_uni, may_begin, may_go_on}
 use Rattle.tcap_end.specs.HiddenSteps.{close, expire, may_close, may_expire, without_invocation}
 use Rattle.tcap_end.specs.Message.{active_half, is_active, is_received, send, send_abort, send_begin, send_components, send_continue, send_end, send_first_continue, send_next_continue, send_uni_components}
-use Rattle.tcap_end.specs.ReachableEnd.{FitsPhase, Has, IsEnd, IsHalf, Rises}
+use Rattle.tcap_end.specs.ReachableEnd.{FitsPhase, HasHalf, IsEnd, IsHalf, Rises}
 use Rattle.tcap_end.proofs.AnsweringLaws.{needs_ok, ok_same, some_ok, then_ok}
 use Rattle.tcap_end.proofs.ComponentLaws.{all_sends}
 use Rattle.tcap_end.proofs.FoundLaws.{named_has, none_own, own_has, peer_has}
@@ -40,32 +40,32 @@ use Rattle.tcap_model.proofs.TurnLaws.{Lists, id_is, lists_self, lists_then, mov
 -- ---- halves that a search finds
 
 -- The half found satisfies the condition.
-first_passes : (passes : Half → Bool) (slot : Slot) (es : List (List ℕ × Half)) (f : KeptHalf) → first_half passes slot es ≡ Some f
+first_passes : (passes : Half → Bool) (slot : Slot) (es : List (List ℕ × Half)) (f : KeyedHalf) → first_half passes slot es ≡ Some f
     → passes f.half ≡ true
 first_passes passes slot [] f is = cc
 first_passes passes slot ((key, half) ∷ es) f is = by (passes half) refl is (first_passes passes slot es f)
   where
-    first : KeptHalf
+    first : KeyedHalf
     first = record { slot = slot; key = key; half = half }
 
     by : (b : Bool) → passes half ≡ b → cond b (Some first) (first_half passes slot es) ≡ Some f
         → (first_half passes slot es ≡ Some f → passes f.half ≡ true) → passes f.half ≡ true
-    by true so is rest = let same : first ≡ f = cc in subst (λ (g : KeptHalf). passes g.half ≡ true) same so
+    by true so is rest = let same : first ≡ f = cc in subst (λ (g : KeyedHalf). passes g.half ≡ true) same so
     by false so is rest = rest is
 
 -- So does the half found in an end.
-found_passes : (passes : Half → Bool) (e : End) (f : KeptHalf) → half_where passes e ≡ Some f → passes f.half ≡ true
+found_passes : (passes : Half → Bool) (e : End) (f : KeyedHalf) → half_where passes e ≡ Some f → passes f.half ≡ true
 found_passes passes e f is = by (first_half passes Begun e.begun) refl
   where
-    by : (o : Option KeptHalf) → first_half passes Begun e.begun ≡ o → passes f.half ≡ true
+    by : (o : Option KeyedHalf) → first_half passes Begun e.begun ≡ o → passes f.half ≡ true
     by None none = first_passes passes Accepted e.accepted f (rw none at is)
     by (Some g) some = first_passes passes Begun e.begun f (let same = rw some at is in some ∙ same)
 
 -- The half found by an ID has this ID.
-pub own_is : (e : End) (id : List ℕ) (f : KeptHalf) → with_own e id ≡ Some f → f.half.own ≡ Some id
+pub own_is : (e : End) (id : List ℕ) (f : KeyedHalf) → with_own e id ≡ Some f → f.half.own ≡ Some id
 own_is e id f is = id_is id f.half.own (found_passes (λ h. is_id id h.own) e f is)
 
-pub peer_is : (e : End) (id : List ℕ) (f : KeptHalf) → with_peer e id ≡ Some f → f.half.peer ≡ Some id
+pub peer_is : (e : End) (id : List ℕ) (f : KeyedHalf) → with_peer e id ≡ Some f → f.half.peer ≡ Some id
 peer_is e id f is = id_is id f.half.peer (found_passes (λ h. is_id id h.peer) e f is)
 
 -- ---- components
@@ -146,9 +146,9 @@ all_lists table (component ∷ more) h g inn grants is =
 
 -- A half that the end has is replaced.
 record Changes (e next : End) : Type 1 where
-  was : KeptHalf
+  was : KeyedHalf
   now : Half
-  had : Has e was
+  had : HasHalf e was
   turns : Turns None was.half now
   made : put e was.slot was.key now ≡ next
 
@@ -157,7 +157,7 @@ changes_moves : (e next : End) → Changes e next → Moves None e next
 changes_moves e next it = rw (← it.made) (put_moves None e it.was it.now it.had it.turns)
 
 -- The end has the new half.
-changes_has : (e next : End) (it : Changes e next) → Has next (record it.was { half = it.now })
+changes_has : (e next : End) (it : Changes e next) → HasHalf next (record it.was { half = it.now })
 changes_has e next it = rw (← it.made) (put_there e it.was.slot it.was.key it.now)
 
 -- The step's result is the next end.
@@ -165,13 +165,13 @@ is_this : (x next : End) → (let r : Result End EndFault = Ok x in r) ≡ Ok ne
 is_this x next is = ok_same {F = EndFault} x next is
 
 -- Sending components turns a half.
-components_turn : (table : Table) (components : List Component) (e : End) (f : KeptHalf) (g : Half) → IsEnd e → Has e f
+components_turn : (table : Table) (components : List Component) (e : End) (f : KeyedHalf) (g : Half) → IsEnd e → HasHalf e f
     → send_components table f.half components ≡ Ok g → Turns None f.half g
 components_turn table components e f g sound had is =
     let follows = (all_sends table components f.half g is).follows in
     let half = sound.halves f had in
     let lists = all_lists table components f.half g half.inn half.grants is in
-    turns_kept None f.half g follows.phase follows.own follows.peer follows.standing lists
+    turns_kept None f.half g follows.phase follows.own follows.peer follows.dialogue_state lists
 
 -- ---- hidden steps
 
@@ -214,7 +214,7 @@ record Begins (e next : End) (otid : List ℕ) : Type 1 where
   made : put e Begun otid now ≡ next
 
 -- The end has the new half.
-begins_has : (e next : End) (otid : List ℕ) → Begins e next otid → (f : KeptHalf) × Has next f × (f.half.own ≡ Some otid)
+begins_has : (e next : End) (otid : List ℕ) → Begins e next otid → (f : KeyedHalf) × HasHalf next f × (f.half.own ≡ Some otid)
 begins_has e next otid it = (record { slot = Begun; key = otid; half = it.now }, rw (← it.made) (put_there e Begun otid it.now), it.own)
 
 -- A Begin makes a new half.
@@ -234,7 +234,7 @@ begins table e next otid dialogue components is =
     }
   where
     start : Half
-    start = fresh phases.Sent (Some otid) None (first_standing dialogue)
+    start = fresh phases.Sent (Some otid) None (first_dialogue_state dialogue)
 
     begun : IsHalf start
     begun = half_sent otid dialogue
@@ -257,7 +257,7 @@ abbrev GoesOn : End → End → List ℕ → List ℕ → Type 1
 GoesOn e next otid dtid = (it : Changes e next) × (it.now.own ≡ Some otid) × (it.now.peer ≡ Some dtid)
 
 -- The first Continue turns a half whose Begin was received.
-answer_turns : (f : KeptHalf) (otid : List ℕ) (g : Half) → IsHalf f.half → f.half.phase ≡ phases.Received
+answer_turns : (f : KeyedHalf) (otid : List ℕ) (g : Half) → IsHalf f.half → f.half.phase ≡ phases.Received
     → Follows (active_half Accepted otid f.half) g → Lists f.half g → Turns None f.half g
 answer_turns f otid g half at follows lists = record {
   own = λ id was. let none = fits.0 in cc;
@@ -281,7 +281,7 @@ answers table e next otid dtid dialogue components sound is =
     let had = peer_has e dtid sound f found in
     let half = sound.halves f had in
     let waits = needs_ok (is_received f.half.phase) faults.WrongPhase _ next step in
-    let may = needs_ok (may_go_on f.half.phase f.half.standing dialogue) faults.WrongDialogue _ next waits.1 in
+    let may = needs_ok (may_go_on f.half.phase f.half.dialogue_state dialogue) faults.WrongDialogue _ next waits.1 in
     let start = active_half Accepted otid f.half in
     let (g, made, done) = then_ok (send_components table start components) (λ half. Ok (put e f.slot f.key half)) next may.1 in
     let follows = (all_sends table components start g made).follows in
@@ -299,12 +299,12 @@ answers table e next otid dtid dialogue components sound is =
 
 -- A later Continue replaces the active half.
 active_goes_on : (table : Table) (e next : End) (otid dtid : List ℕ) (dialogue : Option Dialogue) (components : List Component)
-    (f : KeptHalf) → with_own e otid ≡ Some f → IsEnd e
+    (f : KeyedHalf) → with_own e otid ≡ Some f → IsEnd e
     → send_next_continue table e dtid dialogue components f ≡ Ok next → GoesOn e next otid dtid
 active_goes_on table e next otid dtid dialogue components f found sound is =
     let active = needs_ok (is_active f.half.phase) faults.WrongPhase _ next is in
     let peer = needs_ok (is_id dtid f.half.peer) faults.NoTransaction _ next active.1 in
-    let may = needs_ok (may_go_on f.half.phase f.half.standing dialogue) faults.WrongDialogue _ next peer.1 in
+    let may = needs_ok (may_go_on f.half.phase f.half.dialogue_state dialogue) faults.WrongDialogue _ next peer.1 in
     let had = own_has e otid sound f found in
     let (g, made, done) = then_ok (send_components table f.half components) (λ half. Ok (put e f.slot f.key half)) next may.1 in
     let follows = (all_sends table components f.half g made).follows in (
@@ -321,7 +321,7 @@ active_goes_on table e next otid dtid dialogue components f found sound is =
 
 -- Any Continue replaces a half with its IDs.
 goes_on : (table : Table) (e next : End) (otid dtid : List ℕ) (dialogue : Option Dialogue) (components : List Component)
-    (o : Option KeptHalf) → with_own e otid ≡ o → IsEnd e
+    (o : Option KeyedHalf) → with_own e otid ≡ o → IsEnd e
     → send_continue table e otid dtid dialogue components o ≡ Ok next → GoesOn e next otid dtid
 goes_on table e next otid dtid dialogue components None found sound is = answers table e next otid dtid dialogue components sound is
 goes_on table e next otid dtid dialogue components (Some f) found sound is =
@@ -340,7 +340,7 @@ ends_half table e next dtid dialogue components sound is =
     let (f, ok, step) = then_ok (ok_or (with_peer e dtid) faults.NoTransaction) _ next is in
     let found = some_ok _ _ f ok in
     let open_one = needs_ok (not (is_closed f.half.phase)) faults.WrongPhase _ next step in
-    let may = needs_ok (may_go_on f.half.phase f.half.standing dialogue) faults.WrongDialogue _ next open_one.1 in
+    let may = needs_ok (may_go_on f.half.phase f.half.dialogue_state dialogue) faults.WrongDialogue _ next open_one.1 in
     let (g, made, done) = then_ok (send_components table f.half components) (λ half. Ok (put e f.slot f.key (closed_half half))) next
     may.1 in
     let follows = (all_sends table components f.half g made).follows in (
@@ -363,7 +363,7 @@ aborts_half e next dtid reason sound is =
     let (f, ok, step) = then_ok (ok_or (with_peer e dtid) faults.NoTransaction) _ next user.1 in
     let found = some_ok _ _ f ok in
     let open_one = needs_ok (not (is_closed f.half.phase)) faults.WrongPhase _ next step in
-    let may = needs_ok (may_abort f.half.phase f.half.standing (reason_dialogue reason)) faults.WrongDialogue _ next open_one.1 in (
+    let may = needs_ok (may_abort f.half.phase f.half.dialogue_state (reason_dialogue reason)) faults.WrongDialogue _ next open_one.1 in (
       (
         record {
           was = f;
@@ -387,7 +387,7 @@ sent_moves table e next m sound is = by m is
     begin : (otid : List ℕ) → Begins e next otid → Moves None e next
     begin otid it = rw (← it.made) (new_moves None e Begun otid it.now apart it.turns)
       where
-        apart : (g : KeptHalf) → Has e g → g.slot ≡ Begun → g.key ≢ otid
+        apart : (g : KeyedHalf) → HasHalf e g → g.slot ≡ Begun → g.key ≢ otid
         apart g had slots keys = none_own e otid g it.none had (rw (slots, keys) at (sound.kept g had))
 
     uni : (r : Result (Unit {0}) EndFault) → (r >> Ok e) ≡ Ok next → Moves None e next
@@ -416,29 +416,29 @@ closed_moves table e next name sound is = changes_moves e next (closes_in table 
 
 -- After a Begin, the end has a half with its originating ID.
 pub begin_uses : (table : Table) (e next : End) (otid : List ℕ) (dialogue : Option Dialogue) (components : Option (List Component))
-    → IsEnd e → send table e (Begin otid dialogue components) ≡ Ok next → (f : KeptHalf) × Has next f × (f.half.own ≡ Some otid)
+    → IsEnd e → send table e (Begin otid dialogue components) ≡ Ok next → (f : KeyedHalf) × HasHalf next f × (f.half.own ≡ Some otid)
 begin_uses table e next otid dialogue components sound is =
     begins_has e next otid (begins table e next otid dialogue (items_of components) is)
 
 -- After a Continue, the end has a half with both IDs.
 pub continue_uses : (table : Table) (e next : End) (otid dtid : List ℕ) (dialogue : Option Dialogue) (components : Option (List Component))
     → IsEnd e → send table e (Continue otid dtid dialogue components) ≡ Ok next
-    → (f : KeptHalf) × Has next f × (f.half.own ≡ Some otid) × (f.half.peer ≡ Some dtid)
+    → (f : KeyedHalf) × HasHalf next f × (f.half.own ≡ Some otid) × (f.half.peer ≡ Some dtid)
 continue_uses table e next otid dtid dialogue components sound is =
     let it = goes_on table e next otid dtid dialogue (items_of components) (with_own e otid) refl sound is in
     (record it.0.was { half = it.0.now }, changes_has e next it.0, it.1, it.2)
 
 -- After an End or a user's Abort, the half with the destination ID as its peer ID is closed.
 pub ending_closes : (table : Table) (e next : End) (m : Message) (id : List ℕ) → IsEnd e → send table e m ≡ Ok next
-    → ended_by m ≡ Some id → (f : KeptHalf) × Has next f × (f.half.peer ≡ Some id) × (f.half.phase ≡ phases.Closed)
+    → ended_by m ≡ Some id → (f : KeyedHalf) × HasHalf next f × (f.half.peer ≡ Some id) × (f.half.phase ≡ phases.Closed)
 ending_closes table e next m id sound is ends = by m is ends
   where
     there : (dtid : List ℕ) → dtid ≡ id → Ends e next dtid
-        → (f : KeptHalf) × Has next f × (f.half.peer ≡ Some id) × (f.half.phase ≡ phases.Closed)
+        → (f : KeyedHalf) × HasHalf next f × (f.half.peer ≡ Some id) × (f.half.phase ≡ phases.Closed)
     there dtid same it = (record it.0.was { half = it.0.now }, changes_has e next it.0, rw (← same) (it.1), it.2)
 
     by : (m : Message) → send table e m ≡ Ok next → ended_by m ≡ Some id
-        → (f : KeptHalf) × Has next f × (f.half.peer ≡ Some id) × (f.half.phase ≡ phases.Closed)
+        → (f : KeyedHalf) × HasHalf next f × (f.half.peer ≡ Some id) × (f.half.phase ≡ phases.Closed)
     by (Unidirectional dialogue components) is ends = cc
     by (Begin otid dialogue components) is ends = cc
     by (Continue otid dtid dialogue components) is ends = cc

@@ -14,8 +14,8 @@ use Rattle.tcap_msg.specs.declared.message.Message.{Message}
 use Rattle.tcap_end.specs.declared.half.Slot.{Slot}
 use Rattle.tcap_end.specs.declared.half.Slot.TheVariants.{Begun, Accepted}
 use Rattle.tcap_end.specs.Half.{Half, closed_half, listed, listed_by, with_listed, without_oldest, without_oldest_of}
-use Rattle.tcap_end.specs.End.{End, KeptHalf, is_id, put}
-use Rattle.tcap_end.specs.ReachableEnd.{Has, Rises, halves_of}
+use Rattle.tcap_end.specs.End.{End, KeyedHalf, is_id, put}
+use Rattle.tcap_end.specs.ReachableEnd.{HasHalf, Rises, halves_of}
 use Rattle.tcap_end.proofs.FoundLaws.{half_at, octets_total}
 use Rattle.tcap_end.proofs.MapLaws.{found_inserted, found_new, keys_eq, kept_at}
 use Rattle.tcap_end.proofs.PlacedLaws.{slots_eq}
@@ -104,13 +104,13 @@ lists_then h g k first second = record {
 }
 
 -- The half keeps phase, IDs and dialogue state.
-pub turns_kept : (came : Option Message) (h g : Half) → g.phase ≡ h.phase → g.own ≡ h.own → g.peer ≡ h.peer → g.standing ≡ h.standing
+pub turns_kept : (came : Option Message) (h g : Half) → g.phase ≡ h.phase → g.own ≡ h.own → g.peer ≡ h.peer → g.dialogue_state ≡ h.dialogue_state
     → Lists h g → Turns came h g
-turns_kept came h g phase own peer standing lists = record {
+turns_kept came h g phase own peer dialogue_state lists = record {
   own = λ id is. own ∙ is;
   peer = λ id is. peer ∙ is;
   learned = λ id is. inl (sym peer ∙ is);
-  asked = λ received asked. inl (sym phase ∙ received, sym standing ∙ asked);
+  asked = λ received asked. inl (sym phase ∙ received, sym dialogue_state ∙ asked);
   closed = λ is. phase ∙ is;
   inn = λ id P all new. lists.inn id P all;
   grants = λ id P all new. lists.grants id P all;
@@ -135,12 +135,12 @@ turns_closed came h g own peer = record {
 -- ---- ends
 
 -- An end has a half that is put in it.
-pub put_there : (e : End) (slot : Slot) (key : List ℕ) (h : Half) → Has (put e slot key h) (record { slot = slot; key = key; half = h })
+pub put_there : (e : End) (slot : Slot) (key : List ℕ) (h : Half) → HasHalf (put e slot key h) (record { slot = slot; key = key; half = h })
 put_there e Begun key h = found_new octets_total key h e.begun
 put_there e Accepted key h = found_new octets_total key h e.accepted
 
 -- Two places are equal or differ.
-pub one_place : (f g : KeptHalf) → ((f.slot ≡ g.slot) × (f.key ≡ g.key)) ⊎ (f.slot ≡ g.slot → f.key ≢ g.key)
+pub one_place : (f g : KeyedHalf) → ((f.slot ≡ g.slot) × (f.key ≡ g.key)) ⊎ (f.slot ≡ g.slot → f.key ≢ g.key)
 one_place f g = by (slots_eq f.slot g.slot) (keys_eq octets_total exact_bytes f.key g.key)
   where
     by : (f.slot ≡ g.slot) ⊎ (f.slot ≢ g.slot) → (f.key ≡ g.key) ⊎ (f.key ≢ g.key)
@@ -157,20 +157,20 @@ moves_nowhere came e = record {
 }
 
 -- One half of the end turns.
-pub put_moves : (came : Option Message) (e : End) (f : KeptHalf) (h : Half) → Has e f → Turns came f.half h
+pub put_moves : (came : Option Message) (e : End) (f : KeyedHalf) (h : Half) → HasHalf e f → Turns came f.half h
     → Moves came e (put e f.slot f.key h)
 put_moves came e f h had turns = record {
   back = λ g in_g. back g (put_has e f.slot f.key h g in_g);
   forth = λ g in_g. forth g in_g (one_place g f);
 }
   where
-    back : (g : KeptHalf) → IsThere f.slot f.key h g ⊎ Has e g
-        → (was : Half) × (Has e (record g { half = was }) ⊎ (was ≡ blank)) × Turns came was g.half
+    back : (g : KeyedHalf) → IsThere f.slot f.key h g ⊎ HasHalf e g
+        → (was : Half) × (HasHalf e (record g { half = was }) ⊎ (was ≡ blank)) × Turns came was g.half
     back g (inl new) = (f.half, inl (rw (new.0, new.1) had), rw (new.2) turns)
     back g (inr old) = (g.half, inl old, turns_self came g.half)
 
-    forth : (g : KeptHalf) → Has e g → ((g.slot ≡ f.slot) × (g.key ≡ f.key)) ⊎ (g.slot ≡ f.slot → g.key ≢ f.key)
-        → (now : Half) × Has (put e f.slot f.key h) (record g { half = now }) × Turns came g.half now
+    forth : (g : KeyedHalf) → HasHalf e g → ((g.slot ≡ f.slot) × (g.key ≡ f.key)) ⊎ (g.slot ≡ f.slot → g.key ≢ f.key)
+        → (now : Half) × HasHalf (put e f.slot f.key h) (record g { half = now }) × Turns came g.half now
     forth g in_g (inl same) =
         let there : half_at (halves_of f.slot e) f.key ≡ Some g.half = rw (same.0, same.1) at in_g in
         let one : f.half ≡ g.half = cc in
@@ -179,13 +179,13 @@ put_moves came e f h had turns = record {
 
 -- A half is put where none was.
 pub new_moves : (came : Option Message) (e : End) (slot : Slot) (key : List ℕ) (h : Half)
-    → ((g : KeptHalf) → Has e g → g.slot ≡ slot → g.key ≢ key) → Turns came blank h → Moves came e (put e slot key h)
+    → ((g : KeyedHalf) → HasHalf e g → g.slot ≡ slot → g.key ≢ key) → Turns came blank h → Moves came e (put e slot key h)
 new_moves came e slot key h apart turns = record {
   back = λ g in_g. back g (put_has e slot key h g in_g);
   forth = λ g in_g. (g.half, put_other e slot key h g (apart g in_g) in_g, turns_self came g.half);
 }
   where
-    back : (g : KeptHalf) → IsThere slot key h g ⊎ Has e g
-        → (was : Half) × (Has e (record g { half = was }) ⊎ (was ≡ blank)) × Turns came was g.half
+    back : (g : KeyedHalf) → IsThere slot key h g ⊎ HasHalf e g
+        → (was : Half) × (HasHalf e (record g { half = was }) ⊎ (was ≡ blank)) × Turns came was g.half
     back g (inl new) = (blank, inr refl, rw (new.2) turns)
     back g (inr old) = (g.half, inl old, turns_self came g.half)

@@ -5,10 +5,10 @@ use Rattle.tcap_msg.specs.declared.message.Message.{Message}
 use Rattle.tcap_msg.specs.declared.message.Message.TheVariants.{Unidirectional, Begin, Continue, End as EndMessage, Abort}
 use Rattle.tcap_record.specs.declared.entry.End.{End as Side}
 use Rattle.tcap_end.specs.Table.{Table}
-use Rattle.tcap_end.specs.End.{End, KeptHalf}
-use Rattle.tcap_end.specs.ReachableEnd.{Has, IsEnd, IsSame}
+use Rattle.tcap_end.specs.End.{End, KeyedHalf}
+use Rattle.tcap_end.specs.ReachableEnd.{HasHalf, IsEnd, IsSame}
 use Rattle.tcap_model.specs.World.{World, end_at}
-use Rattle.tcap_model.specs.Run.{Event, KeepsRules, Runs, is_told_by, tells}
+use Rattle.tcap_model.specs.Run.{Event, KeepsRules, Runs, is_tells_by, has_tells_by}
 use Rattle.tcap_model.specs.SinceMark.{EndedIsClosed, HasUsed, SentSince}
 use Rattle.tcap_model.proofs.RunLaws.{sound}
 use Rattle.tcap_model.proofs.WorldMoves.{Advances, HasEnded, worlds_keep}
@@ -19,10 +19,10 @@ HasHalves side events w = KeepsRules side events → (m : Message) → SentSince
 
 -- An end that keeps the rules kept them before the last step, and in it.
 pub kept_before : (side : Side) (before : List Event) (event : Event) → KeepsRules side (before ++ event ∷ [])
-    → KeepsRules side before × (is_told_by side event ≡ false)
-kept_before side [] event keeps = (refl, (or_parts (is_told_by side event) false keeps).0)
+    → KeepsRules side before × (is_tells_by side event ≡ false)
+kept_before side [] event keeps = (refl, (or_parts (is_tells_by side event) false keeps).0)
 kept_before side (first ∷ before) event keeps =
-    let both = or_parts (is_told_by side first) (tells side (before ++ event ∷ [])) keeps in
+    let both = or_parts (is_tells_by side first) (has_tells_by side (before ++ event ∷ [])) keeps in
     let rest = kept_before side before event both.1 in
     (rw (both.0) (rest.0), rest.1)
 
@@ -69,13 +69,13 @@ pub ids_used : (table : Table) (events : List Event) (w : World) (side : Side) (
 ids_used table events w side m runs keeps since = (has_halves table side events w runs keeps m since).0
 
 -- An end has one half at one place.
-pub one_half : (e : End) (f g : KeptHalf) → Has e f → Has e g → IsSame f g → g.half ≡ f.half
+pub one_half : (e : End) (f g : KeyedHalf) → HasHalf e f → HasHalf e g → IsSame f g → g.half ≡ f.half
 one_half e f g in_f in_g same =
     let here : Some g.half ≡ Some f.half = sym in_g ∙ (rw (← same.0, ← same.1) in_f) in cc
 
 -- A half is closed if the end ended its dialogue since the last mark.
-pub ended_closed : (table : Table) (events : List Event) (w : World) (side : Side) (f : KeptHalf) → Runs table events w
-    → KeepsRules side events → Has (end_at side w) f → EndedIsClosed w side f
+pub ended_closed : (table : Table) (events : List Event) (w : World) (side : Side) (f : KeyedHalf) → Runs table events w
+    → KeepsRules side events → HasHalf (end_at side w) f → EndedIsClosed w side f
 ended_closed table events w side f runs keeps had m id since ends peer =
     let (g, there, of_g, is_closed) = (has_halves table side events w runs keeps m since).1 id ends in
     let same = (sound table events w runs side).one_peer f g id had there peer of_g in

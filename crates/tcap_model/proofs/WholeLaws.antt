@@ -3,14 +3,14 @@ use Rattle.std.proofs.Common.{◌≡◌, ℕ, List, [], ◌∷◌, ◌++◌, len
 use Rattle.tcap_record.specs.declared.entry.End.TheVariants as sides
 use Rattle.tcap_end.specs.Table.{Table}
 use Rattle.tcap_end.specs.End.{End, nothing}
-use Rattle.tcap_model.specs.World.{Item, OnItsWay, Sent, World}
+use Rattle.tcap_model.specs.World.{Item, MessageInTransit, Sent, World}
 use Rattle.tcap_model.specs.Run.{BothKeepRules, Event, IsLawful, IsLawfulFor, Quiet, after, played}
 use Rattle.tcap_model.proofs.RunLaws.{played_on}
 use Rattle.tcap_model.proofs.WholeTurns.{Drifts, Goes, Takes, Turn, both_keep, with_newest}
 use Rattle.tcap_model.proofs.WholeViews.{goes_lawful}
 
 -- the world of two ends, the messages in transit to each, and the sent list
-abbrev both : End → End → List OnItsWay → List OnItsWay → List Item → World
+abbrev both : End → End → List MessageInTransit → List MessageInTransit → List Item → World
 both a b to_a to_b sent = record { a = a; b = b; from_a = to_b; from_b = to_a; sent = sent }
 
 -- From this world, a run in which both ends keep the rules sends the rest of the items.
@@ -39,7 +39,7 @@ one_behind table event w next all keep is = sends_behind table (event ∷ []) w 
 
 module _ (table : Table) (all : List Item) where
   -- Hidden steps of both ends come before.
-  both_drift : (a b x y : End) (to_a to_b x_left y_left : List OnItsWay) (sent : List Item)
+  both_drift : (a b x y : End) (to_a to_b x_left y_left : List MessageInTransit) (sent : List Item)
       → Drifts table sides.A a to_a x x_left → Drifts table sides.B b to_b y y_left
       → Sends table (both x y x_left y_left sent) all → Sends table (both a b to_a to_b sent) all
   both_drift a b x y to_a to_b x_left y_left sent of_a of_b rest =
@@ -49,7 +49,7 @@ module _ (table : Table) (all : List Item) where
       (of_b.plays (both x b x_left to_b sent)) rest)
 
   -- Both ends take one item, and then the rest.
-  both_take : (item : Item) (a b x y : End) (to_a to_b x_left y_left : List OnItsWay) (sent : List Item)
+  both_take : (item : Item) (a b x y : End) (to_a to_b x_left y_left : List MessageInTransit) (sent : List Item)
       → Takes table sides.A item sent a to_a x x_left → Takes table sides.B item sent b to_b y y_left
       → Sends table (both x y x_left y_left (sent ++ item ∷ [])) all → Sends table (both a b to_a to_b sent) all
   both_take (Sent sides.A m) a b x y to_a to_b x_left y_left sent of_a of_b rest =
@@ -66,7 +66,7 @@ module _ (table : Table) (all : List Item) where
       is = rw (of_a.0, of_b.0, of_a.1, of_b.1) refl
 
 -- Both ends take all items.
-both_go : (table : Table) (items : List Item) (all sent : List Item) (a b : End) (to_a to_b : List OnItsWay)
+both_go : (table : Table) (items : List Item) (all sent : List Item) (a b : End) (to_a to_b : List MessageInTransit)
     → sent ++ items ≡ all → Goes table sides.A items sent a to_a → Goes table sides.B items sent b to_b
     → Sends table (both a b to_a to_b sent) all
 both_go table [] all sent a b to_a to_b are of_a of_b = record {

@@ -6,14 +6,14 @@ use Rattle.tcap_record.specs.declared.entry.End.TheVariants as sides
 use Rattle.tcap_end.specs.Table.{Table}
 use Rattle.tcap_end.specs.End.{nothing}
 use Rattle.tcap_record.specs.Ends.{other}
-use Rattle.tcap_model.specs.World.{Item, OnItsWay, Sent, World, channel_from, empty, end_at}
-use Rattle.tcap_model.specs.Run.{Event, IsLawfulFor, KeepsRules, after, is_told_by, played, tells, then_so}
+use Rattle.tcap_model.specs.World.{Item, MessageInTransit, Sent, World, channel_from, empty, end_at}
+use Rattle.tcap_model.specs.Run.{Event, IsLawfulFor, KeepsRules, after, is_tells_by, played, has_tells_by, option_then}
 use Rattle.tcap_model.proofs.Acts.{Acts, Says, Hears, Refuses, Misses, Drops, Shuts, Told, Marked, Stays, Seen, seen, step_acts}
 use Rattle.tcap_model.proofs.WholeTurns.{Drifts, Goes, Takes, closes, drifts_first, expires, hears, misses, no_drift, replies, sends}
 use Rattle.tcap_model.proofs.WorldLaws.{apart, itself}
 
 -- the messages in transit to an end
-abbrev coming_to : Side → World → List OnItsWay
+abbrev coming_to : Side → World → List MessageInTransit
 coming_to side w = channel_from (other side) w
 
 -- hidden steps happen at the end, and nothing is sent
@@ -72,12 +72,12 @@ went : (table : Table) (side : Side) (events : List Event) (w last : World) → 
     → KeepsRules side events → Went table side w last
 went table side [] w last is keeps = let same : w ≡ last = cc in ([], rw (← same, append-nil w.sent) refl, tt)
 went table side (event ∷ events) w last is keeps =
-    let (untold, later) = or_parts (is_told_by side event) (tells side events) keeps in
+    let (untold, later) = or_parts (is_tells_by side event) (has_tells_by side events) keeps in
     by (after table event w) refl (λ next is. went table side events next last is later) untold is
   where
     by : (o : Option World) → after table event w ≡ o
         → ((next : World) → played table events next ≡ Some last → Went table side next last)
-        → is_told_by side event ≡ false → then_so o (played table events) ≡ Some last → Went table side w last
+        → is_tells_by side event ≡ false → option_then o (played table events) ≡ Some last → Went table side w last
     by None at on untold is = cc
     by (Some next) at on untold is =
         went_first table side w next last (acts_seen table side (seen side w) (seen side next) (step_acts table side event w next at untold)) (on next is)

@@ -5,7 +5,7 @@ use Rattle.tcap_record.specs.declared.entry.End.{End as Side}
 use Rattle.tcap_record.specs.declared.entry.End.TheVariants as sides
 use Rattle.tcap_end.specs.End.{End}
 use Rattle.tcap_record.specs.Ends.{other}
-use Rattle.tcap_model.specs.World.{OnItsWay, Sent, World, channel_from, end_at, is_side, with_channel, with_end}
+use Rattle.tcap_model.specs.World.{MessageInTransit, Sent, World, channel_from, end_at, is_side, with_channel, with_end}
 use Rattle.tcap_model.specs.Run.{joined}
 
 pub itself : (side : Side) → is_side side side ≡ true
@@ -40,22 +40,22 @@ pub with_same : (side : Side) (w : World) → with_channel side (channel_from si
 with_same sides.A w = refl
 with_same sides.B w = refl
 
-pub own_with_channel : (side : Side) (messages : List OnItsWay) (w : World)
+pub own_with_channel : (side : Side) (messages : List MessageInTransit) (w : World)
     → channel_from side (with_channel (other side) messages w) ≡ channel_from side w
 own_with_channel sides.A messages w = refl
 own_with_channel sides.B messages w = refl
 
-pub end_with_channel : (at side : Side) (messages : List OnItsWay) (w : World) → end_at at (with_channel side messages w) ≡ end_at at w
+pub end_with_channel : (at side : Side) (messages : List MessageInTransit) (w : World) → end_at at (with_channel side messages w) ≡ end_at at w
 end_with_channel sides.A sides.A messages w = refl
 end_with_channel sides.A sides.B messages w = refl
 end_with_channel sides.B sides.A messages w = refl
 end_with_channel sides.B sides.B messages w = refl
 
-pub sent_with_channel : (side : Side) (messages : List OnItsWay) (w : World) → (with_channel side messages w).sent ≡ w.sent
+pub sent_with_channel : (side : Side) (messages : List MessageInTransit) (w : World) → (with_channel side messages w).sent ≡ w.sent
 sent_with_channel sides.A messages w = refl
 sent_with_channel sides.B messages w = refl
 
-pub peer_stays : (side : Side) (messages : List OnItsWay) (w : World)
+pub peer_stays : (side : Side) (messages : List MessageInTransit) (w : World)
     → channel_from (other side) (with_channel side messages w) ≡ channel_from (other side) w
 peer_stays sides.A messages w = refl
 peer_stays sides.B messages w = refl

@@ -10,13 +10,13 @@ use Rattle.tcap_record.specs.declared.entry.End.TheVariants as sides
 use Rattle.tcap_end.specs.declared.fault.EndFault.{EndFault}
 use Rattle.tcap_end.specs.declared.half.Phase.TheVariants as phases
 use Rattle.tcap_end.specs.Table.{Table}
-use Rattle.tcap_end.specs.End.{End, KeptHalf, nothing}
+use Rattle.tcap_end.specs.End.{End, KeyedHalf, nothing}
 use Rattle.tcap_end.specs.Message.{send}
-use Rattle.tcap_end.specs.ReachableEnd.{Has, IsEnd}
+use Rattle.tcap_end.specs.ReachableEnd.{HasHalf, IsEnd}
 use Rattle.tcap_end.proofs.EndLaws.{no_half}
 use Rattle.tcap_record.specs.Ends.{other}
-use Rattle.tcap_model.specs.World.{OnItsWay, Sent, World, channel_from, empty, end_at, is_side, with_channel, with_end}
-use Rattle.tcap_model.specs.Run.{Event, Sends, Receives, Replies, Loses, Expires, Closes, Quiet, Tells, Runs, after, is_told_by, joined, reply_to}
+use Rattle.tcap_model.specs.World.{MessageInTransit, Sent, World, channel_from, empty, end_at, is_side, with_channel, with_end}
+use Rattle.tcap_model.specs.Run.{Event, Sends, Receives, Replies, Loses, Expires, Closes, Quiet, Tells, Runs, after, is_tells_by, joined, reply_to}
 use Rattle.tcap_model.specs.SinceMark.{HasUsed, SentSince, WasSent, ended_by}
 use Rattle.tcap_model.proofs.Moves.{Moves}
 use Rattle.tcap_model.proofs.TurnLaws.{moves_nowhere}
@@ -43,12 +43,12 @@ pub record EndMoves (side : Side) (w next : World) : Type 1 where
 -- If the message ended the dialogue with a peer, the end has a closed half with this peer ID.
 abbrev pub HasEnded : World → Side → Message → Type 0
 HasEnded w side m = (id : List ℕ) → ended_by m ≡ Some id
-    → (f : KeptHalf) × Has (end_at side w) f × (f.half.peer ≡ Some id) × (f.half.phase ≡ phases.Closed)
+    → (f : KeyedHalf) × HasHalf (end_at side w) f × (f.half.peer ≡ Some id) × (f.half.phase ≡ phases.Closed)
 
 -- Messages sent since the last mark stay so, and a new one of a lawful end has its half.
 pub record SentMore (event : Event) (w next : World) : Type 0 where
   pub keeps : (side : Side) (m : Message) → SentSince side m w.sent → SentSince side m next.sent
-  pub adds : (side : Side) (m : Message) → is_told_by side event ≡ false
+  pub adds : (side : Side) (m : Message) → is_tells_by side event ≡ false
       → SentSince side m next.sent → SentSince side m w.sent ⊎ (HasUsed next side m × HasEnded next side m)
 
 -- Both ends move, and the sent list grows.
@@ -58,7 +58,7 @@ pub record Advances (event : Event) (w next : World) : Type 1 where
 
 -- There is no half, and nothing was sent since the last mark.
 pub record IsBlank (w : World) : Type 0 where
-  pub halves : (side : Side) (f : KeptHalf) → Has (end_at side w) f → ⊥
+  pub halves : (side : Side) (f : KeyedHalf) → HasHalf (end_at side w) f → ⊥
   pub sent : (side : Side) (m : Message) → SentSince side m w.sent → ⊥
 
 -- ---- ends
@@ -90,19 +90,19 @@ changes_sent sides.A m made w = record { here = refl; there = refl }
 changes_sent sides.B m made w = record { here = refl; there = refl }
 
 -- A delivery changes its receiver.
-changes_got : (side : Side) (more : List OnItsWay) (made : End) (w : World)
+changes_got : (side : Side) (more : List MessageInTransit) (made : End) (w : World)
     → Changes side made w (with_end side made (with_channel (other side) more w))
 changes_got sides.A more made w = record { here = refl; there = refl }
 changes_got sides.B more made w = record { here = refl; there = refl }
 
 -- A provider's reply changes no end.
-changes_replied : (side : Side) (m : Message) (more : List OnItsWay) (w : World)
+changes_replied : (side : Side) (m : Message) (more : List MessageInTransit) (w : World)
     → Changes side (end_at side w) w (joined side m (with_channel (other side) more w))
 changes_replied sides.A m more w = record { here = refl; there = refl }
 changes_replied sides.B m more w = record { here = refl; there = refl }
 
 -- A loss changes no end.
-changes_lost : (side : Side) (more : List OnItsWay) (w : World) → Changes side (end_at side w) w (with_channel side more w)
+changes_lost : (side : Side) (more : List MessageInTransit) (w : World) → Changes side (end_at side w) w (with_channel side more w)
 changes_lost sides.A more w = record { here = refl; there = refl }
 changes_lost sides.B more w = record { here = refl; there = refl }
 
@@ -253,7 +253,7 @@ hidden_advances event side step w next moves is = record {
 -- ---- blank worlds
 
 -- Empty ends have no half.
-none_had : (w : World) → w.a ≡ nothing → w.b ≡ nothing → (side : Side) (f : KeptHalf) → Has (end_at side w) f → ⊥
+none_had : (w : World) → w.a ≡ nothing → w.b ≡ nothing → (side : Side) (f : KeyedHalf) → HasHalf (end_at side w) f → ⊥
 none_had w a b sides.A f had = no_half f.slot f.key f.half (rw a at had)
 none_had w a b sides.B f had = no_half f.slot f.key f.half (rw b at had)
 

@@ -16,15 +16,15 @@ use Rattle.tcap_end.specs.Message.{receive, send}
 use Rattle.tcap_end.specs.Reply.{refuse_begin, refuse_continue}
 use Rattle.tcap_end.specs.HiddenSteps.{close, expire}
 use Rattle.tcap_record.specs.Ends.{other}
-use Rattle.tcap_model.specs.World.{Item, OnItsWay, Sent, World, channel_from, empty, end_at, is_side, with_channel, with_end}
+use Rattle.tcap_model.specs.World.{Item, MessageInTransit, Sent, World, channel_from, empty, end_at, is_side, with_channel, with_end}
 
 -- the value if the condition holds, else None
-abbrev pub where_so : {A : Type 0} → Bool → Option A → Option A
-where_so so step = cond so step None
+abbrev pub only_if : {A : Type 0} → Bool → Option A → Option A
+only_if so step = cond so step None
 
 -- the next step from a value, or None if there is no value
-abbrev pub then_so : {A B : Type 0} → Option A → (A → Option B) → Option B
-then_so o step = option_and_then step o
+abbrev pub option_then : {A B : Type 0} → Option A → (A → Option B) → Option B
+option_then o step = option_and_then step o
 
 -- A step of a run, with the end that acts; the actor of a loss is the end that sent the message. A step that takes a
 -- message from a channel has the number of the message in the sent list.
@@ -53,13 +53,14 @@ abbrev pub joined : Side → Message → World → World
 joined side message w = record (with_channel side
     (channel_from side w ++ on_its_way ∷ []) w) { sent = w.sent ++ Sent side message ∷ [] }
   where
-    on_its_way : OnItsWay
+    on_its_way : MessageInTransit
     on_its_way = record { number = length w.sent; message = message }
 
 -- `step` applied to the head of a channel and the rest, or None if the head does not have this number
-abbrev pub head_taken : {A : Type 0} → ℕ → (Message → List OnItsWay → Option A) → List OnItsWay → Option A
+abbrev pub head_taken : {A : Type 0} → ℕ → (Message → List MessageInTransit → Option A) → List MessageInTransit
+    → Option A
 head_taken number step [] = None
-head_taken number step (head ∷ more) = where_so (head.number == number) (step head.message more)
+head_taken number step (head ∷ more) = only_if (head.number == number) (step head.message more)
 
 -- an Abort with this P-Abort cause to this transaction ID (Q.773)
 abbrev pub provider_abort : List ℕ → ℕ → Message
@@ -78,16 +79,16 @@ may_refuse e message abort = is_ok (refuse_begin e message abort) || is_ok (refu
 
 -- the Abort with which the provider of this end may answer the message, or None
 abbrev pub reply_to : End → Message → Option Message
-reply_to e message = then_so (abort_for message) (λ abort. where_so (may_refuse e message abort) (Some abort))
+reply_to e message = option_then (abort_for message) (λ abort. only_if (may_refuse e message abort) (Some abort))
 
 -- the world after a quiet mark, or None unless both ends are quiet and nothing is in transit; no half and no used ID is
 -- left
 abbrev pub after_quiet : World → Option World
 after_quiet w = by w.from_a w.from_b
   where
-    by : List OnItsWay → List OnItsWay → Option World
+    by : List MessageInTransit → List MessageInTransit → Option World
     by [] [] =
-        then_so (result_ok (quiet w.a))
+        option_then (result_ok (quiet w.a))
         (λ a. option_map (λ b. record { a = a; b = b; from_a = []; from_b = []; sent = w.sent ++ Item.Quiet ∷ [] })
         (result_ok (quiet w.b)))
     by _ _ = None
@@ -119,7 +120,7 @@ after table (Event.Tells side message) w = Some (joined side message w)
 -- the world after these events, or None if one of them cannot happen
 abbrev pub played : Table → List Event → World → Option World
 played table [] w = Some w
-played table (event ∷ events) w = then_so (after table event w) (played table events)
+played table (event ∷ events) w = option_then (after table event w) (played table events)
 
 -- These events lead from the empty world to this one.
 abbrev pub Runs : Table → List Event → World → Type 0
@@ -130,7 +131,8 @@ Runs table events w = played table events empty ≡ Some w
 abbrev pub Adds : World → Event → List Item → Type 0
 Adds w (Sends side message) items = items ≡ Sent side message ∷ []
 Adds w (Replies side number) items =
-    (head : OnItsWay) × (more : List OnItsWay) × (abort : Message) × (channel_from (other side) w ≡ head ∷ more)
+    (head : MessageInTransit) × (more : List MessageInTransit) × (abort : Message)
+    × (channel_from (other side) w ≡ head ∷ more)
     × (head.number ≡ number)
     × (abort_for head.message ≡ Some abort) × (items ≡ Sent side abort ∷ [])
 Adds w Quiet items = items ≡ Item.Quiet ∷ []
@@ -150,7 +152,7 @@ numbers_taken side [] = []
 numbers_taken side (event ∷ events) = takes_from side event ++ numbers_taken side events
 
 -- the numbers of these messages
-abbrev pub numbers_of : List OnItsWay → List ℕ
+abbrev pub numbers_of : List MessageInTransit → List ℕ
 numbers_of messages = map (λ m. m.number) messages
 
 -- the numbers of the messages that this end sent; the first of these items has number n
@@ -167,18 +169,18 @@ IsRunOf items table events = (w : World) × Runs table events w × (w.sent ≡ i
 -- ---- ends that keep the rules
 
 -- whether the event is a message that this end sends by `Tells`
-abbrev pub is_told_by : Side → Event → Bool
-is_told_by side (Tells sender message) = is_side side sender
-is_told_by side _ = false
+abbrev pub is_tells_by : Side → Event → Bool
+is_tells_by side (Tells sender message) = is_side side sender
+is_tells_by side _ = false
 
 -- whether one of these events is a message that this end sends by `Tells`
-abbrev pub tells : Side → List Event → Bool
-tells side [] = false
-tells side (event ∷ events) = is_told_by side event || tells side events
+abbrev pub has_tells_by : Side → List Event → Bool
+has_tells_by side [] = false
+has_tells_by side (event ∷ events) = is_tells_by side event || has_tells_by side events
 
 -- This end keeps the rules in these events: it sends no message by `Tells`. The other end may do anything.
 abbrev pub KeepsRules : Side → List Event → Type 0
-KeepsRules side events = tells side events ≡ false
+KeepsRules side events = has_tells_by side events ≡ false
 
 -- Both ends keep the rules in these events.
 abbrev pub BothKeepRules : List Event → Type 0

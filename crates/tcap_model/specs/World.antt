@@ -22,7 +22,7 @@ has_quiet [] = false
 has_quiet (item ∷ more) = cond (is_quiet item) true (has_quiet more)
 
 -- A message in transit, with its number in the sent list, counted from 0.
-pub record OnItsWay : Type 0 where
+pub record MessageInTransit : Type 0 where
   pub number : ℕ
   pub message : Message
 
@@ -30,8 +30,8 @@ pub record OnItsWay : Type 0 where
 pub record World : Type 0 where
   pub a : End
   pub b : End
-  pub from_a : List OnItsWay
-  pub from_b : List OnItsWay
+  pub from_a : List MessageInTransit
+  pub from_b : List MessageInTransit
   pub sent : List Item
 
 -- the world before the first step
@@ -44,7 +44,7 @@ end_at sides.A w = w.a
 end_at sides.B w = w.b
 
 -- the messages in transit from an end, oldest first
-abbrev pub channel_from : Side → World → List OnItsWay
+abbrev pub channel_from : Side → World → List MessageInTransit
 channel_from sides.A w = w.from_a
 channel_from sides.B w = w.from_b
 
@@ -54,6 +54,6 @@ with_end sides.A e w = record w { a = e }
 with_end sides.B e w = record w { b = e }
 
 -- the world with these messages in transit from an end
-abbrev pub with_channel : Side → List OnItsWay → World → World
+abbrev pub with_channel : Side → List MessageInTransit → World → World
 with_channel sides.A messages w = record w { from_a = messages }
 with_channel sides.B messages w = record w { from_b = messages }

@@ -11,8 +11,8 @@ ghost use Rattle.tcap_msg.specs.declared.message.Message.{Message};
 ghost use Rattle.tcap_record.specs.declared.entry.End.{End as Side};
 ghost use Rattle.tcap_record.specs.declared.entry.End.TheVariants as sides;
 ghost use Rattle.tcap_end.specs.Table.{Table};
-ghost use Rattle.tcap_end.specs.End.{KeptHalf};
-ghost use Rattle.tcap_end.specs.ReachableEnd.{Has, IsEnd};
+ghost use Rattle.tcap_end.specs.End.{KeyedHalf};
+ghost use Rattle.tcap_end.specs.ReachableEnd.{HasHalf, IsEnd};
 ghost use Rattle.tcap_model.specs.World.{Item, World, channel_from, end_at};
 ghost use Rattle.tcap_model.specs.Run.{Adds, Event, IsLawful, IsLawfulFor, KeepsRules, Runs, after, numbers_of, numbers_sent, numbers_taken};
 ghost use Rattle.tcap_model.specs.SinceMark.{
@@ -81,16 +81,16 @@ pub fn messages_were_sent()
 /// Shows that a peer ID which a half knows is the originating ID of a Begin or a Continue that the peer sent since the
 /// last quiet mark.
 pub fn peers_were_sent()
-    ensures { (table : Table) (events : List Event) (w : World) (side : Side) (f : KeptHalf) → Runs table events w
-        → Has (end_at side w) f
+    ensures { (table : Table) (events : List Event) (w : World) (side : Side) (f : KeyedHalf) → Runs table events w
+        → HasHalf (end_at side w) f
         → PeerWasSent w side f }
 {}
 
 /// Shows that a half in Received with a requested dialogue has its reason. Since the last quiet mark, the peer sent a
 /// Begin with a dialogue request from the half's peer ID.
 pub fn requests_were_sent()
-    ensures { (table : Table) (events : List Event) (w : World) (side : Side) (f : KeptHalf) → Runs table events w
-        → Has (end_at side w) f
+    ensures { (table : Table) (events : List Event) (w : World) (side : Side) (f : KeyedHalf) → Runs table events w
+        → HasHalf (end_at side w) f
         → RequestWasSent w side f }
 {}
 
@@ -106,24 +106,24 @@ pub fn sent_ids_are_used()
 /// Shows that the peer sent each invocation which a half received, since the last quiet mark, in a message from the
 /// half's peer ID.
 pub fn invokes_were_sent()
-    ensures { (table : Table) (events : List Event) (w : World) (side : Side) (f : KeptHalf) → Runs table events w
-        → Has (end_at side w) f
+    ensures { (table : Table) (events : List Event) (w : World) (side : Side) (f : KeyedHalf) → Runs table events w
+        → HasHalf (end_at side w) f
         → InvokesWereSent w side f }
 {}
 
 /// Shows that the peer sent each answer which a half received, since the last quiet mark, in a message from the half's
 /// peer ID.
 pub fn answers_were_sent()
-    ensures { (table : Table) (events : List Event) (w : World) (side : Side) (f : KeptHalf) → Runs table events w
-        → Has (end_at side w) f
+    ensures { (table : Table) (events : List Event) (w : World) (side : Side) (f : KeyedHalf) → Runs table events w
+        → HasHalf (end_at side w) f
         → AnswersWereSent w side f }
 {}
 
 /// Shows which halves of a lawful end are closed: those to whose peer ID the end sent an End, or an Abort without
 /// cause, since the last quiet mark.
 pub fn ended_is_closed()
-    ensures { (table : Table) (events : List Event) (w : World) (side : Side) (f : KeptHalf) → Runs table events w
+    ensures { (table : Table) (events : List Event) (w : World) (side : Side) (f : KeyedHalf) → Runs table events w
         → KeepsRules side events
-        → Has (end_at side w) f
+        → HasHalf (end_at side w) f
         → EndedIsClosed w side f }
 {}

@@ -4,7 +4,7 @@ use Rattle.std.proofs.lemmas.List.{length-append}
 use Rattle.tcap_record.specs.declared.entry.Entry.{Entry}
 use Rattle.tcap_record.specs.declared.fault.FeedFault.{FeedFault}
 use Rattle.tcap_record.specs.RecordOctets.{octet_of, IsEntry, FramedFrom}
-use Rattle.tcap_record.specs.PartialRecord.{Held, Fed, IsFront, grown, dropped}
+use Rattle.tcap_record.specs.PartialRecord.{FramerState, IsFramedSoFar, IsFront, grown, dropped}
 use Rattle.tcap_record.proofs.FramingLaws.{IsEntryAt, entry_shorter, framed_more}
 
 -- an entry stays at the front if more octets follow
@@ -39,16 +39,16 @@ framed_on place (entry ∷ entries) octets rest more (others, is_entry, framed) 
           (framed_on (place + (length octets - length others)) entries others rest more framed),
     )
 
-pub fed_grown : (octets : List ℕ) (entries : List Entry) (h : Held) (more : List ℕ) (fault : Option FeedFault)
-    → Fed octets entries h → Fed (octets ++ more) entries (grown h more fault)
+pub fed_grown : (octets : List ℕ) (entries : List Entry) (h : FramerState) (more : List ℕ) (fault : Option FeedFault)
+    → IsFramedSoFar octets entries h → IsFramedSoFar (octets ++ more) entries (grown h more fault)
 fed_grown octets entries h more fault fed = record {
   framed = framed_on 0 entries octets h.octets more fed.framed;
   count_is = fed.count_is;
   place_is = omega (arith, fed.place_is, length-append h.octets more, length-append octets more);
 }
 
-pub fed_dropped : (octets : List ℕ) (entries : List Entry) (h : Held) (entry : Entry) → IsFront entry h → Fed octets entries h
-    → Fed octets (entries ++ entry ∷ []) (dropped h)
+pub fed_dropped : (octets : List ℕ) (entries : List Entry) (h : FramerState) (entry : Entry) → IsFront entry h → IsFramedSoFar octets entries h
+    → IsFramedSoFar octets (entries ++ entry ∷ []) (dropped h)
 fed_dropped octets entries h entry front fed =
     let there : IsEntryAt (record { octets = h.octets; place = h.place }) entry
     (record { octets = []; place = h.place + length h.octets }) =
@@ -60,14 +60,14 @@ fed_dropped octets entries h entry front fed =
       place_is = omega (arith, fed.place_is);
     }
 
--- `Fed` after dropping the entry at the front
-pub fed_emptied : (octets : List ℕ) (entries : List Entry) (h : Held) (entry : Entry) (left : List ℕ) (len : ℕ) → left ≡ []
-    → len ≡ length h.octets → h.fault ≡ None → IsFront entry h → Fed octets entries h
-    → Fed octets (entries ++ entry ∷ []) (record { octets = left; place = h.place + len; count = h.count + 1; fault = h.fault })
+-- `IsFramedSoFar` after dropping the entry at the front
+pub fed_emptied : (octets : List ℕ) (entries : List Entry) (h : FramerState) (entry : Entry) (left : List ℕ) (len : ℕ) → left ≡ []
+    → len ≡ length h.octets → h.fault ≡ None → IsFront entry h → IsFramedSoFar octets entries h
+    → IsFramedSoFar octets (entries ++ entry ∷ []) (record { octets = left; place = h.place + len; count = h.count + 1; fault = h.fault })
 fed_emptied octets entries h entry left len none same sound front fed =
     rw (none, same, sound) (fed_dropped octets entries h entry front fed)
 
-pub fed_taken : (octets : List ℕ) (entries : List Entry) (h : Held) (piece new : List ℕ) (n : ℕ) (fault : Option FeedFault)
-    → new ≡ h.octets ++ take n piece → Fed octets entries h
-    → Fed (octets ++ take n piece) entries (record { octets = new; place = h.place; count = h.count; fault = fault })
+pub fed_taken : (octets : List ℕ) (entries : List Entry) (h : FramerState) (piece new : List ℕ) (n : ℕ) (fault : Option FeedFault)
+    → new ≡ h.octets ++ take n piece → IsFramedSoFar octets entries h
+    → IsFramedSoFar (octets ++ take n piece) entries (record { octets = new; place = h.place; count = h.count; fault = fault })
 fed_taken octets entries h piece new n fault grown fed = rw grown (fed_grown octets entries h (take n piece) fault fed)

@@ -7,7 +7,7 @@ use Rattle.std.proofs.Math.Seq.{take-length}
 use Rattle.tcap_record.specs.declared.entry.Entry.{Entry}
 use Rattle.tcap_record.specs.declared.fault.FeedFault.{FeedFault}
 use Rattle.tcap_record.specs.RecordOctets.{entry_limit}
-use Rattle.tcap_record.specs.PartialRecord.{Held, Fed, IsHeld, IsHeldWith, IsPart, IsWhole, dropped, grown, cut_to}
+use Rattle.tcap_record.specs.PartialRecord.{FramerState, IsFramedSoFar, IsFramerState, IsFramerStateWith, IsPart, IsWhole, dropped, grown, cut_to}
 use Rattle.tcap_record.specs.FeederResult.{FinishesAs}
 use Rattle.tcap_record.proofs.FrontLaws.{part_not_whole}
 
@@ -19,9 +19,9 @@ no_less n all most not_less = by_test (n == all) refl
     by_test false e = let apart = eqb-false n all e in absurd (not_less (omega (arith, most, apart)))
 
 -- after a held entry, the record may have one more
-pub held_dropped : (h : Held) → IsHeld h → h.fault ≡ None → IsWhole h.octets → IsHeld (dropped h)
+pub held_dropped : (h : FramerState) → IsFramerState h → h.fault ≡ None → IsWhole h.octets → IsFramerState (dropped h)
 held_dropped h held sound whole =
-    let with : IsHeldWith h None = subst (IsHeldWith h) sound held.1 in
+    let with : IsFramerStateWith h None = subst (IsFramerStateWith h) sound held.1 in
     let room : h.count < entry_limit = with.0 (λ none. part_not_whole [] tt (subst IsWhole none whole)) in
     (omega (arith, room), ((λ some. absurd (some refl)), inl tt))
 
@@ -52,11 +52,11 @@ rest_on piece rest n m is most =
 pub rest_is : (piece : List ℕ) (n : ℕ) → take (length piece - n) (drop n piece) ≡ drop n piece
 rest_is piece n = ap (λ (k : ℕ). take k (drop n piece)) (sym (length-drop n piece)) ∙ take-length (drop n piece)
 
--- `Fed` with one more queued entry
-pub entry_waits : (octets : List ℕ) (taken waiting : List Entry) (entry : Entry) (h : Held)
-    → Fed octets ((taken ++ waiting) ++ entry ∷ []) h → Fed octets (taken ++ (waiting ++ entry ∷ [])) h
+-- `IsFramedSoFar` with one more queued entry
+pub entry_waits : (octets : List ℕ) (taken waiting : List Entry) (entry : Entry) (h : FramerState)
+    → IsFramedSoFar octets ((taken ++ waiting) ++ entry ∷ []) h → IsFramedSoFar octets (taken ++ (waiting ++ entry ∷ [])) h
 entry_waits octets taken waiting entry h fed =
-    subst (λ (entries : List Entry). Fed octets entries h) (append_assoc taken waiting (entry ∷ [])) fed
+    subst (λ (entries : List Entry). IsFramedSoFar octets entries h) (append_assoc taken waiting (entry ∷ [])) fed
 
 -- octets taken from the rest of a piece were taken from the piece
 pub fed_behind : (P : List ℕ → Type 0) (octets piece rest : List ℕ) (n : ℕ) (kept : Result (Unit {0}) FeedFault)
@@ -71,17 +71,17 @@ fed_behind P octets piece rest n (Err f) is most (m, few, fed) =
     (n + m, omega (arith, most, few, ap length is, length-drop n piece), subst P (taken_on octets piece rest n m is) fed)
 
 -- cutting the added octets restores the state
-pub cut_back : (h new : Held) (more : List ℕ) (len : ℕ) → h.fault ≡ None → len ≡ length h.octets → new ≡ grown h more None
+pub cut_back : (h new : FramerState) (more : List ℕ) (len : ℕ) → h.fault ≡ None → len ≡ length h.octets → new ≡ grown h more None
     → cut_to len new ≡ h
 cut_back h new more len sound is grew =
     ap (cut_to len) grew
-    ∙ ap (λ (x : List ℕ). let c : Held = record { octets = x; place = h.place; count = h.count; fault = None } in c)
+    ∙ ap (λ (x : List ℕ). let c : FramerState = record { octets = x; place = h.place; count = h.count; fault = None } in c)
     (take_at h.octets more len (sym is))
-    ∙ ap (λ (x : Option FeedFault). let c : Held = record { octets = h.octets; place = h.place; count = h.count; fault = x } in c)
+    ∙ ap (λ (x : Option FeedFault). let c : FramerState = record { octets = h.octets; place = h.place; count = h.count; fault = x } in c)
     (sym sound)
 
 -- if at most a part is held, the record may end exactly if nothing is held
-pub may_end : (r : Result (Unit {0}) FeedFault) (h : Held) → (h.fault ≡ None → IsPart h.octets) → FinishesAs r h
+pub may_end : (r : Result (Unit {0}) FeedFault) (h : FramerState) → (h.fault ≡ None → IsPart h.octets) → FinishesAs r h
     → IsOk r ↔ ((h.fault ≡ None) × (h.octets ≡ []))
 may_end (Ok done) h is_part (sound, inl none) = (λ _. (sound, none), λ _. refl)
 may_end (Ok done) h is_part (sound, inr whole) = absurd (part_not_whole h.octets (is_part sound) whole)

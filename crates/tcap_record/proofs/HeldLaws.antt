@@ -58,11 +58,11 @@ none_there None none = refl
 none_there (Some f) none = absurd (none f refl)
 
 -- if a part is held, the flag of a whole entry is false
-pub not_told : (told : Bool) (octets : List ℕ) → (told ≡ true → IsWhole octets) → IsPart octets → told ≡ false
+pub not_told : (returned : Bool) (octets : List ℕ) → (returned ≡ true → IsWhole octets) → IsPart octets → returned ≡ false
 not_told true octets whole is_part = absurd (part_not_whole octets is_part (whole refl))
 not_told false octets whole is_part = refl
 
 -- if a whole entry is held, the flag is true
-pub is_told : (told : Bool) (octets : List ℕ) → (told ≡ false → IsPart octets) → IsWhole octets → told ≡ true
+pub is_told : (returned : Bool) (octets : List ℕ) → (returned ≡ false → IsPart octets) → IsWhole octets → returned ≡ true
 is_told true octets is_part whole = refl
 is_told false octets is_part whole = absurd (part_not_whole octets (is_part refl) whole)

@@ -20,7 +20,7 @@ use Rattle.tcap_record.specs.declared.frames.Front.TheVariants.{Whole, Part, Ref
 use Rattle.tcap_record.specs.RecordOctets.{octet_of, quiet_octet, IsEntry, entry_limit}
 use Rattle.tcap_record.specs.FramingResult.{end_in}
 use Rattle.tcap_record.specs.FrontEntry.{front_by, front_at, whole_in}
-use Rattle.tcap_record.specs.PartialRecord.{Held, IsHeld, IsWhole, IsFront, Fed, dropped, grown}
+use Rattle.tcap_record.specs.PartialRecord.{FramerState, IsFramerState, IsWhole, IsFront, IsFramedSoFar, dropped, grown}
 use Rattle.tcap_record.specs.LentEntry.{IsLent}
 use Rattle.tcap_record.proofs.FrontLaws.{front_whole}
 use Rattle.tcap_record.proofs.FramingLaws.{end_is}
@@ -108,18 +108,18 @@ good_lent place first n element side m e read =
 -- ---- an entry that is passed
 
 -- after it, the record may have one more entry
-pub held_passed : (h : Held) (len : ℕ) → h.fault ≡ None → h.octets ≡ [] → h.count < entry_limit → IsHeld (record { octets = h.octets; place = h.place + len; count = h.count + 1; fault = h.fault })
+pub held_passed : (h : FramerState) (len : ℕ) → h.fault ≡ None → h.octets ≡ [] → h.count < entry_limit → IsFramerState (record { octets = h.octets; place = h.place + len; count = h.count + 1; fault = h.fault })
 held_passed h len sound nothing room = rw (sound, nothing) (omega (arith, room), ((λ some. absurd (some refl)), inl tt))
 
 -- the octets taken are one more entry
-pub fed_passed : (told : List ℕ) (entries : List Entry) (h : Held) (entry : Entry) (octets : List ℕ) → h.fault ≡ None → h.octets ≡ [] → IsEntry h.place entry octets [] → Fed told entries h
-    → Fed (told ++ octets) (entries ++ entry ∷ []) (record { octets = h.octets; place = h.place + length octets; count = h.count + 1; fault = h.fault })
-fed_passed told entries h entry octets sound nothing there fed =
+pub fed_passed : (returned : List ℕ) (entries : List Entry) (h : FramerState) (entry : Entry) (octets : List ℕ) → h.fault ≡ None → h.octets ≡ [] → IsEntry h.place entry octets [] → IsFramedSoFar returned entries h
+    → IsFramedSoFar (returned ++ octets) (entries ++ entry ∷ []) (record { octets = h.octets; place = h.place + length octets; count = h.count + 1; fault = h.fault })
+fed_passed returned entries h entry octets sound nothing there fed =
     let all : h.octets ++ octets ≡ octets = ap (λ (x : List ℕ). x ++ octets) nothing in
     let front : IsFront entry (grown h octets None) = subst (λ (x : List ℕ). IsEntry h.place entry x []) (sym all) there in
-    let after : Fed (told ++ octets) (entries ++ entry ∷ []) (dropped (grown h octets None)) =
-    fed_dropped (told ++ octets) entries (grown h octets None) entry front (fed_grown told entries h octets None fed) in
-    let last : (x : List ℕ) → x ≡ octets → Fed (told ++ octets) (entries ++ entry ∷ []) (record { octets = []; place = h.place + length x; count = h.count + 1; fault = None })
-    → Fed (told ++ octets) (entries ++ entry ∷ []) (record { octets = []; place = h.place + length octets; count = h.count + 1; fault = None }) =
-    λ x e f. subst (λ (y : List ℕ). Fed (told ++ octets) (entries ++ entry ∷ []) (record { octets = []; place = h.place + length y; count = h.count + 1; fault = None })) e f in
+    let after : IsFramedSoFar (returned ++ octets) (entries ++ entry ∷ []) (dropped (grown h octets None)) =
+    fed_dropped (returned ++ octets) entries (grown h octets None) entry front (fed_grown returned entries h octets None fed) in
+    let last : (x : List ℕ) → x ≡ octets → IsFramedSoFar (returned ++ octets) (entries ++ entry ∷ []) (record { octets = []; place = h.place + length x; count = h.count + 1; fault = None })
+    → IsFramedSoFar (returned ++ octets) (entries ++ entry ∷ []) (record { octets = []; place = h.place + length octets; count = h.count + 1; fault = None }) =
+    λ x e f. subst (λ (y : List ℕ). IsFramedSoFar (returned ++ octets) (entries ++ entry ∷ []) (record { octets = []; place = h.place + length y; count = h.count + 1; fault = None })) e f in
     rw (sound, nothing) (last (h.octets ++ octets) all after)

@@ -12,10 +12,10 @@ use Rattle.tcap_record.specs.declared.fault.FeedReason.TheVariants as feed
 use Rattle.tcap_record.specs.declared.packing.LineFault.{LineFault}
 use Rattle.tcap_record.specs.declared.packing.LineFault.TheVariants.{Bad, Memory}
 use Rattle.tcap_record.specs.declared.packing.PackFault.{PackFault}
-use Rattle.tcap_record.specs.declared.packing.Packing.{Packing}
+use Rattle.tcap_record.specs.declared.packing.PackState.{PackState}
 use Rattle.tcap_record.specs.FramingResult.{feed_fault}
 use Rattle.tcap_record.specs.HexLines.{AreLines, EndsInReturn, HasNoNewline, IsEndedLine, IsNoLine, IsPacked, IsPackedUpTo, IsRefusedLine, StandsFor, StopsAs, carriage_return, entries_in, line_limit, lines_limit, newline}
-use Rattle.tcap_record.specs.Packing.{Finishes, IsBehind, IsContentOf, IsFresh, IsLineRefused, IsOpen, Packs, PacksUpTo, line_fault}
+use Rattle.tcap_record.specs.PackState.{Finishes, IsBehind, IsContentOf, IsFresh, IsLineRefused, IsOpen, Packs, PacksUpTo, line_fault}
 
 -- ---- results
 
@@ -97,7 +97,7 @@ joined_then held octets more front mid front' rest before then =
     sym (append_assoc held octets more) ∙ ap (λ (x : List ℕ). x ++ more) before ∙ append_assoc front mid more
     ∙ ap (λ (x : List ℕ). front ++ x) then ∙ sym (append_assoc front front' rest)
 
-pub packs_then : (old mid new : Packing) (octets more : List ℕ) (a b c : Option (List ℕ)) → Packs old mid octets a b
+pub packs_then : (old mid new : PackState) (octets more : List ℕ) (a b c : Option (List ℕ)) → Packs old mid octets a b
     → Packs mid new more b c → Packs old new (octets ++ more) a c
 packs_then old mid new octets more a b c before then = record {
   lines = before.lines ++ then.lines;
@@ -109,7 +109,7 @@ packs_then old mid new octets more a b c before then = record {
   written = written_more a b c before.lines then.lines before.written then.written;
 }
 
-pub stops_then : (old mid : Packing) (octets more : List ℕ) (fault : FeedFault) (untold a b c : Option (List ℕ))
+pub stops_then : (old mid : PackState) (octets more : List ℕ) (fault : FeedFault) (untold a b c : Option (List ℕ))
     → Packs old mid octets a b → PacksUpTo mid more fault untold b c
     → PacksUpTo old (octets ++ more) fault untold a c
 stops_then old mid octets more fault untold a b c before then =
@@ -127,7 +127,7 @@ stops_then old mid octets more fault untold a b c before then =
     }
 
 -- packing stops at once
-pub stops_here : (p : Packing) (octets : List ℕ) (fault : FeedFault) (untold a b : Option (List ℕ)) → p.lines ≤ lines_limit → b ≡ a
+pub stops_here : (p : PackState) (octets : List ℕ) (fault : FeedFault) (untold a b : Option (List ℕ)) → p.lines ≤ lines_limit → b ≡ a
     → ((total : ℕ) → StopsAs p.lines total (p.line.items ++ octets) untold fault.reason fault.place)
     → PacksUpTo p octets fault untold a b
 stops_here p octets fault untold a b within same stops =
@@ -153,7 +153,7 @@ refused_stops count content rest untold fault (inr is) line total =
     subst (λ (f : FeedFault). StopsAs count total rest untold f.reason f.place) (sym is) refl
 
 -- The line is too long, or memory ran out.
-pub stops_long : (p : Packing) (front behind : List ℕ) (number : ℕ) (fault : LineFault) (untold a : Option (List ℕ))
+pub stops_long : (p : PackState) (front behind : List ℕ) (number : ℕ) (fault : LineFault) (untold a : Option (List ℕ))
     → p.lines ≤ lines_limit → number ≡ p.lines + 1
     → HasNoNewline p.line.items → HasNoNewline front → (fault ≡ Bad → line_limit + 1 < length (p.line.items ++ front))
     → PacksUpTo p (front ++ behind) (line_fault number fault) untold a a
@@ -173,7 +173,7 @@ stops_long p front behind number Bad untold a within is plain more long =
     ))
 
 -- The line is bad, or memory ran out.
-pub stops_line : (p : Packing) (front behind line content : List ℕ) (fault : FeedFault) (untold a b : Option (List ℕ))
+pub stops_line : (p : PackState) (front behind line content : List ℕ) (fault : FeedFault) (untold a b : Option (List ℕ))
     → p.lines ≤ lines_limit → b ≡ a
     → line ≡ p.line.items ++ front → HasNoNewline line → IsContentOf line content → IsLineRefused content (p.lines + 1) fault
     → PacksUpTo p (front ++ newline ∷ behind) fault untold a b
@@ -188,7 +188,7 @@ stops_line p front behind line content fault untold a b within same held plain i
         ∙ sym (append_assoc line (newline ∷ []) behind)
 
 -- The last line is bad, or memory ran out.
-pub stops_last : (p : Packing) (fault : FeedFault) (untold a b : Option (List ℕ)) → p.lines ≤ lines_limit → b ≡ a
+pub stops_last : (p : PackState) (fault : FeedFault) (untold a b : Option (List ℕ)) → p.lines ≤ lines_limit → b ≡ a
     → HasNoNewline p.line.items → p.line.items ≢ []
     → IsAtEnd untold → IsLineRefused p.line.items (p.lines + 1) fault → PacksUpTo p [] fault untold a b
 stops_last p fault untold a b within same plain some at_end refused =
@@ -198,7 +198,7 @@ stops_last p fault untold a b within same plain some at_end refused =
     (λ none. subst (λ (x : List ℕ). IsRefusedLine p.lines x untold) all (inr (inr (inr (at_end, plain, some, none))))))
 
 -- A line was packed.
-pub packs_line : (old held new : Packing) (front content : List ℕ) (line : Option (List ℕ)) (a b : Option (List ℕ))
+pub packs_line : (old held new : PackState) (front content : List ℕ) (line : Option (List ℕ)) (a b : Option (List ℕ))
     → held.line.items ≡ old.line.items ++ front → held.lines ≡ old.lines
     → held.entries ≡ old.entries → HasNoNewline held.line.items → IsContentOf held.line.items content → StandsFor content line
     → IsBehind line held new
@@ -256,13 +256,13 @@ lines_within (line ∷ lines) text (content, octets, more, ended, stands, joined
     ended_within (inl is) = omega (arith, ap length is, length-append content (carriage_return ∷ newline ∷ []))
     ended_within (inr is) = omega (arith, ap length is.1, length-append content (newline ∷ []))
 
-all_told : (start p : Packing) (told : List ℕ) (a b : Option (List ℕ)) → IsFresh start → (packs : Packs start p told a b)
-    → told ≡ packs.front ++ p.line.items
-all_told start p told a b fresh packs = ap (λ (x : List ℕ). x ++ told) (sym fresh.0) ∙ packs.joined
+all_told : (start p : PackState) (returned : List ℕ) (a b : Option (List ℕ)) → IsFresh start → (packs : Packs start p returned a b)
+    → returned ≡ packs.front ++ p.line.items
+all_told start p returned a b fresh packs = ap (λ (x : List ℕ). x ++ returned) (sym fresh.0) ∙ packs.joined
 
-pub told_within : (start p : Packing) (told : List ℕ) (a b : Option (List ℕ)) → IsFresh start → Packs start p told a b → IsOpen p
-    → length told ≤ 131094131093
-told_within start p told a b fresh packs is_open =
+pub told_within : (start p : PackState) (returned : List ℕ) (a b : Option (List ℕ)) → IsFresh start → Packs start p returned a b → IsOpen p
+    → length returned ≤ 131094131093
+told_within start p returned a b fresh packs is_open =
     omega (
       arith,
       fresh.1,
@@ -270,23 +270,23 @@ told_within start p told a b fresh packs is_open =
       is_open.within,
       is_open.short,
       lines_within packs.lines packs.front packs.are_lines,
-      ap length (all_told start p told a b fresh packs),
+      ap length (all_told start p returned a b fresh packs),
       length-append packs.front p.line.items,
     )
 
-packed_all : (start p : Packing) (told : List ℕ) (count : ℕ) (a b c : Option (List ℕ)) → IsFresh start → Packs start p told a b
+packed_all : (start p : PackState) (returned : List ℕ) (count : ℕ) (a b c : Option (List ℕ)) → IsFresh start → Packs start p returned a b
     → IsOpen p
-    → Finishes p count b c → IsPacked told count a c
-packed_all start p told count a b c fresh packs is_open (inl (none, count_is, nothing)) = record {
+    → Finishes p count b c → IsPacked returned count a c
+packed_all start p returned count a b c fresh packs is_open (inl (none, count_is, nothing)) = record {
   lines = packs.lines;
   is_text = inl (subst (AreLines packs.lines)
-      (sym (all_told start p told a b fresh packs ∙ ap (λ (x : List ℕ). packs.front ++ x) none ∙ append-nil packs.front))
+      (sym (all_told start p returned a b fresh packs ∙ ap (λ (x : List ℕ). packs.front ++ x) none ∙ append-nil packs.front))
       packs.are_lines);
   within = omega (arith, fresh.1, packs.lines_are, is_open.within);
   count_is = omega (arith, fresh.2, packs.entries_are, count_is);
   written = subst (Appends a c) (append-nil (concat (entries_in packs.lines))) (Appends-trans a b c _ _ packs.written nothing);
 }
-packed_all start p told count a b c fresh packs is_open (inr (some, (line, stands, count_is, written))) = record {
+packed_all start p returned count a b c fresh packs is_open (inr (some, (line, stands, count_is, written))) = record {
   lines = packs.lines ++ line ∷ [];
   is_text = inr (
     packs.lines,
@@ -294,7 +294,7 @@ packed_all start p told count a b c fresh packs is_open (inr (some, (line, stand
     packs.front,
     p.line.items,
     refl,
-    all_told start p told a b fresh packs,
+    all_told start p returned a b fresh packs,
     packs.are_lines,
     some,
     is_open.plain,
@@ -305,45 +305,45 @@ packed_all start p told count a b c fresh packs is_open (inr (some, (line, stand
   written = written_more a b c packs.lines (line ∷ []) packs.written written;
 }
 
-pub packed_up_to : (start : Packing) (told : List ℕ) (fault : FeedFault) (untold a b : Option (List ℕ)) → IsFresh start
-    → PacksUpTo start told fault untold a b → IsPackedUpTo told fault untold a b
-packed_up_to start told fault untold a b fresh packs =
+pub packed_up_to : (start : PackState) (returned : List ℕ) (fault : FeedFault) (untold a b : Option (List ℕ)) → IsFresh start
+    → PacksUpTo start returned fault untold a b → IsPackedUpTo returned fault untold a b
+packed_up_to start returned fault untold a b fresh packs =
     let count : start.lines + length packs.lines ≡ length packs.lines = omega (arith, fresh.1) in
     record {
       lines = packs.lines;
       front = packs.front;
       rest = packs.rest;
       are_lines = packs.are_lines;
-      joined = ap (λ (x : List ℕ). x ++ told) (sym fresh.0) ∙ packs.joined;
+      joined = ap (λ (x : List ℕ). x ++ returned) (sym fresh.0) ∙ packs.joined;
       within = omega (arith, packs.within, count);
-      stops = subst (λ (n : ℕ). StopsAs n (length told) packs.rest untold fault.reason fault.place) count
-          (packs.stops (length told));
+      stops = subst (λ (n : ℕ). StopsAs n (length returned) packs.rest untold fault.reason fault.place) count
+          (packs.stops (length returned));
       written = packs.written;
     }
 
-pub packed_then : (start p : Packing) (told more : List ℕ) (fault : FeedFault) (untold a b c : Option (List ℕ)) → IsFresh start
-    → Packs start p told a b → PacksUpTo p more fault untold b c
-    → IsPackedUpTo (told ++ more) fault untold a c
-packed_then start p told more fault untold a b c fresh packs then =
-    packed_up_to start (told ++ more) fault untold a c fresh (stops_then start p told more fault untold a b c packs then)
+pub packed_then : (start p : PackState) (returned more : List ℕ) (fault : FeedFault) (untold a b c : Option (List ℕ)) → IsFresh start
+    → Packs start p returned a b → PacksUpTo p more fault untold b c
+    → IsPackedUpTo (returned ++ more) fault untold a c
+packed_then start p returned more fault untold a b c fresh packs then =
+    packed_up_to start (returned ++ more) fault untold a c fresh (stops_then start p returned more fault untold a b c packs then)
 
 -- The reader failed after these octets.
-pub packed_unread : (start p : Packing) (told : List ℕ) (untold a b : Option (List ℕ)) → IsFresh start → Packs start p told a b
+pub packed_unread : (start p : PackState) (returned : List ℕ) (untold a b : Option (List ℕ)) → IsFresh start → Packs start p returned a b
     → IsOpen p
-    → IsPackedUpTo told (feed_fault feed.Read (length told)) untold a b
-packed_unread start p told untold a b fresh packs is_open = record {
+    → IsPackedUpTo returned (feed_fault feed.Read (length returned)) untold a b
+packed_unread start p returned untold a b fresh packs is_open = record {
   lines = packs.lines;
   front = packs.front;
   rest = p.line.items;
   are_lines = packs.are_lines;
-  joined = all_told start p told a b fresh packs;
+  joined = all_told start p returned a b fresh packs;
   within = omega (arith, fresh.1, packs.lines_are, is_open.within);
   stops = (refl, is_open.plain, (λ some. omega (arith, fresh.1, packs.lines_are, is_open.room some)), is_open.short);
   written = packs.written;
 }
 
 -- This fault is not a failure of the reader.
-pub stops_unread : (p : Packing) (octets : List ℕ) (fault : FeedFault) (untold a b : Option (List ℕ))
+pub stops_unread : (p : PackState) (octets : List ℕ) (fault : FeedFault) (untold a b : Option (List ℕ))
     → PacksUpTo p octets fault untold a b → fault.reason ≢ feed.Read
 stops_unread p octets fault untold a b packs read =
     let at : (total : ℕ) → fault.place ≡ total = λ total.
@@ -352,24 +352,24 @@ stops_unread p octets fault untold a b packs read =
     absurd (omega (arith, at 0, at 1))
 
 -- A read returned no octets.
-pub told_no_more : (a b c : Option (List ℕ)) (told buffer : List ℕ) (n : ℕ) → n ≡ 0 → Consumes a b told
-    → Consumes b c (take n buffer) → Consumes a c told
-told_no_more a b c told buffer n none before more =
-    subst (Consumes a c) (append-nil told)
-    (Consumes-trans a b c told [] before (subst (λ (k : ℕ). Consumes b c (take k buffer)) none more))
+pub told_no_more : (a b c : Option (List ℕ)) (returned buffer : List ℕ) (n : ℕ) → n ≡ 0 → Consumes a b returned
+    → Consumes b c (take n buffer) → Consumes a c returned
+told_no_more a b c returned buffer n none before more =
+    subst (Consumes a c) (append-nil returned)
+    (Consumes-trans a b c returned [] before (subst (λ (k : ℕ). Consumes b c (take k buffer)) none more))
 
 -- A failed read consumed nothing.
-pub told_nothing : (a b c : Option (List ℕ)) (told : List ℕ) → Consumes a b told → Keeps b c → Consumes a c told
-told_nothing None b c told before keeps = tt
-told_nothing (Some xs) None c told before keeps = absurd before
-told_nothing (Some xs) (Some ys) None told before keeps = absurd keeps
-told_nothing (Some xs) (Some ys) (Some zs) told before keeps = before ∙ ap (λ (x : List ℕ). told ++ x) (sym keeps)
+pub told_nothing : (a b c : Option (List ℕ)) (returned : List ℕ) → Consumes a b returned → Keeps b c → Consumes a c returned
+told_nothing None b c returned before keeps = tt
+told_nothing (Some xs) None c returned before keeps = absurd before
+told_nothing (Some xs) (Some ys) None returned before keeps = absurd keeps
+told_nothing (Some xs) (Some ys) (Some zs) returned before keeps = before ∙ ap (λ (x : List ℕ). returned ++ x) (sym keeps)
 
 -- the result at the reader's end
-pub packed_ok : (result : Result ℕ PackFault) (start p : Packing) (told : List ℕ) (old new a b c : Option (List ℕ)) → IsFresh start
-    → Packs start p told a b → IsOpen p
-    → IsAtEnd new → Consumes old new told → IfOk result (λ count. Finishes p count b c)
+pub packed_ok : (result : Result ℕ PackFault) (start p : PackState) (returned : List ℕ) (old new a b c : Option (List ℕ)) → IsFresh start
+    → Packs start p returned a b → IsOpen p
+    → IsAtEnd new → Consumes old new returned → IfOk result (λ count. Finishes p count b c)
     → IfOk result (λ count. IsAtEnd new × ((all : List ℕ) × Consumes old new all × IsPacked all count a c))
-packed_ok (Ok count) start p told old new a b c fresh packs is_open at_end consumed finishes =
-    (at_end, (told, consumed, packed_all start p told count a b c fresh packs is_open finishes))
-packed_ok (Err fault) start p told old new a b c fresh packs is_open at_end consumed finishes = tt
+packed_ok (Ok count) start p returned old new a b c fresh packs is_open at_end consumed finishes =
+    (at_end, (returned, consumed, packed_all start p returned count a b c fresh packs is_open finishes))
+packed_ok (Err fault) start p returned old new a b c fresh packs is_open at_end consumed finishes = tt

@@ -112,21 +112,22 @@ StopsAs count total rest untold feed.Memory place = place ≡ 0
 StopsAs count total rest untold _ place = ⊥
 
 -- What was read is a text of lines, and their `count` entries were written.
-pub record IsPacked (told : List ℕ) (count : ℕ) (taken taken' : Option (List ℕ)) : Type 0 where
+pub record IsPacked (returned : List ℕ) (count : ℕ) (taken taken' : Option (List ℕ)) : Type 0 where
   pub lines : List (Option (List ℕ))
-  pub is_text : IsText lines told
+  pub is_text : IsText lines returned
   pub within : length lines ≤ lines_limit
   pub count_is : count ≡ length (entries_in lines)
   pub written : Appends taken taken' (concat (entries_in lines))
 
 -- What was read begins with these lines, whose entries were written, and packing stopped there for this fault.
-pub record IsPackedUpTo (told : List ℕ) (fault : FeedFault) (untold : Option (List ℕ)) (taken taken' : Option (List ℕ))
+pub record IsPackedUpTo (returned : List ℕ) (fault : FeedFault) (untold : Option (List ℕ))
+    (taken taken' : Option (List ℕ))
     : Type 0 where
   pub lines : List (Option (List ℕ))
   pub front : List ℕ
   pub rest : List ℕ
   pub are_lines : AreLines lines front
-  pub joined : told ≡ front ++ rest
+  pub joined : returned ≡ front ++ rest
   pub within : length lines ≤ lines_limit
-  pub stops : StopsAs (length lines) (length told) rest untold fault.reason fault.place
+  pub stops : StopsAs (length lines) (length returned) rest untold fault.reason fault.place
   pub written : Appends taken taken' (concat (entries_in lines))

@@ -11,4 +11,4 @@ pub mod LentEntry
 pub mod FeederResult
 pub mod FeederState
 pub mod HexLines
-pub mod Packing
+pub mod PackState

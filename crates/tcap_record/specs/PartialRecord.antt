@@ -10,7 +10,7 @@ use Rattle.tcap_record.specs.RecordOctets.{octet_of, quiet_octet, IsEntry, Frame
 
 -- The octets that were taken and belong to no dropped entry, and the place of the first. Also the number of entries
 -- dropped, and the fault of the octets.
-pub record Held : Type 0 where
+pub record FramerState : Type 0 where
   pub octets : List ℕ
   pub place : ℕ
   pub count : ℕ
@@ -29,38 +29,38 @@ IsWhole octets =
 
 -- Without a fault, the octets are a part of an entry or a whole one, and the record may have one more entry. With a
 -- fault, they have that fault, which is not CutRecord.
-abbrev pub IsHeldWith : Held → Option FeedFault → Type 0
-IsHeldWith h None = (h.octets ≢ [] → h.count < entry_limit) × (IsPart h.octets ⊎ IsWhole h.octets)
-IsHeldWith h (Some f) =
+abbrev pub IsFramerStateWith : FramerState → Option FeedFault → Type 0
+IsFramerStateWith h None = (h.octets ≢ [] → h.count < entry_limit) × (IsPart h.octets ⊎ IsWhole h.octets)
+IsFramerStateWith h (Some f) =
     (offset : ℕ) × (f.place ≡ h.place + offset) × IsRestFault h.count h.octets f.reason offset
     × (f.reason ≢ feed.CutRecord)
 
 -- a consistent state
-abbrev pub IsHeld : Held → Type 0
-IsHeld h = (h.count ≤ entry_limit) × IsHeldWith h h.fault
+abbrev pub IsFramerState : FramerState → Type 0
+IsFramerState h = (h.count ≤ entry_limit) × IsFramerStateWith h h.fault
 
 -- no octet was taken
-abbrev pub nothing_held : Held
-nothing_held = record { octets = []; place = 0; count = 0; fault = None }
+abbrev pub empty_framer : FramerState
+empty_framer = record { octets = []; place = 0; count = 0; fault = None }
 
 -- the state with more octets, and this fault
-abbrev pub grown : Held → List ℕ → Option FeedFault → Held
+abbrev pub grown : FramerState → List ℕ → Option FeedFault → FramerState
 grown h more fault = record { octets = h.octets ++ more; place = h.place; count = h.count; fault = fault }
 
 -- the state after dropping the entry at the front
-abbrev pub dropped : Held → Held
+abbrev pub dropped : FramerState → FramerState
 dropped h = record { octets = []; place = h.place + length h.octets; count = h.count + 1; fault = None }
 
 -- the state with the first `len` octets only, without a fault
-abbrev pub cut_to : ℕ → Held → Held
+abbrev pub cut_to : ℕ → FramerState → FramerState
 cut_to len h = record { octets = take len h.octets; place = h.place; count = h.count; fault = None }
 
 -- All octets taken so far are the dropped entries and the octets held.
-pub record Fed (octets : List ℕ) (entries : List Entry) (h : Held) : Type 0 where
+pub record IsFramedSoFar (octets : List ℕ) (entries : List Entry) (h : FramerState) : Type 0 where
   pub framed : Framed entries octets h.octets
   pub count_is : h.count ≡ length entries
   pub place_is : h.place + length h.octets ≡ length octets
 
 -- the octets held are exactly this entry
-abbrev pub IsFront : Entry → Held → Type 0
+abbrev pub IsFront : Entry → FramerState → Type 0
 IsFront entry h = IsEntry h.place entry h.octets []

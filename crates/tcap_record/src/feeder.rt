@@ -5,12 +5,12 @@ ghost use Rattle.tcap_record.specs.declared.entry.Entry.{Entry};
 ghost use Rattle.tcap_record.specs.declared.fault.FeedFault.{FeedFault};
 ghost use Rattle.tcap_record.specs.declared.fault.FeedReason.{FeedReason};
 ghost use Rattle.tcap_record.specs.FramingResult.{feed_fault};
-ghost use Rattle.tcap_record.specs.PartialRecord.{Fed, IsFront, IsHeld, IsPart, IsWhole};
+ghost use Rattle.tcap_record.specs.PartialRecord.{IsFramedSoFar, IsFront, IsFramerState, IsPart, IsWhole};
 
 use crate::entry::Entry;
+use crate::entry_octets::OUT_OF_MEMORY;
 use crate::fault::{FeedFault, FeedReason};
 use crate::frames::Frames;
-use crate::framing::OUT_OF_MEMORY;
 use std::alloc::{AllocError, Global};
 use std::collections::VecDeque;
 use std::marker::Model;
@@ -27,14 +27,14 @@ pub struct Feeder {
 
 impl Model for Feeder {
     ghost use Rattle.std.specs.Prelude.{◌≡◌, None};
-    ghost use Rattle.tcap_record.specs.PartialRecord.{IsPart, IsHeld};
-    ghost use Rattle.tcap_record.specs.FeederState.{Kept};
+    ghost use Rattle.tcap_record.specs.PartialRecord.{IsPart, IsFramerState};
+    ghost use Rattle.tcap_record.specs.FeederState.{FeederState};
 
-    ghost Value = { Kept };
+    ghost Value = { FeederState };
 
     ghost view = { λ a. record { held = a.frames; waiting = a.waiting.items } };
 
-    ghost invariant = { λ a. IsHeld a.frames × (a.frames.fault ≡ None → IsPart a.frames.octets) };
+    ghost invariant = { λ a. IsFramerState a.frames × (a.frames.fault ≡ None → IsPart a.frames.octets) };
 }
 
 /// Appends a copy of the whole entry at the front to `waiting`. Returns whether there is one.
@@ -69,10 +69,10 @@ fn keep_all(
     ensures sound { OnOk result ((frames.new.fault ≡ None) × IsPart frames.new.octets) }
     ensures failed { (f : FeedFault) → result ≡ Err f → (f ≡ feed_fault FeedReason.Memory 0)
         ⊎ (frames.new.fault ≡ Some f) }
-    ensures held { IsHeld frames.old → IsHeld frames.new }
-    ensures fed { (octets : List ℕ) (taken : List Entry) → Fed octets (taken ++ waiting.old.items) frames.old
-        → MatchResult result (λ _. Fed (octets ++ piece.now) (taken ++ waiting.new.items) frames.new)
-        (λ _. (n : ℕ) × (n ≤ length piece.now) × Fed (octets ++ take n piece.now)
+    ensures held { IsFramerState frames.old → IsFramerState frames.new }
+    ensures fed { (octets : List ℕ) (taken : List Entry) → IsFramedSoFar octets (taken ++ waiting.old.items) frames.old
+        → MatchResult result (λ _. IsFramedSoFar (octets ++ piece.now) (taken ++ waiting.new.items) frames.new)
+        (λ _. (n : ℕ) × (n ≤ length piece.now) × IsFramedSoFar (octets ++ take n piece.now)
         (taken ++ waiting.new.items) frames.new) }
 {
     let mut rest = piece;
@@ -105,17 +105,18 @@ fn keep_rest(
     waiting: &mut VecDeque<Entry>,
 ) -> Result<Option<(Frames, Result<(), FeedFault>)>, AllocError>
     requires sound { frames.now.fault ≡ None }
-    requires held { IsHeld frames.now }
+    requires held { IsFramerState frames.now }
     ensures none { result ≡ Ok None → (IsWhole frames.now.octets → ⊥) × (waiting.new.items ≡ waiting.old.items) }
     ensures memory { OnErr result (IsWhole frames.now.octets) }
     ensures kept { (more : List Entry) × (waiting.new.items ≡ waiting.old.items ++ more) }
     ensures sound { IfOk result (λ found. IfSome found (λ x. OnOk x.1 ((x.0.fault ≡ None) × IsPart x.0.octets))) }
     ensures failed { IfOk result (λ found. IfSome found (λ x. IfErr x.1 (λ f. x.0.fault ≡ Some f))) }
-    ensures held { IfOk result (λ found. IfSome found (λ x. IsHeld x.0)) }
+    ensures held { IfOk result (λ found. IfSome found (λ x. IsFramerState x.0)) }
     ensures fed { IfOk result (λ found. IfSome found (λ x. (octets : List ℕ) (taken : List Entry)
-        → Fed octets (taken ++ waiting.old.items) frames.now
-        → MatchResult x.1 (λ _. Fed (octets ++ piece.now) (taken ++ waiting.new.items) x.0)
-        (λ _. (n : ℕ) × (n ≤ length piece.now) × Fed (octets ++ take n piece.now) (taken ++ waiting.new.items) x.0))) }
+        → IsFramedSoFar octets (taken ++ waiting.old.items) frames.now
+        → MatchResult x.1 (λ _. IsFramedSoFar (octets ++ piece.now) (taken ++ waiting.new.items) x.0)
+        (λ _. (n : ℕ) × (n ≤ length piece.now)
+        × IsFramedSoFar (octets ++ take n piece.now) (taken ++ waiting.new.items) x.0))) }
 {
     if !keep_front(alloc, frames, waiting)? {
         return Ok(None);
@@ -132,13 +133,13 @@ impl Feeder {
     ghost use Rattle.std.specs.Prelude.{◌≡◌, ◌+◌, ◌++◌, ◌∷◌, ◌≤◌, ◌↔◌, [], ℕ, List, length, take, Some, None, Err, IsOk, OnOk, MatchResult, MatchOption};
     ghost use Rattle.tcap_record.specs.declared.entry.Entry.{Entry};
     ghost use Rattle.tcap_record.specs.declared.fault.FeedFault.{FeedFault};
-    ghost use Rattle.tcap_record.specs.PartialRecord.{nothing_held, IsHeld, IsPart};
+    ghost use Rattle.tcap_record.specs.PartialRecord.{empty_framer, IsFramerState, IsPart};
     ghost use Rattle.tcap_record.specs.FeederResult.{FinishesAs};
-    ghost use Rattle.tcap_record.specs.FeederState.{Kept, FedTo, FeedsNot};
+    ghost use Rattle.tcap_record.specs.FeederState.{FeederState, IsFedSoFar, FailsToFeed};
 
     /// Creates a feeder to which nothing was fed.
     pub fn new(alloc: Global) -> Feeder
-        ensures { result ≡ record { held = nothing_held; waiting = [] } }
+        ensures { result ≡ record { held = empty_framer; waiting = [] } }
     {
         Feeder {
             alloc,
@@ -158,15 +159,15 @@ impl Feeder {
         // On success, there is no fault, and only a part of an entry or nothing is held.
         ensures sound { OnOk result ((self.old.held.fault ≡ None) × (self.new.held.fault ≡ None)
             × IsPart self.new.held.octets) }
-        ensures fails { (f : FeedFault) → result ≡ Err f → FeedsNot f self.old self.new piece.now }
+        ensures fails { (f : FeedFault) → result ≡ Err f → FailsToFeed f self.old self.new piece.now }
         // The octets held stay consistent.
-        ensures held { IsHeld self.new.held }
+        ensures held { IsFramerState self.new.held }
         // The queued entries stay, before the new ones.
         ensures kept { (more : List Entry) × (self.new.waiting ≡ self.old.waiting ++ more) }
         // All octets fed so far are the entries taken, the entries queued and the octets held.
-        ensures fed { (octets : List ℕ) (taken : List Entry) → FedTo octets taken self.old
-            → MatchResult result (λ _. FedTo (octets ++ piece.now) taken self.new)
-            (λ _. (n : ℕ) × (n ≤ length piece.now) × FedTo (octets ++ take n piece.now) taken self.new) }
+        ensures fed { (octets : List ℕ) (taken : List Entry) → IsFedSoFar octets taken self.old
+            → MatchResult result (λ _. IsFedSoFar (octets ++ piece.now) taken self.new)
+            (λ _. (n : ℕ) × (n ≤ length piece.now) × IsFedSoFar (octets ++ take n piece.now) taken self.new) }
     {
         let (held, walk) = (self.frames.buffered(), self.frames.walk());
         let waiting = self.waiting.len();
@@ -190,8 +191,9 @@ impl Feeder {
         ensures first { MatchOption result ((self.old.waiting ≡ []) × (self.new ≡ self.old))
             (λ entry. self.old.waiting ≡ entry ∷ self.new.waiting) }
         ensures held { self.new.held ≡ self.old.held }
-        ensures fed { (octets : List ℕ) (taken : List Entry) → FedTo octets taken self.old
-            → MatchOption result (FedTo octets taken self.new) (λ entry. FedTo octets (taken ++ entry ∷ []) self.new) }
+        ensures fed { (octets : List ℕ) (taken : List Entry) → IsFedSoFar octets taken self.old
+            → MatchOption result (IsFedSoFar octets taken self.new)
+            (λ entry. IsFedSoFar octets (taken ++ entry ∷ []) self.new) }
     {
         self.waiting.pop_front()
     }

@@ -9,8 +9,8 @@ ghost use Rattle.tcap_record.specs.PartialRecord.{IsPart};
 ghost use Rattle.tcap_record.specs.FrontEntry.{IsAnswerWithin, IsLonger, IsTaken, entry_room, front_by, front_at, taken_of};
 
 use crate::entry::EntryView;
+use crate::entry_octets::{ENTRY_LIMIT, QUIET_OCTET, end_of};
 use crate::fault::{FeedFault, FeedReason};
-use crate::framing::{ENTRY_LIMIT, QUIET_OCTET, end_of};
 use crate::lending::{entry_view, front_view};
 use std::alloc::{AllocError, Global};
 use std::marker::Model;
@@ -54,14 +54,14 @@ impl Model for Frames {
     ghost use Rattle.tcap_ber.specs.ResumedWalk.{resumes};
     ghost use Rattle.tcap_record.specs.RecordOctets.{entry_limit};
     ghost use Rattle.tcap_record.specs.FrontEntry.{entry_room};
-    ghost use Rattle.tcap_record.specs.PartialRecord.{Held, IsPart, IsWhole, IsHeld};
+    ghost use Rattle.tcap_record.specs.PartialRecord.{FramerState, IsPart, IsWhole, IsFramerState};
 
-    ghost Value = { Held };
+    ghost Value = { FramerState };
 
     ghost view = { λ a. record { octets = a.octets.items; place = a.place; count = a.count; fault = a.fault } };
 
     ghost invariant = { λ a.
-        IsHeld (record { octets = a.octets.items; place = a.place; count = a.count; fault = a.fault })
+        IsFramerState (record { octets = a.octets.items; place = a.place; count = a.count; fault = a.fault })
         × (a.whole ≡ true → (a.fault ≡ None) × IsWhole a.octets.items)
         × (a.whole ≡ false → a.fault ≡ None → IsPart a.octets.items
         × ((more : List ℕ) → resumes a.walk more ≡ outer_at (drop 1 a.octets.items ++ more)))
@@ -180,7 +180,7 @@ impl Frames {
     ghost use Rattle.tcap_record.specs.declared.entry.Entry.{Entry};
     ghost use Rattle.tcap_record.specs.declared.fault.FeedFault.{FeedFault};
     ghost use Rattle.tcap_record.specs.RecordOctets.{IsEntry, entry_limit};
-    ghost use Rattle.tcap_record.specs.PartialRecord.{IsPart, IsWhole, IsHeld, IsFront, Fed, nothing_held, grown, dropped, cut_to};
+    ghost use Rattle.tcap_record.specs.PartialRecord.{IsPart, IsWhole, IsFramerState, IsFront, IsFramedSoFar, empty_framer, grown, dropped, cut_to};
     ghost use Rattle.tcap_record.specs.FeederResult.{FailsFrom, FinishesAs};
     ghost use Rattle.tcap_record.specs.FrontEntry.{entry_room};
     ghost use Rattle.tcap_record.specs.EntryView.{entry_read};
@@ -188,7 +188,7 @@ impl Frames {
 
     /// Creates an empty framer.
     pub fn new(alloc: Global) -> Frames
-        ensures { result ≡ nothing_held }
+        ensures { result ≡ empty_framer }
     {
         Frames {
             octets: Vec::new(alloc),
@@ -241,11 +241,11 @@ impl Frames {
         ensures none { IsWhole self.old.octets → IfOk result (λ n. n ≡ 0) }
         ensures fails { (f : FeedFault) → result ≡ Err f → FailsFrom f self.old self.new piece.now }
         // The octets held stay consistent.
-        ensures held { IsHeld self.new }
+        ensures held { IsFramerState self.new }
         // All octets taken so far are the dropped entries and the octets held.
-        ensures fed { (octets : List ℕ) (entries : List Entry) → Fed octets entries self.old
-            → MatchResult result (λ n. Fed (octets ++ take n piece.now) entries self.new)
-            (λ _. (n : ℕ) × (n ≤ length piece.now) × Fed (octets ++ take n piece.now) entries self.new) }
+        ensures fed { (octets : List ℕ) (entries : List Entry) → IsFramedSoFar octets entries self.old
+            → MatchResult result (λ n. IsFramedSoFar (octets ++ take n piece.now) entries self.new)
+            (λ _. (n : ℕ) × (n ≤ length piece.now) × IsFramedSoFar (octets ++ take n piece.now) entries self.new) }
     {
         if let Some(fault) = self.fault {
             return Err(fault);
@@ -288,7 +288,7 @@ impl Frames {
         ensures kept { ((self.old.fault ≡ None) × IsWhole self.old.octets → ⊥) → self.new ≡ self.old }
         ensures fed { (octets : List ℕ) (entries : List Entry) (entry : Entry) → self.old.fault ≡ None
             → IsFront entry self.old
-            → Fed octets entries self.old → Fed octets (entries ++ entry ∷ []) self.new }
+            → IsFramedSoFar octets entries self.old → IsFramedSoFar octets (entries ++ entry ∷ []) self.new }
     {
         if !self.whole {
             return false;
@@ -324,10 +324,11 @@ impl Frames {
         requires room { self.old.count < entry_limit }
         requires whole { IsWhole octets.now }
         ensures dropped { self.new ≡ dropped (grown self.old octets.now None) }
-        ensures held { IsHeld self.new }
-        ensures fed { (told : List ℕ) (entries : List Entry) (entry : Entry)
+        ensures held { IsFramerState self.new }
+        ensures fed { (returned : List ℕ) (entries : List Entry) (entry : Entry)
             → IsEntry self.old.place entry octets.now []
-            → Fed told entries self.old → Fed (told ++ octets.now) (entries ++ entry ∷ []) self.new }
+            → IsFramedSoFar returned entries self.old
+            → IsFramedSoFar (returned ++ octets.now) (entries ++ entry ∷ []) self.new }
     {
         let count = self.count + 1;
         self.place += octets.len() as u64;

@@ -10,7 +10,7 @@ ghost use Rattle.tcap_record.specs.LentEntry.{IsLent};
 ghost use Rattle.tcap_record.specs.EntryView.{body_read, entry_read};
 
 use crate::entry::{BodyView, EntryView};
-use crate::framing::{QUIET_OCTET, end_of};
+use crate::entry_octets::{QUIET_OCTET, end_of};
 use tcap_ber::{Fault, Outer, Window, outer};
 use tcap_msg::view;
 

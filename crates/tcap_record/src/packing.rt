@@ -12,12 +12,12 @@ ghost use Rattle.tcap_record.specs.declared.packing.LineFault.{LineFault};
 ghost use Rattle.tcap_record.specs.declared.packing.PackFault.{PackFault};
 ghost use Rattle.tcap_record.specs.FramingResult.{feed_fault};
 ghost use Rattle.tcap_record.specs.HexLines.{HasNoNewline, IsNoLine, StandsFor, IsPacked, IsPackedUpTo, entries_in, line_limit, lines_limit, newline};
-ghost use Rattle.tcap_record.specs.Packing.{Finishes, IsBehind, IsContentOf, IsFresh, IsLineRefused, IsOpen, Packs, PacksFrom, PacksUpTo, line_fault, line_of};
+ghost use Rattle.tcap_record.specs.PackState.{Finishes, IsBehind, IsContentOf, IsFresh, IsLineRefused, IsOpen, Packs, PacksFrom, PacksUpTo, line_fault, line_of};
 
 use crate::digits::octets_of;
 use crate::entry::End;
+use crate::entry_octets::{OUT_OF_MEMORY, QUIET_OCTET, end_of, octet_of};
 use crate::fault::{FeedFault, FeedReason};
-use crate::framing::{OUT_OF_MEMORY, QUIET_OCTET, end_of, octet_of};
 use crate::reading::PIECE_LEN;
 use memchr::memchr;
 use std::alloc::{AllocError, Global};
@@ -166,19 +166,19 @@ fn line_len(octets: &[u8]) -> usize
 
 /// The state of packing: the front of the current line, and the numbers of lines and entries before it.
 #[derive(Debug, Drop)]
-struct Packing {
+struct PackState {
     alloc: Global,
     line: Vec<u8>,
     lines: u64,
     entries: u64,
 }
 
-impl Packing {
+impl PackState {
     /// Creates the state before the first line.
-    fn new(alloc: Global) -> Packing
+    fn new(alloc: Global) -> PackState
         ensures { IsFresh result }
     {
-        Packing {
+        PackState {
             alloc,
             line: Vec::new(alloc),
             lines: 0,
@@ -341,11 +341,11 @@ pub fn pack<R: Read, W: Write>(
     writer: &mut W,
 ) -> Result<u64, PackFault>
     ensures packed { IfOk result (λ count. IsAtEnd (R.untold reader.new)
-        × ((told : List ℕ) × Consumes (R.untold reader.old) (R.untold reader.new) told
-        × IsPacked told count (W.taken writer.old) (W.taken writer.new))) }
-    ensures refused { (fault : FeedFault) → result ≡ Err (PackFault.Fault fault) → (told : List ℕ)
-        × Consumes (R.untold reader.old) (R.untold reader.new) told
-        × IsPackedUpTo told fault (R.untold reader.new) (W.taken writer.old) (W.taken writer.new) }
+        × ((returned : List ℕ) × Consumes (R.untold reader.old) (R.untold reader.new) returned
+        × IsPacked returned count (W.taken writer.old) (W.taken writer.new))) }
+    ensures refused { (fault : FeedFault) → result ≡ Err (PackFault.Fault fault) → (returned : List ℕ)
+        × Consumes (R.untold reader.old) (R.untold reader.new) returned
+        × IsPackedUpTo returned fault (R.untold reader.new) (W.taken writer.old) (W.taken writer.new) }
     // Each failure of the reader or writer is counted once, and nothing else is.
     ensures read { (fault : FeedFault) → result ≡ Err (PackFault.Fault fault) → fault.reason ≡ FeedReason.Read
         → R.failures reader.new ≡ one_more (R.failures reader.old) }
@@ -356,11 +356,11 @@ pub fn pack<R: Read, W: Write>(
 {
     let mut piece = [0; PIECE_LEN];
     let mut read: u64 = 0;
-    let mut packing = Packing::new(alloc);
+    let mut packing = PackState::new(alloc);
     loop {
-        let told = match reader.read(&mut piece) {
+        let returned = match reader.read(&mut piece) {
             Ok(0) => return packing.finish(writer),
-            Ok(told) => told,
+            Ok(returned) => returned,
             Err(Failed) => {
                 return Err(PackFault::Fault(FeedFault {
                     reason: FeedReason::Read,
@@ -368,7 +368,7 @@ pub fn pack<R: Read, W: Write>(
                 }));
             }
         };
-        read += told as u64;
-        packing.pack_piece(&piece[..told], writer)?;
+        read += returned as u64;
+        packing.pack_piece(&piece[..returned], writer)?;
     }
 }

@@ -4,7 +4,7 @@ ghost use Rattle.std.specs.Prelude.{◌≡◌, [], ℕ, List, MatchResult, Ok, E
 ghost use Rattle.std.specs.Io.KnownBytes.{Consumes};
 ghost use Rattle.tcap_record.specs.declared.entry.Entry.{Entry};
 ghost use Rattle.tcap_record.specs.declared.fault.FeedFault.{FeedFault};
-ghost use Rattle.tcap_record.specs.PartialRecord.{nothing_held};
+ghost use Rattle.tcap_record.specs.PartialRecord.{empty_framer};
 ghost use Rattle.tcap_record.specs.Reading.{IsReadAs, EndsOnlyAtEnd, FailsOnlyByReader};
 ghost use Rattle.tcap_record.specs.FramingResult.{outcome};
 
@@ -19,18 +19,18 @@ pub const PIECE_LEN: usize = 8192;
 
 /// Feeds the octets of `reader`, up to its end or the first fault.
 fn feed_all<R: Read>(feeder: &mut Feeder, reader: &mut R) -> Result<(), FeedFault>
-    requires { feeder.old ≡ record { held = nothing_held; waiting = [] } }
-    ensures told { (told : List ℕ) × Consumes (R.untold reader.old) (R.untold reader.new) told
-        × IsReadAs feeder.new.waiting result told }
+    requires { feeder.old ≡ record { held = empty_framer; waiting = [] } }
+    ensures returned { (returned : List ℕ) × Consumes (R.untold reader.old) (R.untold reader.new) returned
+        × IsReadAs feeder.new.waiting result returned }
     ensures ended { EndsOnlyAtEnd (R.untold reader.new) result }
     ensures failed { FailsOnlyByReader (R.failures reader.old) (R.failures reader.new) result }
 {
     let mut piece = [0; PIECE_LEN];
     loop {
         let place = feeder.fed();
-        let told = match reader.read(&mut piece) {
+        let returned = match reader.read(&mut piece) {
             Ok(0) => return feeder.finish(),
-            Ok(told) => told,
+            Ok(returned) => returned,
             Err(Failed) => {
                 return Err(FeedFault {
                     reason: FeedReason::Read,
@@ -38,7 +38,7 @@ fn feed_all<R: Read>(feeder: &mut Feeder, reader: &mut R) -> Result<(), FeedFaul
                 });
             }
         };
-        feeder.feed(&piece[..told])?;
+        feeder.feed(&piece[..returned])?;
     }
 }
 
@@ -55,10 +55,10 @@ fn feed_all<R: Read>(feeder: &mut Feeder, reader: &mut R) -> Result<(), FeedFaul
 /// - `Read` if the reader fails. The octets before it are entries; the last may be incomplete.
 /// - `Memory` if memory runs out.
 pub fn read_record<R: Read>(alloc: Global, reader: &mut R) -> Result<Record, FeedFault>
-    ensures told { (told : List ℕ) × Consumes (R.untold reader.old) (R.untold reader.new) told
+    ensures returned { (returned : List ℕ) × Consumes (R.untold reader.old) (R.untold reader.new) returned
         × MatchResult result
-        (λ made. IsReadAs made.entries.items (Ok tt) told)
-        (λ fault. (entries : List Entry) × IsReadAs entries (Err fault) told) }
+        (λ made. IsReadAs made.entries.items (Ok tt) returned)
+        (λ fault. (entries : List Entry) × IsReadAs entries (Err fault) returned) }
     ensures ended { EndsOnlyAtEnd (R.untold reader.new) (outcome result) }
     ensures failed { FailsOnlyByReader (R.failures reader.old) (R.failures reader.new) (outcome result) }
 {

@@ -12,13 +12,13 @@ use Rattle.tcap_end.specs.End.{is_id}
 use Rattle.tcap_end.proofs.FoundLaws.{is_that_id}
 use Rattle.tcap_record.specs.Ends.{other}
 use Rattle.tcap_model.specs.World.{Item, Sent, is_side}
-use Rattle.tcap_model.specs.Run.{where_so}
+use Rattle.tcap_model.specs.Run.{only_if}
 use Rattle.tcap_model.specs.World.{has_quiet}
 use Rattle.tcap_model.specs.SinceMark.{originating}
 use Rattle.tcap_model.specs.SinceMark.{SentSince}
 use Rattle.tcap_model.proofs.WorldLaws.{itself}
 use Rattle.tcap_model.proofs.RunLaws.{same_side}
-use Rattle.tcap_refute.specs.EarlierMessages.{asked, components_of, message_of, sent_by, since_quiet}
+use Rattle.tcap_refute.specs.EarlierMessages.{peer_sent_from, components_of, message_of, sent_by, since_quiet}
 use Rattle.tcap_refute.proofs.Members.{filter_has, filter_map_has, flat_map_has, has_first, has_later}
 
 -- ---- tests
@@ -51,11 +51,11 @@ pub sent_has : (side : Side) (m : Message) (items : List Item) → SentSince sid
 sent_has side m items (front, behind, is, none) =
     rw is
     (filter_map_has (message_of side) (since_quiet (front ++ Sent side m ∷ behind)) (Sent side m) m
-    (behind_mark side m front behind none) (ap (λ b. where_so b (Some m)) (itself side)))
+    (behind_mark side m front behind none) (ap (λ b. only_if b (Some m)) (itself side)))
 
 -- Such a message is among those that the peer sent from its originating ID.
 pub asked_has : (side : Side) (id : List ℕ) (m : Message) (items : List Item) → SentSince (other side) m items
-    → otid_in m ≡ Some id → Contains (asked side id (since_quiet items)) m
+    → otid_in m ≡ Some id → Contains (peer_sent_from side id (since_quiet items)) m
 asked_has side id m items since from =
     filter_has (λ n. is_id id (otid_in n)) (sent_by (other side) (since_quiet items)) m
     (sent_has (other side) m items since) (is_that_id id (otid_in m) from)
@@ -63,9 +63,9 @@ asked_has side id m items since from =
 -- Its components are among those of the peer's messages from that ID.
 pub component_has : (side : Side) (id : List ℕ) (m : Message) (c : Component) (items : List Item)
     → SentSince (other side) m items → otid_in m ≡ Some id → Contains (components_in m) c
-    → Contains (components_of (asked side id (since_quiet items))) c
+    → Contains (components_of (peer_sent_from side id (since_quiet items))) c
 component_has side id m c items since from inside =
-    flat_map_has components_in (asked side id (since_quiet items)) m c (asked_has side id m items since from) inside
+    flat_map_has components_in (peer_sent_from side id (since_quiet items)) m c (asked_has side id m items since from) inside
 
 -- ---- what a test finds
 
@@ -95,7 +95,7 @@ found_all side p (Sent sender n ∷ items) none found =
     here false passes same is rest = rest is
 
     by : (b : Bool) → is_side side sender ≡ b
-        → list_any p (cons_option (where_so b (Some n)) (sent_by side items)) ≡ true
+        → list_any p (cons_option (only_if b (Some n)) (sent_by side items)) ≡ true
         → (list_any p (sent_by side items) ≡ true → Found side p (Sent sender n ∷ items))
         → Found side p (Sent sender n ∷ items)
     by true own is rest = here (p n) refl (same_side side sender own) is rest

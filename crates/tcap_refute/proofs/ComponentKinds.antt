@@ -27,7 +27,7 @@ use Rattle.tcap_end.proofs.AnsweringLaws.{needs_ok, some_ok, then_ok}
 use Rattle.tcap_model.specs.World.{World, end_at}
 use Rattle.tcap_model.specs.Run.{Event}
 use Rattle.tcap_model.specs.SinceMark.{IsAnswer}
-use Rattle.tcap_refute.specs.EarlierMessages.{answers, asked, components_of, invokes, is_answer, is_invoke_id, is_reject, since_quiet}
+use Rattle.tcap_refute.specs.EarlierMessages.{answers, peer_sent_from, components_of, invokes, is_answer, is_invoke_id, is_reject, since_quiet}
 use Rattle.tcap_refute.specs.Kind.{answers_none_of, answers_nothing, is_not_of_class_4, is_unknown_operation, is_wrong_operation, may_be_answered, no_class_allows}
 use Rattle.tcap_refute.proofs.Members.{any_has, has_not}
 use Rattle.tcap_refute.proofs.SentLaws.{IsSent}
@@ -155,10 +155,10 @@ answers_nothing_sent table events w side (Begin otid dialogue components) it is 
     none_passes (IsFounded table []) (λ c. is_answer c || is_reject c) (items_of components) (of_nothing table)
     (begin_founded table (end_at side w) it.made otid dialogue (items_of components) it.step) is
 answers_nothing_sent table events w side (Continue otid dtid dialogue components) it is =
-    all_answer table (components_of (asked side dtid (since_quiet w.sent))) (items_of components)
+    all_answer table (components_of (peer_sent_from side dtid (since_quiet w.sent))) (items_of components)
     (over_founded dtid it refl) is
 answers_nothing_sent table events w side (EndMessage dtid dialogue components) it is =
-    all_answer table (components_of (asked side dtid (since_quiet w.sent))) (items_of components)
+    all_answer table (components_of (peer_sent_from side dtid (since_quiet w.sent))) (items_of components)
     (over_founded dtid it refl) is
 answers_nothing_sent table events w side (Abort dtid reason) it is = cc
 
@@ -188,9 +188,9 @@ wrong_operation_sent table events w side (Begin otid dialogue components) it is 
         (begin_founded table (end_at side w) it.made otid dialogue (items_of components) it.step) unknown
     by (inr never) = cc
 wrong_operation_sent table events w side (Continue otid dtid dialogue components) it is =
-    neither table (components_of (asked side dtid (since_quiet w.sent))) (items_of components)
+    neither table (components_of (peer_sent_from side dtid (since_quiet w.sent))) (items_of components)
     (over_founded dtid it refl) is
 wrong_operation_sent table events w side (EndMessage dtid dialogue components) it is =
-    neither table (components_of (asked side dtid (since_quiet w.sent))) (items_of components)
+    neither table (components_of (peer_sent_from side dtid (since_quiet w.sent))) (items_of components)
     (over_founded dtid it refl) is
 wrong_operation_sent table events w side (Abort dtid reason) it is = cc

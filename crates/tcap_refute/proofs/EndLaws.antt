@@ -17,7 +17,7 @@ use Rattle.tcap_model.specs.SinceMark.{ended_by}
 use Rattle.tcap_refute.specs.declared.sent_from_id.FromId.{FromId}
 use Rattle.tcap_refute.specs.declared.notes.EndNotes.{EndNotes}
 use Rattle.tcap_refute.specs.Facts.{FromFact, EndFact, From, Ended, shows_end, shows_from}
-use Rattle.tcap_refute.specs.KeptFacts.{tells_end, tells_from}
+use Rattle.tcap_refute.specs.KeptFacts.{end_fact_noted, from_fact_noted}
 use Rattle.tcap_refute.proofs.SetLaws.{Puts, any_inserted, made, told_at, written}
 
 -- ---- transaction IDs
@@ -42,34 +42,34 @@ module _ (table : Table) (id : List ℕ) (m : Message) (old new : BTreeMap (List
   -- If something was kept of the ID.
   pub from_written : (was : FromId) → Some was ≡ lookup (is_at (octets_cmp id)) old.entries
       → WritesThrough octets_cmp (octets_cmp id) old s new
-      → ((f : FromFact) → tells_from f s ≡ (tells_from f was || shows_from table f m)) → (other : List ℕ) (f : FromFact)
-      → told_at exact_bytes tells_from new.entries other f
-      ≡ (told_at exact_bytes tells_from old.entries other f || (is_id other (Some id) && shows_from table f m))
+      → ((f : FromFact) → from_fact_noted f s ≡ (from_fact_noted f was || shows_from table f m)) → (other : List ℕ) (f : FromFact)
+      → told_at exact_bytes from_fact_noted new.entries other f
+      ≡ (told_at exact_bytes from_fact_noted old.entries other f || (is_id other (Some id) && shows_from table f m))
   from_written was there writes told other f =
-      written exact_bytes tells_from (λ f. shows_from table f m) old new id was s there writes told other f
-      ∙ ap (λ b. told_at exact_bytes tells_from old.entries other f || (b && shows_from table f m)) (at_other id other)
+      written exact_bytes from_fact_noted (λ f. shows_from table f m) old new id was s there writes told other f
+      ∙ ap (λ b. told_at exact_bytes from_fact_noted old.entries other f || (b && shows_from table f m)) (at_other id other)
 
   -- If nothing was kept of the ID.
   pub from_made : (fresh : FromId) → None ≡ lookup (is_at (octets_cmp id)) old.entries
-      → Puts exact_bytes tells_from old.entries new.entries id s
-      → ((f : FromFact) → tells_from f fresh ≡ false)
-      → ((f : FromFact) → tells_from f s ≡ (tells_from f fresh || shows_from table f m))
+      → Puts exact_bytes from_fact_noted old.entries new.entries id s
+      → ((f : FromFact) → from_fact_noted f fresh ≡ false)
+      → ((f : FromFact) → from_fact_noted f s ≡ (from_fact_noted f fresh || shows_from table f m))
       → (other : List ℕ) (f : FromFact)
-      → told_at exact_bytes tells_from new.entries other f
-      ≡ (told_at exact_bytes tells_from old.entries other f || (is_id other (Some id) && shows_from table f m))
+      → told_at exact_bytes from_fact_noted new.entries other f
+      ≡ (told_at exact_bytes from_fact_noted old.entries other f || (is_id other (Some id) && shows_from table f m))
   from_made fresh none puts nothing told other f =
-      made exact_bytes tells_from (λ f. shows_from table f m) old new id fresh s none puts nothing told other f
-      ∙ ap (λ b. told_at exact_bytes tells_from old.entries other f || (b && shows_from table f m)) (at_other id other)
+      made exact_bytes from_fact_noted (λ f. shows_from table f m) old new id fresh s none puts nothing told other f
+      ∙ ap (λ b. told_at exact_bytes from_fact_noted old.entries other f || (b && shows_from table f m)) (at_other id other)
 
 -- ---- one more message
 
 pub end_noted : (table : Table) (m : Message) (old headed new : EndNotes)
     → ((id : List ℕ) (f : FromFact)
-    → tells_end (From id f) headed ≡ (tells_end (From id f) old || shows_end table (From id f) m))
+    → end_fact_noted (From id f) headed ≡ (end_fact_noted (From id f) old || shows_end table (From id f) m))
     → headed.ended ≡ old.ended
-    → ((id : List ℕ) → tells_end (Ended id) new ≡ (tells_end (Ended id) headed || is_id id (ended_by m)))
+    → ((id : List ℕ) → end_fact_noted (Ended id) new ≡ (end_fact_noted (Ended id) headed || is_id id (ended_by m)))
     → new.from ≡ headed.from
-    → (fact : EndFact) → tells_end fact new ≡ (tells_end fact old || shows_end table fact m)
+    → (fact : EndFact) → end_fact_noted fact new ≡ (end_fact_noted fact old || shows_end table fact m)
 end_noted table m old headed new from same ended kept (From id f) = rw kept (from id f)
 end_noted table m old headed new from same ended kept (Ended id) = rw (ended id, same) refl
 

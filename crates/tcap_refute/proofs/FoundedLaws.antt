@@ -18,8 +18,8 @@ use Rattle.tcap_end.specs.declared.fault.EndFault.TheVariants as faults
 use Rattle.tcap_end.specs.declared.half.Phase.TheVariants as phases
 use Rattle.tcap_end.specs.declared.half.Slot.TheVariants.{Begun}
 use Rattle.tcap_end.specs.Component.{allows, allows_for, may_answer, may_link, own_invocation, send_answer, send_component, send_invoke, send_reject}
-use Rattle.tcap_end.specs.Dialogue.{first_standing, may_begin}
-use Rattle.tcap_end.specs.End.{End, KeptHalf, put, with_own}
+use Rattle.tcap_end.specs.Dialogue.{first_dialogue_state, may_begin}
+use Rattle.tcap_end.specs.End.{End, KeyedHalf, put, with_own}
 use Rattle.tcap_end.specs.Half.{Answer, Half, Invocation, fresh, listed, one_fits, without_oldest_of}
 use Rattle.tcap_end.specs.Message.{send_begin, send_components}
 use Rattle.tcap_end.specs.ReachableEnd.{Rises}
@@ -28,13 +28,13 @@ use Rattle.tcap_end.proofs.AnsweringLaws.{needs_ok, ok_same, then_ok}
 use Rattle.tcap_end.proofs.HalfLaws.{IsListed, half_sent}
 use Rattle.tcap_model.specs.World.{World, end_at}
 use Rattle.tcap_model.specs.Run.{Event, Runs}
-use Rattle.tcap_model.specs.SinceMark.{CameFromPeer, IsAnswer}
+use Rattle.tcap_model.specs.SinceMark.{PeerSentComponent, IsAnswer}
 use Rattle.tcap_model.proofs.ListLaws.{all_weaker}
 use Rattle.tcap_model.proofs.PeerLaws.{Knows, knows}
 use Rattle.tcap_model.proofs.RunLaws.{sound}
 use Rattle.tcap_model.proofs.SentMoves.{one_follows}
 use Rattle.tcap_model.proofs.TurnLaws.{taken_loses}
-use Rattle.tcap_refute.specs.EarlierMessages.{asked, components_of, since_quiet}
+use Rattle.tcap_refute.specs.EarlierMessages.{peer_sent_from, components_of, since_quiet}
 use Rattle.tcap_refute.proofs.BeforeLaws.{component_has, originating_is}
 use Rattle.tcap_refute.proofs.OverLaws.{IsOver}
 use Rattle.tcap_refute.proofs.SentLaws.{IsSent, half_over}
@@ -199,30 +199,30 @@ begin_founded table e made otid dialogue components is =
     all_founded table [] components start g half.inn half.grants (record { inn = λ id. tt; grants = λ id. tt }) sent
   where
     start : Half
-    start = fresh phases.Sent (Some otid) None (first_standing dialogue)
+    start = fresh phases.Sent (Some otid) None (first_dialogue_state dialogue)
 
 -- ---- a message with a destination ID
 
 -- The invocation came from the half's peer.
-abbrev IsPeersInvoke : World → Side → KeptHalf → ℤ → Invocation → Type 0
+abbrev IsPeersInvoke : World → Side → KeyedHalf → ℤ → Invocation → Type 0
 IsPeersInvoke w side f id item =
-    (linked : Option ℤ) × (parameter : Option (List ℕ)) × CameFromPeer w side f (Invoke id linked item.code parameter)
+    (linked : Option ℤ) × (parameter : Option (List ℕ)) × PeerSentComponent w side f (Invoke id linked item.code parameter)
 
 -- The answer came from the half's peer.
-abbrev IsPeersAnswer : World → Side → KeptHalf → ℤ → Answer → Type 0
+abbrev IsPeersAnswer : World → Side → KeyedHalf → ℤ → Answer → Type 0
 IsPeersAnswer w side f id answer =
-    (component : Component) × IsAnswer answer id component × CameFromPeer w side f component
+    (component : Component) × IsAnswer answer id component × PeerSentComponent w side f component
 
 -- What came from a half's peer is among what the peer sent from its ID.
-from_peer : (w : World) (side : Side) (f : KeptHalf) (id : List ℕ) (c : Component) → f.half.peer ≡ Some id
-    → CameFromPeer w side f c → Contains (components_of (asked side id (since_quiet w.sent))) c
+from_peer : (w : World) (side : Side) (f : KeyedHalf) (id : List ℕ) (c : Component) → f.half.peer ≡ Some id
+    → PeerSentComponent w side f c → Contains (components_of (peer_sent_from side id (since_quiet w.sent))) c
 from_peer w side f id c peer (m, since, from, has) =
     component_has side id m c w.sent since (sym (originating_is m) ∙ from ∙ peer) has
 
 -- All that the message's half received is among what the peer sent from the destination ID.
 came_from : (table : Table) (events : List Event) (w : World) (side : Side) (message : Message) (id : List ℕ)
     → Runs table events w → (half : IsOver table (end_at side w) message id)
-    → Came (components_of (asked side id (since_quiet w.sent))) half.start
+    → Came (components_of (peer_sent_from side id (since_quiet w.sent))) half.start
 came_from table events w side message id runs half = record {
   inn = λ q. rw (half.inn)
       (all_weaker (IsPeersInvoke w side half.kept q) (IsInvoked cs q) (listed q half.kept.half.inn)
@@ -238,12 +238,12 @@ came_from table events w side message id runs half = record {
     known = knows table events w side half.kept runs half.had
 
     cs : List Component
-    cs = components_of (asked side id (since_quiet w.sent))
+    cs = components_of (peer_sent_from side id (since_quiet w.sent))
 
 -- The components of a message are founded on what the peer sent from its destination ID.
 pub over_founded : {table : Table} {events : List Event} {w : World} {side : Side} {message : Message} (id : List ℕ)
     → IsSent table events w side message → dtid_in message ≡ Some id
-    → AllByRecursion (IsFounded table (components_of (asked side id (since_quiet w.sent)))) (components_in message)
+    → AllByRecursion (IsFounded table (components_of (peer_sent_from side id (since_quiet w.sent)))) (components_in message)
 over_founded {table} {events} {w} {side} {message} id it to =
     let half = half_over id it to in
     let kept = (sound table events w it.runs side).halves half.kept half.had in

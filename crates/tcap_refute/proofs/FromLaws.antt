@@ -8,12 +8,12 @@ use Rattle.tcap_msg.specs.declared.message.Message.{Message}
 use Rattle.tcap_msg.specs.Parts.{components_in, dtid_in}
 use Rattle.tcap_end.specs.Table.{Table}
 use Rattle.tcap_refute.specs.declared.sent_from_id.FromId.{FromId}
-use Rattle.tcap_refute.specs.declared.sent_from_id.Toward.{Toward}
-use Rattle.tcap_refute.specs.declared.sent_from_id.Toward.TheVariants.{One, Several}
+use Rattle.tcap_refute.specs.declared.sent_from_id.Destinations.{Destinations}
+use Rattle.tcap_refute.specs.declared.sent_from_id.Destinations.TheVariants.{One, Several}
 use Rattle.tcap_refute.specs.EarlierMessages.{is_a}
 use Rattle.tcap_refute.specs.Facts.{IdFact, FromFact, Spoke, Begun, Asked, WentOn, WentElsewhere, OfId, is_other, shows, shows_from}
-use Rattle.tcap_refute.specs.KeptFacts.{is_elsewhere, tells, tells_from}
-use Rattle.tcap_refute.specs.NotesUpdate.{IsHeaded, IsSameHead, toward_behind, toward_with}
+use Rattle.tcap_refute.specs.KeptFacts.{is_elsewhere, id_fact_noted, from_fact_noted}
+use Rattle.tcap_refute.specs.NotesUpdate.{IsHeaded, IsSameHead, destinations_after, with_destination}
 use Rattle.tcap_refute.proofs.TestLaws.{or_none}
 use Rattle.tcap_refute.proofs.SetLaws.{told_at}
 
@@ -36,8 +36,8 @@ one_of_two id a b apart = by (bytes_eq id a) (bytes_eq id b) refl refl
         let same : b ≡ a = sym (same_octets id b f) ∙ same_octets id a e in
         let bad = sym ((bytes_eq-Decides b a).1 same) ∙ apart in cc
 
-pub elsewhere_with : (id to : List ℕ) (toward : Toward)
-    → is_elsewhere id (toward_with to toward) ≡ (is_elsewhere id toward || is_other id (Some to))
+pub elsewhere_with : (id to : List ℕ) (destinations : Destinations)
+    → is_elsewhere id (with_destination to destinations) ≡ (is_elsewhere id destinations || is_other id (Some to))
 elsewhere_with id to (One other) = by (bytes_eq to other) refl
   where
     by : (b : Bool) → bytes_eq to other ≡ b
@@ -46,12 +46,12 @@ elsewhere_with id to (One other) = by (bytes_eq to other) refl
     by false apart = one_of_two id other to apart
 elsewhere_with id to how = refl
 
-elsewhere_behind : (id : List ℕ) (goes_on : Bool) (dtid : Option (List ℕ)) (toward : Toward)
-    → is_elsewhere id (toward_behind goes_on dtid toward) ≡ (is_elsewhere id toward || (goes_on && is_other id dtid))
-elsewhere_behind id true (Some to) toward = elsewhere_with id to toward
-elsewhere_behind id true None toward = or_none _
-elsewhere_behind id false (Some to) toward = or_none _
-elsewhere_behind id false None toward = or_none _
+elsewhere_behind : (id : List ℕ) (goes_on : Bool) (dtid : Option (List ℕ)) (destinations : Destinations)
+    → is_elsewhere id (destinations_after goes_on dtid destinations) ≡ (is_elsewhere id destinations || (goes_on && is_other id dtid))
+elsewhere_behind id true (Some to) destinations = elsewhere_with id to destinations
+elsewhere_behind id true None destinations = or_none _
+elsewhere_behind id false (Some to) destinations = or_none _
+elsewhere_behind id false None destinations = or_none _
 
 -- ---- a message
 
@@ -60,19 +60,19 @@ or_pairs a b p q = grind arith
 
 pub message_noted : (table : Table) (m : Message) (old headed new : FromId)
     → IsHeaded m old headed → IsSameHead headed new
-    → ((id : ℤ) (fact : IdFact) → told_at exact_signed tells new.ids.entries id fact
-    ≡ (told_at exact_signed tells headed.ids.entries id fact || list_any (shows table id fact) (components_in m)))
-    → (fact : FromFact) → tells_from fact new ≡ (tells_from fact old || shows_from table fact m)
+    → ((id : ℤ) (fact : IdFact) → told_at exact_signed id_fact_noted new.ids.entries id fact
+    ≡ (told_at exact_signed id_fact_noted headed.ids.entries id fact || list_any (shows table id fact) (components_in m)))
+    → (fact : FromFact) → from_fact_noted fact new ≡ (from_fact_noted fact old || shows_from table fact m)
 message_noted table m old headed new head same ids Spoke =
-    rw (same.begun, same.went_on, head.begun, head.went_on)
-    (or_pairs old.begun old.went_on (is_a forms.Begin m) (is_a forms.Continue m))
+    rw (same.begun, same.continued, head.begun, head.continued)
+    (or_pairs old.begun old.continued (is_a forms.Begin m) (is_a forms.Continue m))
 message_noted table m old headed new head same ids Begun = same.begun ∙ head.begun
 message_noted table m old headed new head same ids Asked = same.asked ∙ head.asked
-message_noted table m old headed new head same ids WentOn = same.went_on ∙ head.went_on
+message_noted table m old headed new head same ids WentOn = same.continued ∙ head.continued
 message_noted table m old headed new head same ids (WentElsewhere dtid) =
-    ap (is_elsewhere dtid) (same.toward ∙ head.toward)
-    ∙ elsewhere_behind dtid (is_a forms.Continue m) (dtid_in m) old.toward
+    ap (is_elsewhere dtid) (same.destinations ∙ head.destinations)
+    ∙ elsewhere_behind dtid (is_a forms.Continue m) (dtid_in m) old.destinations
 message_noted table m old headed new head same ids (OfId id fact) =
     ids id fact
-    ∙ ap (λ kept. told_at exact_signed tells kept.entries id fact || list_any (shows table id fact) (components_in m))
+    ∙ ap (λ kept. told_at exact_signed id_fact_noted kept.entries id fact || list_any (shows table id fact) (components_in m))
     head.ids

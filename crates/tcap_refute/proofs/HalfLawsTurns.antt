@@ -7,13 +7,13 @@ use Rattle.tcap_msg.specs.declared.message.Message.TheVariants.{Begin, Continue}
 use Rattle.tcap_end.specs.declared.half.Phase.TheVariants as phases
 use Rattle.tcap_end.specs.declared.half.Slot.{Slot}
 use Rattle.tcap_end.specs.declared.half.Slot.TheVariants.{Begun, Accepted}
-use Rattle.tcap_end.specs.declared.half.Standing.TheVariants as standings
+use Rattle.tcap_end.specs.declared.half.DialogueState.TheVariants as dialogue_states
 use Rattle.tcap_end.specs.Table.{Table}
 use Rattle.tcap_end.specs.Half.{Half, is_closed}
-use Rattle.tcap_end.specs.Dialogue.{answers_request, confirm, first_standing}
-use Rattle.tcap_end.specs.End.{End, KeptHalf, put, with_own, with_peer}
+use Rattle.tcap_end.specs.Dialogue.{answers_request, confirm, first_dialogue_state}
+use Rattle.tcap_end.specs.End.{End, KeyedHalf, put, with_own, with_peer}
 use Rattle.tcap_end.specs.HiddenSteps.{may_close}
-use Rattle.tcap_end.specs.ReachableEnd.{Has, halves_of}
+use Rattle.tcap_end.specs.ReachableEnd.{HasHalf, halves_of}
 use Rattle.tcap_end.proofs.EndLaws.{IsThere, put_has, put_other}
 use Rattle.tcap_end.proofs.FoundLaws.{half_at}
 use Rattle.tcap_model.specs.SinceMark.{ended_by}
@@ -26,28 +26,28 @@ use Rattle.tcap_refute.specs.EarlierMessages.{ends_to}
 pub data Deed : Type 0 where
   Said : Message → Deed
   Heard : Message → Deed
-  Unseen : Deed
+  Internal : Deed
 
 -- Why a half closes: a sent message ends the dialogue with its peer, a received one ends it at its own ID, or it
 -- closes in a hidden step.
 abbrev pub IsEnded : Table → Deed → Half → Type 0
 IsEnded table (Said m) h = (id : List ℕ) × (ended_by m ≡ Some id) × (h.peer ≡ Some id)
 IsEnded table (Heard m) h = (id : List ℕ) × (ends_to id m ≡ true) × (h.own ≡ Some id)
-IsEnded table Unseen h = may_close table h.phase ≡ true
+IsEnded table Internal h = may_close table h.phase ≡ true
 
 -- The half keeps its phase, its IDs and its dialogue.
 pub record Stays (h g : Half) : Type 0 where
   pub phase : g.phase ≡ h.phase
   pub own : g.own ≡ h.own
   pub peer : g.peer ≡ h.peer
-  pub standing : g.standing ≡ h.standing
+  pub dialogue_state : g.dialogue_state ≡ h.dialogue_state
 
 -- The half closes.
 pub record Closes (table : Table) (deed : Deed) (h g : Half) : Type 0 where
   pub phase : g.phase ≡ phases.Closed
   pub own : g.own ≡ h.own
   pub peer : g.peer ≡ h.peer
-  pub standing : g.standing ≡ standings.Without
+  pub dialogue_state : g.dialogue_state ≡ dialogue_states.Without
   pub was_open : is_closed h.phase ≡ false
   pub ended : IsEnded table deed h
 
@@ -64,7 +64,7 @@ pub record Answers (deed : Deed) (h g : Half) : Type 0 where
   pub phase : g.phase ≡ phases.Active
   pub own : g.own ≡ Some id
   pub peer : g.peer ≡ Some to
-  pub standing : g.standing ≡ confirm h.standing
+  pub dialogue_state : g.dialogue_state ≡ confirm h.dialogue_state
 
 -- A Continue answers the half's Begin, and the half learns its peer's ID.
 pub record Learns (deed : Deed) (h g : Half) : Type 0 where
@@ -79,8 +79,8 @@ pub record Learns (deed : Deed) (h g : Half) : Type 0 where
   pub phase : g.phase ≡ phases.Active
   pub own : g.own ≡ Some id
   pub peer : g.peer ≡ Some from
-  pub standing : g.standing ≡ confirm h.standing
-  pub answers : answers_request h.standing dialogue ≡ true
+  pub dialogue_state : g.dialogue_state ≡ confirm h.dialogue_state
+  pub answers : answers_request h.dialogue_state dialogue ≡ true
 
 -- One of these four happened to the half.
 pub data Turned (table : Table) (deed : Deed) (h g : Half) : Type 0 where
@@ -90,7 +90,7 @@ pub data Turned (table : Table) (deed : Deed) (h g : Half) : Type 0 where
   learns : Learns deed h g → Turned table deed h g
 
 -- The half began: the end sent a Begin from an ID that no half had.
-pub record Starts (deed : Deed) (e : End) (f : KeptHalf) : Type 0 where
+pub record Starts (deed : Deed) (e : End) (f : KeyedHalf) : Type 0 where
   pub dialogue : Option Dialogue
   pub components : Option (List Component)
   pub deed_is : deed ≡ Said (Begin f.key dialogue components)
@@ -99,10 +99,10 @@ pub record Starts (deed : Deed) (e : End) (f : KeptHalf) : Type 0 where
   pub phase : f.half.phase ≡ phases.Sent
   pub own : f.half.own ≡ Some f.key
   pub peer : f.half.peer ≡ None
-  pub standing : f.half.standing ≡ first_standing dialogue
+  pub dialogue_state : f.half.dialogue_state ≡ first_dialogue_state dialogue
 
 -- The half began: the end received a Begin from an ID that no half's peer had.
-pub record Accepts (deed : Deed) (e : End) (f : KeptHalf) : Type 0 where
+pub record Accepts (deed : Deed) (e : End) (f : KeyedHalf) : Type 0 where
   pub dialogue : Option Dialogue
   pub components : Option (List Component)
   pub deed_is : deed ≡ Heard (Begin f.key dialogue components)
@@ -111,19 +111,19 @@ pub record Accepts (deed : Deed) (e : End) (f : KeptHalf) : Type 0 where
   pub phase : f.half.phase ≡ phases.Received
   pub own : f.half.own ≡ None
   pub peer : f.half.peer ≡ Some f.key
-  pub standing : f.half.standing ≡ first_standing dialogue
+  pub dialogue_state : f.half.dialogue_state ≡ first_dialogue_state dialogue
 
 -- ---- an end
 
 -- Each half after the step is new, or one before it became it; each half before the step became one after it.
 pub record Acts (table : Table) (deed : Deed) (e next : End) : Type 0 where
-  pub back : (g : KeptHalf) → Has next g
-      → (Starts deed e g ⊎ Accepts deed e g) ⊎ ((h : Half) × Has e (record g { half = h }) × Turned table deed h g.half)
-  pub forth : (f : KeptHalf) → Has e f → (g : Half) × Has next (record f { half = g }) × Turned table deed f.half g
+  pub back : (g : KeyedHalf) → HasHalf next g
+      → (Starts deed e g ⊎ Accepts deed e g) ⊎ ((h : Half) × HasHalf e (record g { half = h }) × Turned table deed h g.half)
+  pub forth : (f : KeyedHalf) → HasHalf e f → (g : Half) × HasHalf next (record f { half = g }) × Turned table deed f.half g
 
 -- A half may stay as it is.
 pub turned_self : {table : Table} {deed : Deed} (h : Half) → Turned table deed h h
-turned_self h = stays (record { phase = refl; own = refl; peer = refl; standing = refl })
+turned_self h = stays (record { phase = refl; own = refl; peer = refl; dialogue_state = refl })
 
 -- All halves may stay as they are.
 pub acts_nowhere : (table : Table) (deed : Deed) (e : End) → Acts table deed e e
@@ -133,20 +133,20 @@ acts_nowhere table deed e = record {
 }
 
 -- One half changes.
-pub put_acts : {table : Table} {deed : Deed} (e : End) (f : KeptHalf) (h : Half) → Has e f → Turned table deed f.half h
+pub put_acts : {table : Table} {deed : Deed} (e : End) (f : KeyedHalf) (h : Half) → HasHalf e f → Turned table deed f.half h
     → Acts table deed e (put e f.slot f.key h)
 put_acts {table} {deed} e f h had turned = record {
   back = λ g in_g. inr (back g (put_has e f.slot f.key h g in_g));
   forth = λ g in_g. forth g in_g (one_place g f);
 }
   where
-    back : (g : KeptHalf) → IsThere f.slot f.key h g ⊎ Has e g
-        → (was : Half) × Has e (record g { half = was }) × Turned table deed was g.half
+    back : (g : KeyedHalf) → IsThere f.slot f.key h g ⊎ HasHalf e g
+        → (was : Half) × HasHalf e (record g { half = was }) × Turned table deed was g.half
     back g (inl new) = (f.half, rw (new.0, new.1) had, rw (new.2) turned)
     back g (inr old) = (g.half, old, turned_self g.half)
 
-    forth : (g : KeptHalf) → Has e g → ((g.slot ≡ f.slot) × (g.key ≡ f.key)) ⊎ (g.slot ≡ f.slot → g.key ≢ f.key)
-        → (now : Half) × Has (put e f.slot f.key h) (record g { half = now }) × Turned table deed g.half now
+    forth : (g : KeyedHalf) → HasHalf e g → ((g.slot ≡ f.slot) × (g.key ≡ f.key)) ⊎ (g.slot ≡ f.slot → g.key ≢ f.key)
+        → (now : Half) × HasHalf (put e f.slot f.key h) (record g { half = now }) × Turned table deed g.half now
     forth g in_g (inl same) =
         let there : half_at (halves_of f.slot e) f.key ≡ Some g.half = rw (same.0, same.1) at in_g in
         let one : f.half ≡ g.half = cc in
@@ -155,23 +155,23 @@ put_acts {table} {deed} e f h had turned = record {
 
 -- Equal parts make equal halves.
 same_kept : (s t : Slot) (k l : List ℕ) (h g : Half) → s ≡ t → k ≡ l → h ≡ g
-    → (let f : KeptHalf = record { slot = s; key = k; half = h } in f) ≡ record { slot = t; key = l; half = g }
+    → (let f : KeyedHalf = record { slot = s; key = k; half = h } in f) ≡ record { slot = t; key = l; half = g }
 same_kept s t k l h g slots keys halves = cc
 
 -- One half begins, at a place without a half.
-pub new_acts : {table : Table} {deed : Deed} (e : End) (f : KeptHalf)
-    → ((g : KeptHalf) → Has e g → g.slot ≡ f.slot → g.key ≢ f.key) → Starts deed e f ⊎ Accepts deed e f
+pub new_acts : {table : Table} {deed : Deed} (e : End) (f : KeyedHalf)
+    → ((g : KeyedHalf) → HasHalf e g → g.slot ≡ f.slot → g.key ≢ f.key) → Starts deed e f ⊎ Accepts deed e f
     → Acts table deed e (put e f.slot f.key f.half)
 new_acts {table} {deed} e f apart new = record {
   back = λ g in_g. back g (put_has e f.slot f.key f.half g in_g);
   forth = λ g in_g. (g.half, put_other e f.slot f.key f.half g (apart g in_g) in_g, turned_self g.half);
 }
   where
-    back : (g : KeptHalf) → IsThere f.slot f.key f.half g ⊎ Has e g
+    back : (g : KeyedHalf) → IsThere f.slot f.key f.half g ⊎ HasHalf e g
         → (Starts deed e g ⊎ Accepts deed e g)
-        ⊎ ((was : Half) × Has e (record g { half = was }) × Turned table deed was g.half)
+        ⊎ ((was : Half) × HasHalf e (record g { half = was }) × Turned table deed was g.half)
     back g (inl there) =
         let same : f ≡ g =
         same_kept f.slot g.slot f.key g.key f.half g.half (sym there.0) (sym there.1) (sym there.2) in
-        inl (subst (λ (k : KeptHalf). Starts deed e k ⊎ Accepts deed e k) same new)
+        inl (subst (λ (k : KeyedHalf). Starts deed e k ⊎ Accepts deed e k) same new)
     back g (inr old) = inr (g.half, old, turned_self g.half)

@@ -11,7 +11,7 @@ use Rattle.tcap_end.specs.Component.{class_reports, names}
 use Rattle.tcap_end.specs.Table.{Table}
 use Rattle.tcap_refute.specs.declared.sent_with_invoke_id.ById.{ById}
 use Rattle.tcap_refute.specs.Facts.{IdFact, Invoked, Answered, Succeeds, Fails, noted_id, shows}
-use Rattle.tcap_refute.specs.KeptFacts.{tells}
+use Rattle.tcap_refute.specs.KeptFacts.{id_fact_noted}
 use Rattle.tcap_refute.proofs.TestLaws.{and_false, and_true}
 use Rattle.tcap_refute.proofs.SetLaws.{Puts, made, told_at, written}
 
@@ -57,19 +57,19 @@ module _ (table : Table) (id : ℤ) (component : Component) (its : noted_id comp
   -- If something was kept of the ID.
   pub id_written : (was : ById) → Some was ≡ lookup (is_at (int_cmp id)) old.entries
       → WritesThrough int_cmp (int_cmp id) old s new
-      → ((f : IdFact) → tells f s ≡ (tells f was || shows table id f component)) → (other : ℤ) (f : IdFact)
-      → told_at exact_signed tells new.entries other f
-      ≡ (told_at exact_signed tells old.entries other f || shows table other f component)
+      → ((f : IdFact) → id_fact_noted f s ≡ (id_fact_noted f was || shows table id f component)) → (other : ℤ) (f : IdFact)
+      → told_at exact_signed id_fact_noted new.entries other f
+      ≡ (told_at exact_signed id_fact_noted old.entries other f || shows table other f component)
   id_written was there writes told other f =
-      written exact_signed tells (λ f. shows table id f component) old new id was s there writes told other f
-      ∙ ap (λ b. told_at exact_signed tells old.entries other f || b) (of_that_id table id other component f its)
+      written exact_signed id_fact_noted (λ f. shows table id f component) old new id was s there writes told other f
+      ∙ ap (λ b. told_at exact_signed id_fact_noted old.entries other f || b) (of_that_id table id other component f its)
 
   -- If nothing was kept of the ID.
   pub id_made : (fresh : ById) → None ≡ lookup (is_at (int_cmp id)) old.entries
-      → Puts exact_signed tells old.entries new.entries id s → ((f : IdFact) → tells f fresh ≡ false)
-      → ((f : IdFact) → tells f s ≡ (tells f fresh || shows table id f component))
-      → (other : ℤ) (f : IdFact) → told_at exact_signed tells new.entries other f
-      ≡ (told_at exact_signed tells old.entries other f || shows table other f component)
+      → Puts exact_signed id_fact_noted old.entries new.entries id s → ((f : IdFact) → id_fact_noted f fresh ≡ false)
+      → ((f : IdFact) → id_fact_noted f s ≡ (id_fact_noted f fresh || shows table id f component))
+      → (other : ℤ) (f : IdFact) → told_at exact_signed id_fact_noted new.entries other f
+      ≡ (told_at exact_signed id_fact_noted old.entries other f || shows table other f component)
   id_made fresh none puts nothing told other f =
-      made exact_signed tells (λ f. shows table id f component) old new id fresh s none puts nothing told other f
-      ∙ ap (λ b. told_at exact_signed tells old.entries other f || b) (of_that_id table id other component f its)
+      made exact_signed id_fact_noted (λ f. shows table id f component) old new id fresh s none puts nothing told other f
+      ∙ ap (λ b. told_at exact_signed id_fact_noted old.entries other f || b) (of_that_id table id other component f its)

@@ -9,13 +9,13 @@ use Rattle.tcap_end.specs.Table.{Table}
 use Rattle.tcap_model.specs.World.{Item, Sent, is_side}
 use Rattle.tcap_model.specs.Entries.{item_of}
 use Rattle.tcap_model.specs.World.{has_quiet, is_quiet}
-use Rattle.tcap_model.specs.Run.{where_so}
-use Rattle.tcap_refute.specs.declared.judging.Judged.TheVariants.{Passed}
+use Rattle.tcap_model.specs.Run.{only_if}
+use Rattle.tcap_refute.specs.declared.judging.EntryResult.TheVariants.{Passed}
 use Rattle.tcap_refute.specs.declared.kind.Kind.{Kind}
 use Rattle.tcap_refute.specs.declared.notes.Notes.{Notes}
 use Rattle.tcap_refute.specs.EarlierMessages.{message_of, sent_by, since_quiet}
-use Rattle.tcap_refute.specs.Facts.{EndFact, shows_end, told_by_list}
-use Rattle.tcap_refute.specs.KeptFacts.{AreNotesOf, told_by_notes}
+use Rattle.tcap_refute.specs.Facts.{EndFact, shows_end, fact_since_mark}
+use Rattle.tcap_refute.specs.KeptFacts.{AreNotesOf, fact_by_notes}
 use Rattle.tcap_refute.specs.Kind.{lowest_kind, refuted, refuted_behind}
 use Rattle.tcap_refute.specs.EntryConclusion.{Judges}
 use Rattle.tcap_refute.proofs.TestLaws.{or_none}
@@ -49,17 +49,17 @@ module _ (side : Side) (m : Message) where
 
   -- The facts in the list with the message.
   told_more : (table : Table) (items : List Item) (end : Side) (fact : EndFact)
-      → told_by_list table (items ++ Sent side m ∷ []) end fact
-      ≡ (told_by_list table items end fact || (is_side end side && shows_end table fact m))
+      → fact_since_mark table (items ++ Sent side m ∷ []) end fact
+      ≡ (fact_since_mark table items end fact || (is_side end side && shows_end table fact m))
   told_more table items end fact =
       ap (λ xs. list_any (shows_end table fact) (sent_by end xs)) (since_more items)
       ∙ ap (list_any (shows_end table fact)) (sent_more end (since_quiet items))
       ∙ list_any-append (shows_end table fact) (sent_by end (since_quiet items)) (sent_by end (Sent side m ∷ []))
-      ∙ ap (λ b. told_by_list table items end fact || b) (sent_last (shows_end table fact) end)
+      ∙ ap (λ b. fact_since_mark table items end fact || b) (sent_last (shows_end table fact) end)
 
   pub noted : (table : Table) (items : List Item) (old new : Notes) → AreNotesOf table items old
-      → ((end : Side) (fact : EndFact) → told_by_notes new end fact
-      ≡ (told_by_notes old end fact || (is_side end side && shows_end table fact m)))
+      → ((end : Side) (fact : EndFact) → fact_by_notes new end fact
+      ≡ (fact_by_notes old end fact || (is_side end side && shows_end table fact m)))
       → AreNotesOf table (items ++ Sent side m ∷ []) new
   noted table items old new are told = record {
     told = λ end fact. told end fact
@@ -70,8 +70,8 @@ module _ (side : Side) (m : Message) where
   -- The message has no kind, and was noted.
   pub passes : (table : Table) (items : List Item) (old new : Notes) → AreNotesOf table items old
       → (asked : Option Kind) → asked ≡ lowest_kind table items (Sent side m) → (asked ≡ None)
-      → ((end : Side) (fact : EndFact) → told_by_notes new end fact
-      ≡ (told_by_notes old end fact || (is_side end side && shows_end table fact m)))
+      → ((end : Side) (fact : EndFact) → fact_by_notes new end fact
+      ≡ (fact_by_notes old end fact || (is_side end side && shows_end table fact m)))
       → Judges table items (Ok (Sent side m)) Passed new
   passes table items old new are asked is none told = (sym is ∙ none, noted table items old new are told)
 
@@ -88,14 +88,14 @@ since_mark (item ∷ xs) =
     ∙ since_mark xs
 
 pub noted_mark : (table : Table) (items : List Item) (new : Notes)
-    → ((end : Side) (fact : EndFact) → told_by_notes new end fact ≡ false) → AreNotesOf table (items ++ Item.Quiet ∷ []) new
+    → ((end : Side) (fact : EndFact) → fact_by_notes new end fact ≡ false) → AreNotesOf table (items ++ Item.Quiet ∷ []) new
 noted_mark table items new told = record {
   told = λ end fact. told end fact
       ∙ sym (ap (λ xs. list_any (shows_end table fact) (sent_by end xs)) (since_mark items));
 }
 
 pub marked : (table : Table) (items : List Item) (new : Notes)
-    → ((end : Side) (fact : EndFact) → told_by_notes new end fact ≡ false)
+    → ((end : Side) (fact : EndFact) → fact_by_notes new end fact ≡ false)
     → Judges table items (Ok Item.Quiet) Passed new
 marked table items new told = (refl, noted_mark table items new told)
 

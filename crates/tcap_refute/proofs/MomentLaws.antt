@@ -9,8 +9,8 @@ use Rattle.tcap_end.specs.Table.{Table}
 use Rattle.tcap_end.specs.End.{End}
 use Rattle.tcap_end.specs.Message.{send}
 use Rattle.tcap_record.specs.Ends.{other}
-use Rattle.tcap_model.specs.World.{Item, OnItsWay, Sent, World, channel_from, end_at, with_channel}
-use Rattle.tcap_model.specs.Run.{Adds, Event, Sends, Receives, Replies, Loses, Expires, Closes, Quiet, Tells, KeepsRules, Runs, after, is_told_by, reply_to, tells}
+use Rattle.tcap_model.specs.World.{Item, MessageInTransit, Sent, World, channel_from, end_at, with_channel}
+use Rattle.tcap_model.specs.Run.{Adds, Event, Sends, Receives, Replies, Loses, Expires, Closes, Quiet, Tells, KeepsRules, Runs, after, is_tells_by, reply_to, has_tells_by}
 use Rattle.tcap_model.proofs.WorldLaws.{itself, sent_joined, sent_with_channel}
 use Rattle.tcap_model.proofs.RunLaws.{IsReply, grows, reply, runs_keep, sending}
 
@@ -21,7 +21,7 @@ SendsIt table w side message = (made : End) × (send table (end_at side w) messa
 -- The end's provider replies with the message to the oldest message that is on its way from the peer.
 abbrev pub RepliesIt : World → Side → Message → Type 0
 RepliesIt w side message =
-    (head : OnItsWay) × (more : List OnItsWay) × (channel_from (other side) w ≡ head ∷ more)
+    (head : MessageInTransit) × (more : List MessageInTransit) × (channel_from (other side) w ≡ head ∷ more)
     × (reply_to (end_at side w) head.message ≡ Some message)
 
 -- There is a run that sent these items, in which the end keeps the rules, and after which the message is sent next.
@@ -54,10 +54,10 @@ last_or_before item at (i ∷ items) (f ∷ front) behind is = by (cc) (last_or_
 
 -- An end that keeps the rules up to an event kept them before it and in it.
 pub kept_before : (side : Side) (before : List Event) (event : Event) → KeepsRules side (before ++ event ∷ [])
-    → KeepsRules side before × (is_told_by side event ≡ false)
-kept_before side [] event keeps = (refl, (or_parts (is_told_by side event) false keeps).0)
+    → KeepsRules side before × (is_tells_by side event ≡ false)
+kept_before side [] event keeps = (refl, (or_parts (is_tells_by side event) false keeps).0)
 kept_before side (first ∷ before) event keeps =
-    let (now, later) = or_parts (is_told_by side first) (tells side (before ++ event ∷ [])) keeps in
+    let (now, later) = or_parts (is_tells_by side first) (has_tells_by side (before ++ event ∷ [])) keeps in
     let (kept, last) = kept_before side before event later in
     (rw (now, kept) refl, last)
 
@@ -102,7 +102,7 @@ module _ (table : Table) (side : Side) (before : List Event) (w next : World) (r
       ∙ sent_joined replier r.abort (with_channel (other replier) r.more w)
       ∙ ap (λ items. items ++ Sent replier r.abort ∷ []) (sent_with_channel (other replier) r.more w)
 
-  by_step : (event : Event) → after table event w ≡ Some next → is_told_by side event ≡ false
+  by_step : (event : Event) → after table event w ≡ Some next → is_tells_by side event ≡ false
       → IsMoment table side front message
   by_step (Sends sender m) is told =
       let s = sending table sender m w next is in

@@ -12,13 +12,13 @@ use Rattle.tcap_end.specs.declared.fault.EndFault.TheVariants as faults
 use Rattle.tcap_end.specs.declared.half.Phase.{Phase}
 use Rattle.tcap_end.specs.declared.half.Phase.TheVariants as phases
 use Rattle.tcap_end.specs.declared.half.Slot.TheVariants.{Accepted}
-use Rattle.tcap_end.specs.declared.half.Standing.{Standing}
+use Rattle.tcap_end.specs.declared.half.DialogueState.{DialogueState}
 use Rattle.tcap_end.specs.Table.{Table}
 use Rattle.tcap_end.specs.Half.{Half, closed_half, is_closed}
 use Rattle.tcap_end.specs.Dialogue.{may_abort, may_go_on}
-use Rattle.tcap_end.specs.End.{End, KeptHalf, is_id, put, with_own, with_peer}
+use Rattle.tcap_end.specs.End.{End, KeyedHalf, is_id, put, with_own, with_peer}
 use Rattle.tcap_end.specs.Message.{active_half, is_active, is_received, send, send_abort, send_components, send_continue, send_end, send_first_continue, send_next_continue}
-use Rattle.tcap_end.specs.ReachableEnd.{Has, IsEnd}
+use Rattle.tcap_end.specs.ReachableEnd.{HasHalf, IsEnd}
 use Rattle.tcap_end.proofs.AnsweringLaws.{needs_ok, some_ok, then_ok}
 use Rattle.tcap_end.proofs.ComponentLaws.{all_sends}
 use Rattle.tcap_end.proofs.FoundLaws.{own_has, peer_has}
@@ -29,9 +29,9 @@ use Rattle.tcap_model.proofs.SentMoves.{own_is, peer_is}
 use Rattle.tcap_refute.proofs.HalfLawsTurns.{Answers, Deed, Said, Turned, answers, closes, stays}
 
 -- Whether a half in this phase may carry the message's dialogue portion.
-abbrev pub may_carry : Message → Phase → Standing → Bool
-may_carry (Abort dtid reason) phase standing = may_abort phase standing (reason_dialogue reason)
-may_carry m phase standing = may_go_on phase standing (dialogue_in m)
+abbrev pub may_carry : Message → Phase → DialogueState → Bool
+may_carry (Abort dtid reason) phase dialogue_state = may_abort phase dialogue_state (reason_dialogue reason)
+may_carry m phase dialogue_state = may_go_on phase dialogue_state (dialogue_in m)
 
 -- A Continue goes over an active half with its originating ID; or over a half whose Begin it answers, if no half has
 -- that ID.
@@ -48,11 +48,11 @@ HasSpoken m h = Unit {0}
 -- The message has no cause. Its half is open and may carry its dialogue portion. Its components are sent from a half
 -- with the same invocations and answers, and `now` is what the half becomes.
 pub record IsOver (table : Table) (e : End) (m : Message) (id : List ℕ) : Type 0 where
-  pub kept : KeptHalf
-  pub had : Has e kept
+  pub kept : KeyedHalf
+  pub had : HasHalf e kept
   pub peer : kept.half.peer ≡ Some id
   pub is_open : is_closed kept.half.phase ≡ false
-  pub carries : may_carry m kept.half.phase kept.half.standing ≡ true
+  pub carries : may_carry m kept.half.phase kept.half.dialogue_state ≡ true
   pub no_cause : cause_in m ≡ None
   pub speaks : Speaks e m kept.half
   pub start : Half
@@ -70,7 +70,7 @@ pub record IsOver (table : Table) (e : End) (m : Message) (id : List ℕ) : Type
 -- Sending components leaves a half's phase, IDs and dialogue unchanged.
 pub follows_stays : {table : Table} {deed : Deed} (h g : Half) → Follows h g → Turned table deed h g
 follows_stays h g follows =
-    stays (record { phase = follows.phase; own = follows.own; peer = follows.peer; standing = follows.standing })
+    stays (record { phase = follows.phase; own = follows.own; peer = follows.peer; dialogue_state = follows.dialogue_state })
 
 -- ---- each message
 
@@ -83,7 +83,7 @@ module _ (table : Table) (e made : End) (sound : IsEnd e) where
       let (f, ok, step) = then_ok (ok_or (with_peer e dtid) faults.NoTransaction) _ made is in
       let found = some_ok _ _ f ok in
       let waits = needs_ok (is_received f.half.phase) faults.WrongPhase _ made step in
-      let may = needs_ok (may_go_on f.half.phase f.half.standing dialogue) faults.WrongDialogue _ made waits.1 in
+      let may = needs_ok (may_go_on f.half.phase f.half.dialogue_state dialogue) faults.WrongDialogue _ made waits.1 in
       let start = active_half Accepted otid f.half in
       let (g, sent, done) = then_ok (send_components table start (items_of components)) _ made may.1 in
       let had = peer_has e dtid sound f found in
@@ -103,7 +103,7 @@ module _ (table : Table) (e made : End) (sound : IsEnd e) where
         phase = follows.phase;
         own = follows.own;
         peer = follows.peer ∙ peer;
-        standing = follows.standing;
+        dialogue_state = follows.dialogue_state;
       } in
       record {
         kept = f;
@@ -127,13 +127,13 @@ module _ (table : Table) (e made : End) (sound : IsEnd e) where
       }
 
   -- A Continue over an active half.
-  next_over : (otid dtid : List ℕ) (dialogue : Option Dialogue) (components : Option (List Component)) (f : KeptHalf)
+  next_over : (otid dtid : List ℕ) (dialogue : Option Dialogue) (components : Option (List Component)) (f : KeyedHalf)
       → with_own e otid ≡ Some f → send_next_continue table e dtid dialogue (items_of components) f ≡ Ok made
       → IsOver table e (Continue otid dtid dialogue components) dtid
   next_over otid dtid dialogue components f found is =
       let active = needs_ok (is_active f.half.phase) faults.WrongPhase _ made is in
       let peer = needs_ok (is_id dtid f.half.peer) faults.NoTransaction _ made active.1 in
-      let may = needs_ok (may_go_on f.half.phase f.half.standing dialogue) faults.WrongDialogue _ made peer.1 in
+      let may = needs_ok (may_go_on f.half.phase f.half.dialogue_state dialogue) faults.WrongDialogue _ made peer.1 in
       let (g, sent, done) = then_ok (send_components table f.half (items_of components)) _ made may.1 in
       let at = active_is f.half.phase active.0 in
       let follows = (all_sends table (items_of components) f.half g sent).follows in
@@ -160,7 +160,7 @@ module _ (table : Table) (e made : End) (sound : IsEnd e) where
 
   -- Any Continue.
   continue_over : (otid dtid : List ℕ) (dialogue : Option Dialogue) (components : Option (List Component))
-      (o : Option KeptHalf) → with_own e otid ≡ o
+      (o : Option KeyedHalf) → with_own e otid ≡ o
       → send_continue table e otid dtid dialogue (items_of components) o ≡ Ok made
       → IsOver table e (Continue otid dtid dialogue components) dtid
   continue_over otid dtid dialogue components None found is = answer_over otid dtid dialogue components found is
@@ -174,7 +174,7 @@ module _ (table : Table) (e made : End) (sound : IsEnd e) where
       let (f, ok, step) = then_ok (ok_or (with_peer e dtid) faults.NoTransaction) _ made is in
       let found = some_ok _ _ f ok in
       let still = needs_ok (not (is_closed f.half.phase)) faults.WrongPhase _ made step in
-      let may = needs_ok (may_go_on f.half.phase f.half.standing dialogue) faults.WrongDialogue _ made still.1 in
+      let may = needs_ok (may_go_on f.half.phase f.half.dialogue_state dialogue) faults.WrongDialogue _ made still.1 in
       let (g, sent, done) = then_ok (send_components table f.half (items_of components)) _ made may.1 in
       let follows = (all_sends table (items_of components) f.half g sent).follows in
       record {
@@ -197,7 +197,7 @@ module _ (table : Table) (e made : End) (sound : IsEnd e) where
           phase = refl;
           own = follows.own;
           peer = follows.peer;
-          standing = refl;
+          dialogue_state = refl;
           was_open = not-true _ still.0;
           ended = (dtid, refl, peer_is e dtid f found);
         });
@@ -214,7 +214,7 @@ module _ (table : Table) (e made : End) (sound : IsEnd e) where
       let (f, ok, step) = then_ok (ok_or (with_peer e dtid) faults.NoTransaction) _ made user.1 in
       let found = some_ok _ _ f ok in
       let still = needs_ok (not (is_closed f.half.phase)) faults.WrongPhase _ made step in
-      let may = needs_ok (may_abort f.half.phase f.half.standing dialogue) faults.WrongDialogue _ made still.1 in
+      let may = needs_ok (may_abort f.half.phase f.half.dialogue_state dialogue) faults.WrongDialogue _ made still.1 in
       record {
         kept = f;
         had = peer_has e dtid sound f found;
@@ -235,7 +235,7 @@ module _ (table : Table) (e made : End) (sound : IsEnd e) where
           phase = refl;
           own = refl;
           peer = refl;
-          standing = refl;
+          dialogue_state = refl;
           was_open = not-true _ still.0;
           ended = (dtid, rw (user.0) refl, peer_is e dtid f found);
         });

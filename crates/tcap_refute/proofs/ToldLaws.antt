@@ -16,12 +16,12 @@ use Rattle.tcap_record.specs.Ends.{other}
 use Rattle.tcap_model.specs.World.{Item}
 use Rattle.tcap_refute.specs.declared.kind.Kind.{Kind}
 use Rattle.tcap_refute.specs.declared.kind.Kind.TheVariants as kinds
-use Rattle.tcap_refute.specs.EarlierMessages.{answers, asked, components_of, invokes, is_invoke_id, sent_by, since_quiet}
+use Rattle.tcap_refute.specs.EarlierMessages.{answers, peer_sent_from, components_of, invokes, is_invoke_id, sent_by, since_quiet}
 use Rattle.tcap_refute.specs.Kind.{answers_none_of, answers_nothing, is_unknown_operation, is_wrong_operation, no_class_allows}
-use Rattle.tcap_refute.specs.FirstKinds.{answers_none as answers_none_there, answers_nothing_there, is_of_id}
-use Rattle.tcap_refute.specs.FirstComponent.{answers_nothing_in, first_component, first_so, is_wrong_in}
-use Rattle.tcap_refute.specs.Facts.{IdFact, Invoked, Answered, Succeeds, Fails, FromFact, OfId, shows, shows_from, told_by_list}
-use Rattle.tcap_refute.specs.KindsByFacts.{answer_test, answers_none, component_by, has_come, is_not_allowed, is_wrong, operation_test, passes, told_from}
+use Rattle.tcap_refute.specs.FirstKinds.{answers_none as answers_none_there, answers_nothing_for_end, is_of_id}
+use Rattle.tcap_refute.specs.FirstComponent.{answers_nothing_in, first_component, first_where, is_wrong_in}
+use Rattle.tcap_refute.specs.Facts.{IdFact, Invoked, Answered, Succeeds, Fails, FromFact, OfId, shows, shows_from, fact_since_mark}
+use Rattle.tcap_refute.specs.KindsByFacts.{answer_test, answers_none, component_by, has_come, is_not_allowed, is_wrong, operation_test, passes, fact_from}
 use Rattle.tcap_refute.proofs.TestLaws.{or_none, some_first}
 
 -- ---- tests of lists
@@ -57,7 +57,7 @@ abbrev pub told_of : Table → List Message → FromFact → Bool
 told_of table messages fact = list_any (shows_from table fact) messages
 
 pub told_is : (table : Table) (items : List Item) (side : Side) (id : List ℕ)
-    → told_from (told_by_list table items side) (Some id)
+    → fact_from (fact_since_mark table items side) (Some id)
     ≡ told_of table (from_id id (sent_by side (since_quiet items)))
 told_is table items side id =
     fun_ext λ fact. any_filtered (shows_from table fact) (λ m. is_id id (otid_in m)) (sent_by side (since_quiet items))
@@ -126,23 +126,23 @@ module _ (table : Table) (messages : List Message) where
 module _ (table : Table) (items : List Item) (side : Side) where
   -- The facts about the destination ID.
   abbrev pub there : Message → FromFact → Bool
-  there m = told_from (told_by_list table items (other side)) (dtid_in m)
+  there m = fact_from (fact_since_mark table items (other side)) (dtid_in m)
 
   answers_to : (of_one : Bool) (dtid : List ℕ) (c : Component)
-      → answers_none of_one (told_from (told_by_list table items (other side)) (Some dtid)) c
-      ≡ cond of_one (answers_none_there (components_of (asked side dtid (since_quiet items))) c)
-      (answers_none_of (components_of (asked side dtid (since_quiet items))) c)
+      → answers_none of_one (fact_from (fact_since_mark table items (other side)) (Some dtid)) c
+      ≡ cond of_one (answers_none_there (components_of (peer_sent_from side dtid (since_quiet items))) c)
+      (answers_none_of (components_of (peer_sent_from side dtid (since_quiet items))) c)
   answers_to of_one dtid c =
       ap (λ told. answers_none of_one told c) (told_is table items (other side) dtid)
-      ∙ answers_asked table (asked side dtid (since_quiet items)) of_one c
+      ∙ answers_asked table (peer_sent_from side dtid (since_quiet items)) of_one c
 
   wrong_to : (dtid : List ℕ) (c : Component)
-      → is_wrong table (told_from (told_by_list table items (other side)) (Some dtid)) c
+      → is_wrong table (fact_from (fact_since_mark table items (other side)) (Some dtid)) c
       ≡ (is_unknown_operation table c
-      || no_class_allows table (components_of (asked side dtid (since_quiet items))) c)
+      || no_class_allows table (components_of (peer_sent_from side dtid (since_quiet items))) c)
   wrong_to dtid c =
       ap (λ told. is_wrong table told c) (told_is table items (other side) dtid)
-      ∙ wrong_asked table (asked side dtid (since_quiet items)) c
+      ∙ wrong_asked table (peer_sent_from side dtid (since_quiet items)) c
 
   answering_is : (of_one : Bool) (m : Message) (c : Component)
       → passes table (there m) (answer_test of_one (kind_in m)) c ≡ answers_nothing_in of_one side (since_quiet items) m c
@@ -163,16 +163,16 @@ module _ (table : Table) (items : List Item) (side : Side) where
   pub component_told : (of_one : Bool) (m : Message) (kind : Kind)
       → component_by of_one table (there m) m kind ≡ first_component of_one table side (since_quiet items) m kind
   component_told of_one m kinds.AnswersNothing =
-      ap (λ test. first_so test 0 (components_in m)) (fun_ext (answering_is of_one m))
+      ap (λ test. first_where test 0 (components_in m)) (fun_ext (answering_is of_one m))
   component_told of_one m kinds.WrongOperation =
-      ap (λ test. first_so test 0 (components_in m)) (fun_ext (wrong_is m))
+      ap (λ test. first_where test 0 (components_in m)) (fun_ext (wrong_is m))
   component_told of_one m kind = refl
 
 -- ---- a message has F5 or F6 exactly if one of its components has it
 
 -- F5, for one end or for both.
 abbrev pub nothing_of : Bool → Side → List Item → Message → Bool
-nothing_of true = answers_nothing_there
+nothing_of true = answers_nothing_for_end
 nothing_of false = answers_nothing
 
 one_answers : (of_one : Bool) (side : Side) (items : List Item) (m : Message)

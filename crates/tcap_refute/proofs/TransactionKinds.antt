@@ -14,9 +14,9 @@ use Rattle.tcap_record.specs.declared.entry.End.{End as Side}
 use Rattle.tcap_end.specs.declared.fault.EndFault.TheVariants as faults
 use Rattle.tcap_end.specs.Table.{Table}
 use Rattle.tcap_end.specs.Half.{Half, is_closed}
-use Rattle.tcap_end.specs.End.{End, KeptHalf, is_id, with_own}
+use Rattle.tcap_end.specs.End.{End, KeyedHalf, is_id, with_own}
 use Rattle.tcap_end.specs.Message.{send}
-use Rattle.tcap_end.specs.ReachableEnd.{Has, IsEnd}
+use Rattle.tcap_end.specs.ReachableEnd.{HasHalf, IsEnd}
 use Rattle.tcap_end.proofs.AnsweringLaws.{needs_ok}
 use Rattle.tcap_end.proofs.FoundLaws.{none_own, is_that_id}
 use Rattle.tcap_end.proofs.StepLaws.{none_is, sends}
@@ -30,7 +30,7 @@ use Rattle.tcap_model.proofs.SentMoves.{continue_uses, sent_moves}
 use Rattle.tcap_model.proofs.SinceLaws.{since_at}
 use Rattle.tcap_model.proofs.TurnLaws.{id_is}
 use Rattle.tcap_model.proofs.UsedLaws.{ended_closed, ids_used, one_half}
-use Rattle.tcap_refute.specs.EarlierMessages.{asked, is_a, since_quiet, sent_by}
+use Rattle.tcap_refute.specs.EarlierMessages.{peer_sent_from, is_a, since_quiet, sent_by}
 use Rattle.tcap_refute.specs.Kind.{goes_elsewhere, is_after_end, is_cause_unfounded, is_reused, is_unasked, is_unknown_transaction}
 use Rattle.tcap_refute.proofs.BeforeLaws.{asked_has, found_since}
 use Rattle.tcap_refute.proofs.Members.{any_has, has_not}
@@ -59,13 +59,13 @@ both_pass a b is = grind (arith, is)
 
 -- A message from an own ID has a half with that ID.
 uses_own : (w : World) (side : Side) (otid : List ℕ) (m : Message) → HasUsed w side m → otid_in m ≡ Some otid
-    → (f : KeptHalf) × Has (end_at side w) f × (f.half.own ≡ Some otid)
+    → (f : KeyedHalf) × HasHalf (end_at side w) f × (f.half.own ≡ Some otid)
 uses_own w side otid (Begin id dialogue components) (f, had, own) from = (f, had, own ∙ from)
 uses_own w side otid (Continue id dtid dialogue components) (f, had, own, peer) from = (f, had, own ∙ from)
 uses_own w side otid m used from = cc
 
 -- Halves with one own ID have one peer's ID.
-one_peer : (e : End) (f g : KeptHalf) (otid dtid to : List ℕ) → IsEnd e → Has e f → Has e g → f.half.own ≡ Some otid
+one_peer : (e : End) (f g : KeyedHalf) (otid dtid to : List ℕ) → IsEnd e → HasHalf e f → HasHalf e g → f.half.own ≡ Some otid
     → g.half.own ≡ Some otid → f.half.peer ≡ Some dtid → g.half.peer ≡ Some to → dtid ≡ to
 one_peer e f g otid dtid to is_end in_f in_g f_own g_own f_peer g_peer =
     let same = one_half e f g in_f in_g (is_end.one_own f g otid in_f in_g f_own g_own) in
@@ -76,7 +76,7 @@ module _ (table : Table) (w : World) (side : Side) (made : End) (otid dtid : Lis
     (components : Option (List Component)) (is_end : IsEnd (end_at side w))
     (step : send table (end_at side w) (Continue otid dtid dialogue components) ≡ Ok made) where
   -- Each half with that ID has the destination ID as its peer's.
-  continue_goes : (to : List ℕ) (f : KeptHalf) → Has (end_at side w) f → f.half.own ≡ Some otid
+  continue_goes : (to : List ℕ) (f : KeyedHalf) → HasHalf (end_at side w) f → f.half.own ≡ Some otid
       → f.half.peer ≡ Some to → dtid ≡ to
   continue_goes to f had own peer =
       let e = end_at side w in
@@ -99,10 +99,10 @@ module _ (table : Table) (w : World) (side : Side) (made : End) (otid dtid : Lis
 module _ {table : Table} {events : List Event} {w : World} {side : Side} {message : Message} (id : List ℕ)
     (it : IsSent table events w side message) (to : dtid_in message ≡ Some id) where
   -- The peer sent something from the destination ID.
-  unknown_to : is_unasked (cause_in message) (asked side id (since_quiet w.sent)) ≡ true → ⊥
+  unknown_to : is_unasked (cause_in message) (peer_sent_from side id (since_quiet w.sent)) ≡ true → ⊥
   unknown_to is =
       let (m, since, from) = peer_spoke id it to in
-      asked_something (asked side id (since_quiet w.sent)) m (cause_in message) (asked_has side id m w.sent since from)
+      asked_something (peer_sent_from side id (since_quiet w.sent)) m (cause_in message) (asked_has side id m w.sent since from)
       (half_over id it to).no_cause is
 
   -- No message follows its end: an ended half is closed, and the message goes over an open half.
@@ -166,13 +166,13 @@ module _ (table : Table) (events : List Event) (w : World) (side : Side) (messag
   answers_sent : (m : Message) → SentSince (other side) m w.sent → reply_to (end_at side w) m ≡ Some message → ⊥
   answers_sent (Begin otid dialogue components) since replied =
       let m = Begin otid dialogue components in
-      let messages = asked side otid (since_quiet w.sent) in
+      let messages = peer_sent_from side otid (since_quiet w.sent) in
       let has = asked_has side otid m w.sent since refl in
       let abort : provider_abort otid 4 ≡ message = (cond_some _ _ message replied).1 in
       answers_one 4 messages m has (ap not (any_has (is_a forms.Begin) messages m has refl)) (rw (← abort) at is)
   answers_sent (Continue otid dtid dialogue components) since replied =
       let m = Continue otid dtid dialogue components in
-      let messages = asked side otid (since_quiet w.sent) in
+      let messages = peer_sent_from side otid (since_quiet w.sent) in
       let has = asked_has side otid m w.sent since refl in
       let abort : provider_abort otid 1 ≡ message = (cond_some _ _ message replied).1 in
       answers_one 1 messages m has (ap not (any_has (is_a forms.Continue) messages m has refl)) (rw (← abort) at is)

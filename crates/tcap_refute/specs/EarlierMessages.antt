@@ -13,7 +13,7 @@ use Rattle.tcap_record.specs.declared.entry.End.{End as Side}
 use Rattle.tcap_end.specs.End.{is_id}
 use Rattle.tcap_record.specs.Ends.{other}
 use Rattle.tcap_model.specs.World.{Item, Sent, is_side}
-use Rattle.tcap_model.specs.Run.{where_so}
+use Rattle.tcap_model.specs.Run.{only_if}
 use Rattle.tcap_model.specs.World.{has_quiet}
 
 -- The items after the last quiet mark.
@@ -23,7 +23,7 @@ since_quiet (item ∷ items) = cond (has_quiet (item ∷ items)) (since_quiet it
 
 -- The message of an item, if this end sent it.
 abbrev pub message_of : Side → Item → Option Message
-message_of side (Sent sender message) = where_so (is_side side sender) (Some message)
+message_of side (Sent sender message) = only_if (is_side side sender) (Some message)
 message_of side Item.Quiet = None
 
 -- The messages that an end sent.
@@ -31,8 +31,8 @@ abbrev pub sent_by : Side → List Item → List Message
 sent_by side items = filter_map (message_of side) items
 
 -- The messages that the peer sent with this originating ID: `from d` in docs/KINDS.md.
-abbrev pub asked : Side → List ℕ → List Item → List Message
-asked side id items = filter (λ m. is_id id (otid_in m)) (sent_by (other side) items)
+abbrev pub peer_sent_from : Side → List ℕ → List Item → List Message
+peer_sent_from side id items = filter (λ m. is_id id (otid_in m)) (sent_by (other side) items)
 
 -- The components of these messages, in order.
 abbrev pub components_of : List Message → List Component

@@ -4,8 +4,8 @@ use Rattle.tcap_ber.specs.declared.fault.Reason.{Reason as ReadingReason}
 use Rattle.tcap_end.specs.Table.{Table}
 use Rattle.tcap_model.specs.World.{Item}
 use Rattle.tcap_model.specs.declared.reason.Reason.{Reason}
-use Rattle.tcap_refute.specs.declared.judging.Judged.{Judged}
-use Rattle.tcap_refute.specs.declared.judging.Judged.TheVariants.{Passed, Refuted, Ended}
+use Rattle.tcap_refute.specs.declared.judging.EntryResult.{EntryResult}
+use Rattle.tcap_refute.specs.declared.judging.EntryResult.TheVariants.{Passed, Refuted, Ended}
 use Rattle.tcap_refute.specs.declared.kind.Kind.{Kind}
 use Rattle.tcap_refute.specs.declared.kind.Kind.TheVariants.{BadMessage}
 use Rattle.tcap_refute.specs.declared.notes.Notes.{Notes}
@@ -13,7 +13,7 @@ use Rattle.tcap_refute.specs.Kind.{is_limit, kind_of_reason, lowest_kind}
 use Rattle.tcap_refute.specs.KeptFacts.{AreNotesOf}
 
 -- The conclusion from octets that are no message: F1, or no kind if the reason is a limit of this profile.
-abbrev pub judged_fault : ReadingReason → Judged
+abbrev pub judged_fault : ReadingReason → EntryResult
 judged_fault reason = cond (is_limit reason) Ended (Refuted BadMessage)
 
 -- The lowest kind of an entry after these items.
@@ -23,7 +23,7 @@ entry_kind table items (Err reason) = kind_of_reason reason
 
 -- The conclusion from an entry after these items is right. `Refuted`: the entry has that kind. `Passed`: it is an
 -- item without a kind, and the notes include it. `Ended`: it is no item and has no kind.
-abbrev pub Judges : Table → List Item → Result Item Reason → Judged → Notes → Type 0
+abbrev pub Judges : Table → List Item → Result Item Reason → EntryResult → Notes → Type 0
 Judges table items entry (Refuted kind) notes = entry_kind table items entry ≡ Some kind
 Judges table items (Ok item) Passed notes =
     (lowest_kind table items item ≡ None) × AreNotesOf table (items ++ item ∷ []) notes

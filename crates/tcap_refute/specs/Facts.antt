@@ -87,9 +87,9 @@ shows_end table (From id fact) message = is_id id (otid_in message) && shows_fro
 shows_end table (Ended id) message = is_id id (ended_by message)
 
 -- Whether a fact holds for a message of the end in these items, which are those since the last quiet mark.
-abbrev pub told_since : Table → Side → List Item → EndFact → Bool
-told_since table side items fact = list_any (shows_end table fact) (sent_by side items)
+abbrev pub fact_in_items : Table → Side → List Item → EndFact → Bool
+fact_in_items table side items fact = list_any (shows_end table fact) (sent_by side items)
 
 -- Whether a fact holds for a message of the end since the last quiet mark of these items.
-abbrev pub told_by_list : Table → List Item → Side → EndFact → Bool
-told_by_list table items side fact = told_since table side (since_quiet items) fact
+abbrev pub fact_since_mark : Table → List Item → Side → EndFact → Bool
+fact_since_mark table items side fact = fact_in_items table side (since_quiet items) fact

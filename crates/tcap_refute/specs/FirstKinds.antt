@@ -12,7 +12,7 @@ use Rattle.tcap_end.specs.Table.{Table}
 use Rattle.tcap_model.specs.World.{Item}
 use Rattle.tcap_refute.specs.declared.kind.Kind.{Kind}
 use Rattle.tcap_refute.specs.declared.kind.Kind.TheVariants as kinds
-use Rattle.tcap_refute.specs.EarlierMessages.{asked, components_of, is_invoke_id}
+use Rattle.tcap_refute.specs.EarlierMessages.{peer_sent_from, components_of, is_invoke_id}
 use Rattle.tcap_refute.specs.Kind.{answers_none_of, answers_nothing, is_of_kind}
 
 -- An Invoke, a Return Result or a Return Error with this ID.
@@ -31,16 +31,16 @@ answers_none components (Reject (Some id) (problems.General n)) =
 answers_none components c = answers_none_of components c
 
 -- F5, if one end alone is judged: a component is an answer or a Reject for nothing that the peer sent.
-abbrev pub answers_nothing_there : Side → List Item → Message → Bool
-answers_nothing_there side items m = by (dtid_in m)
+abbrev pub answers_nothing_for_end : Side → List Item → Message → Bool
+answers_nothing_for_end side items m = by (dtid_in m)
   where
     by : Option (List ℕ) → Bool
     by None = answers_nothing side items m
-    by (Some id) = list_any (answers_none (components_of (asked side id items))) (components_in m)
+    by (Some id) = list_any (answers_none (components_of (peer_sent_from side id items))) (components_in m)
 
 -- Whether a message has this kind, of F2 to F7, if its end alone is judged.
 abbrev pub is_of_first_kind : Table → Side → List Item → Message → Kind → Bool
-is_of_first_kind table side items m kinds.AnswersNothing = answers_nothing_there side items m
+is_of_first_kind table side items m kinds.AnswersNothing = answers_nothing_for_end side items m
 is_of_first_kind table side items m kind = is_of_kind table side items m kind
 
 -- F2 to F7, the lowest first.

@@ -16,11 +16,11 @@ use Rattle.tcap_refute.specs.declared.codes.CodeSets.{CodeSets}
 use Rattle.tcap_refute.specs.declared.codes.Codes.{Codes}
 use Rattle.tcap_refute.specs.declared.sent_with_invoke_id.ById.{ById}
 use Rattle.tcap_refute.specs.declared.sent_from_id.FromId.{FromId}
-use Rattle.tcap_refute.specs.declared.sent_from_id.Toward.{Toward}
-use Rattle.tcap_refute.specs.declared.sent_from_id.Toward.TheVariants.{Nowhere, One, Several}
+use Rattle.tcap_refute.specs.declared.sent_from_id.Destinations.{Destinations}
+use Rattle.tcap_refute.specs.declared.sent_from_id.Destinations.TheVariants.{Nowhere, One, Several}
 use Rattle.tcap_refute.specs.declared.notes.EndNotes.{EndNotes}
 use Rattle.tcap_refute.specs.declared.notes.Notes.{Notes}
-use Rattle.tcap_refute.specs.Facts.{IdFact, Invoked, Answered, Succeeds, Fails, FromFact, Spoke, Begun, Asked, WentOn, WentElsewhere, OfId, EndFact, From, Ended, is_other, told_by_list}
+use Rattle.tcap_refute.specs.Facts.{IdFact, Invoked, Answered, Succeeds, Fails, FromFact, Spoke, Begun, Asked, WentOn, WentElsewhere, OfId, EndFact, From, Ended, is_other, fact_since_mark}
 
 -- Whether there is a value, and it passes the test.
 abbrev pub holds : {A : Type 0} → (A → Bool) → Option A → Bool
@@ -41,33 +41,33 @@ abbrev pub has_code : Code → Codes → Bool
 has_code code codes = is_first code codes.first || holds (λ others. is_among code others.value) codes.others
 
 -- Whether a fact about an invoke ID holds, by what is kept of the ID.
-abbrev pub tells : IdFact → ById → Bool
-tells Invoked kept = kept.invoked
-tells (Answered true) kept = kept.by_result
-tells (Answered false) kept = kept.by_error
-tells (Succeeds None) kept = kept.succeeds
-tells (Succeeds (Some code)) kept = has_code code kept.codes
-tells Fails kept = kept.fails
+abbrev pub id_fact_noted : IdFact → ById → Bool
+id_fact_noted Invoked kept = kept.invoked
+id_fact_noted (Answered true) kept = kept.by_result
+id_fact_noted (Answered false) kept = kept.by_error
+id_fact_noted (Succeeds None) kept = kept.succeeds
+id_fact_noted (Succeeds (Some code)) kept = has_code code kept.codes
+id_fact_noted Fails kept = kept.fails
 
 -- Whether one of these destination IDs differs from this ID.
-abbrev pub is_elsewhere : List ℕ → Toward → Bool
+abbrev pub is_elsewhere : List ℕ → Destinations → Bool
 is_elsewhere dtid Nowhere = false
 is_elsewhere dtid (One id) = is_other dtid (Some id)
 is_elsewhere dtid Several = true
 
 -- Whether a fact about an originating ID holds, by what is kept of the ID.
-abbrev pub tells_from : FromFact → FromId → Bool
-tells_from Spoke kept = kept.begun || kept.went_on
-tells_from Begun kept = kept.begun
-tells_from Asked kept = kept.asked
-tells_from WentOn kept = kept.went_on
-tells_from (WentElsewhere dtid) kept = is_elsewhere dtid kept.toward
-tells_from (OfId id fact) kept = holds (tells fact) (lookup (is_at (int_cmp id)) kept.ids.entries)
+abbrev pub from_fact_noted : FromFact → FromId → Bool
+from_fact_noted Spoke kept = kept.begun || kept.continued
+from_fact_noted Begun kept = kept.begun
+from_fact_noted Asked kept = kept.asked
+from_fact_noted WentOn kept = kept.continued
+from_fact_noted (WentElsewhere dtid) kept = is_elsewhere dtid kept.destinations
+from_fact_noted (OfId id fact) kept = holds (id_fact_noted fact) (lookup (is_at (int_cmp id)) kept.ids.entries)
 
 -- Whether a fact about an end holds, by the notes on the end.
-abbrev pub tells_end : EndFact → EndNotes → Bool
-tells_end (From id fact) kept = holds (tells_from fact) (lookup (is_at (octets_cmp id)) kept.from.entries)
-tells_end (Ended id) kept = set.contains octets_cmp kept.ended id
+abbrev pub end_fact_noted : EndFact → EndNotes → Bool
+end_fact_noted (From id fact) kept = holds (from_fact_noted fact) (lookup (is_at (octets_cmp id)) kept.from.entries)
+end_fact_noted (Ended id) kept = set.contains octets_cmp kept.ended id
 
 -- The notes on an end.
 abbrev pub notes_at : Side → Notes → EndNotes
@@ -75,12 +75,12 @@ notes_at sides.A notes = notes.a
 notes_at sides.B notes = notes.b
 
 -- Whether a fact about this end holds, by the notes on both ends.
-abbrev pub told_by_notes : Notes → Side → EndFact → Bool
-told_by_notes notes side fact = tells_end fact (notes_at side notes)
+abbrev pub fact_by_notes : Notes → Side → EndFact → Bool
+fact_by_notes notes side fact = end_fact_noted fact (notes_at side notes)
 
 -- The notes are right: each fact holds by them exactly if it holds in these items since the last quiet mark.
 pub record AreNotesOf (table : Table) (items : List Item) (notes : Notes) : Type 0 where
-  pub told : (side : Side) (fact : EndFact) → told_by_notes notes side fact ≡ told_by_list table items side fact
+  pub told : (side : Side) (fact : EndFact) → fact_by_notes notes side fact ≡ fact_since_mark table items side fact
 
 -- What is kept of an invoke ID in the messages from an originating ID, if anything.
 abbrev pub id_in : Option FromId → ℤ → Option ById
@@ -88,8 +88,8 @@ id_in None id = None
 id_in (Some kept) id = lookup (is_at (int_cmp id)) kept.ids.entries
 
 -- Whether a fact about an originating ID holds, by what is kept of it; false if nothing is kept.
-abbrev pub told_by_from : Option FromId → FromFact → Bool
-told_by_from kept fact = holds (tells_from fact) kept
+abbrev pub fact_by_from : Option FromId → FromFact → Bool
+fact_by_from kept fact = holds (from_fact_noted fact) kept
 
 -- What is kept of an originating ID, if there is one.
 abbrev pub kept_from : Option (List ℕ) → EndNotes → Option FromId

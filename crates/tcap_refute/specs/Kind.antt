@@ -29,7 +29,7 @@ use Rattle.tcap_model.specs.declared.reason.Reason.TheVariants.{BadMessage}
 use Rattle.tcap_refute.specs.declared.kind.Kind.{Kind}
 use Rattle.tcap_refute.specs.declared.kind.Kind.TheVariants as kinds
 use Rattle.tcap_refute.specs.declared.kind.Refutation.{Refutation}
-use Rattle.tcap_refute.specs.EarlierMessages.{answers, asked, components_of, has_a, invokes, is_answer, is_invoke_id, is_reject, sent_by, since_quiet}
+use Rattle.tcap_refute.specs.EarlierMessages.{answers, peer_sent_from, components_of, has_a, invokes, is_answer, is_invoke_id, is_reject, sent_by, since_quiet}
 
 -- ---- F1: octets that are no message (Q.773, X.690)
 
@@ -66,7 +66,7 @@ is_unknown_transaction side before message = by (dtid_in message)
   where
     by : Option (List ℕ) → Bool
     by None = false
-    by (Some id) = is_unasked (cause_in message) (asked side id before)
+    by (Some id) = is_unasked (cause_in message) (peer_sent_from side id before)
 
 -- ---- F3: an originating ID that its end has used (Q.774 3.3; that an ID is used once is this profile's choice)
 
@@ -118,7 +118,7 @@ answers_nothing side before message = by (dtid_in message)
   where
     by : Option (List ℕ) → Bool
     by None = false
-    by (Some id) = list_any (answers_none_of (components_of (asked side id before))) (components_in message)
+    by (Some id) = list_any (answers_none_of (components_of (peer_sent_from side id before))) (components_in message)
 
 -- ---- F6: a wrong operation (Q.771 3.1, operation classes)
 
@@ -157,33 +157,35 @@ is_wrong_operation table side before message =
   where
     by : Option (List ℕ) → Bool
     by None = false
-    by (Some id) = list_any (no_class_allows table (components_of (asked side id before))) (components_in message)
+    by (Some id) =
+        list_any (no_class_allows table (components_of (peer_sent_from side id before))) (components_in message)
 
 -- ---- F7: a misplaced dialogue portion (Q.774 3.2, dialogues; Q.773 4.2.3)
 
 -- A PDU that a Continue or an End may not have. Only an AARE that accepts the dialogue is allowed, if the peer asked
 -- for one (`is_asked`).
-abbrev pub is_misplaced_going_on : Bool → Option Dialogue → Bool
-is_misplaced_going_on is_asked None = false
-is_misplaced_going_on is_asked dialogue = not (is_asked && accepts_dialogue dialogue)
+abbrev pub is_misplaced_in_continue : Bool → Option Dialogue → Bool
+is_misplaced_in_continue is_asked None = false
+is_misplaced_in_continue is_asked dialogue = not (is_asked && accepts_dialogue dialogue)
 
 -- A PDU that an Abort may not have. Allowed are an ABRT whose source is the user (0) or the provider (1), and an AARE
 -- that refuses the dialogue, if the peer asked for one.
-abbrev pub is_misplaced_aborting : Bool → Option Dialogue → Bool
-is_misplaced_aborting is_asked None = false
-is_misplaced_aborting is_asked (Some (dialogues.Abort source info)) = nat_lt 1 source
-is_misplaced_aborting is_asked dialogue = not (is_asked && refuses_dialogue dialogue)
+abbrev pub is_misplaced_in_abort : Bool → Option Dialogue → Bool
+is_misplaced_in_abort is_asked None = false
+is_misplaced_in_abort is_asked (Some (dialogues.Abort source info)) = nat_lt 1 source
+is_misplaced_in_abort is_asked dialogue = not (is_asked && refuses_dialogue dialogue)
 
 -- F7: The message has a dialogue PDU that its form may not have there.
 abbrev pub is_misplaced_dialogue : Side → List Item → Message → Bool
 is_misplaced_dialogue side before (Unidirectional dialogue components) = is_some dialogue && not (is_uni dialogue)
 is_misplaced_dialogue side before (Begin otid dialogue components) = is_some dialogue && not (is_request dialogue)
 is_misplaced_dialogue side before (Continue otid dtid dialogue components) =
-    is_misplaced_going_on (list_any is_begin_with_request (asked side dtid before)) dialogue
+    is_misplaced_in_continue (list_any is_begin_with_request (peer_sent_from side dtid before)) dialogue
 is_misplaced_dialogue side before (EndMessage dtid dialogue components) =
-    is_misplaced_going_on (list_any is_begin_with_request (asked side dtid before)) dialogue
+    is_misplaced_in_continue (list_any is_begin_with_request (peer_sent_from side dtid before)) dialogue
 is_misplaced_dialogue side before (Abort dtid reason) =
-    is_misplaced_aborting (list_any is_begin_with_request (asked side dtid before)) (dialogue_in (Abort dtid reason))
+    is_misplaced_in_abort (list_any is_begin_with_request (peer_sent_from side dtid before))
+    (dialogue_in (Abort dtid reason))
 
 -- ---- all these kinds
 

@@ -19,22 +19,22 @@ use Rattle.tcap_refute.specs.declared.components.Test.TheVariants as tests
 use Rattle.tcap_refute.specs.declared.kind.Kind.{Kind}
 use Rattle.tcap_refute.specs.declared.kind.Kind.TheVariants as kinds
 use Rattle.tcap_refute.specs.EarlierMessages.{is_answer, is_reject}
-use Rattle.tcap_refute.specs.FirstComponent.{first_so}
-use Rattle.tcap_refute.specs.Kind.{is_misplaced_aborting, is_misplaced_going_on, is_not_of_class_4, is_unknown_operation}
+use Rattle.tcap_refute.specs.FirstComponent.{first_where}
+use Rattle.tcap_refute.specs.Kind.{is_misplaced_in_abort, is_misplaced_in_continue, is_not_of_class_4, is_unknown_operation}
 use Rattle.tcap_model.specs.World.{Item}
 use Rattle.tcap_refute.specs.declared.sent_from_id.FromId.{FromId}
-use Rattle.tcap_refute.specs.KeptFacts.{told_by_from}
-use Rattle.tcap_refute.specs.Facts.{FromFact, EndFact, Spoke, Begun, Asked, WentOn, WentElsewhere, OfId, Invoked, Answered, Succeeds, Fails, From, Ended, told_by_list}
+use Rattle.tcap_refute.specs.KeptFacts.{fact_by_from}
+use Rattle.tcap_refute.specs.Facts.{FromFact, EndFact, Spoke, Begun, Asked, WentOn, WentElsewhere, OfId, Invoked, Answered, Succeeds, Fails, From, Ended, fact_since_mark}
 
 -- Whether the fact holds for an originating ID; false if there is none.
-abbrev pub told_from : (EndFact → Bool) → Option (List ℕ) → FromFact → Bool
-told_from told None fact = false
-told_from told (Some id) fact = told (From id fact)
+abbrev pub fact_from : (EndFact → Bool) → Option (List ℕ) → FromFact → Bool
+fact_from told None fact = false
+fact_from told (Some id) fact = told (From id fact)
 
 -- Whether the end ended the dialogue with this destination ID; false if there is none.
-abbrev pub told_ended : (EndFact → Bool) → Option (List ℕ) → Bool
-told_ended told None = false
-told_ended told (Some id) = told (Ended id)
+abbrev pub fact_ended : (EndFact → Bool) → Option (List ℕ) → Bool
+fact_ended told None = false
+fact_ended told (Some id) = told (Ended id)
 
 -- ---- F2, from the facts about the destination ID
 
@@ -123,7 +123,7 @@ operation_test _ = tests.Wrong
 
 -- The number of the first component of a message that meets a test.
 abbrev pub first_passing : Table → (FromFact → Bool) → Test → Message → Option ℕ
-first_passing table told test message = first_so (passes table told test) 0 (components_in message)
+first_passing table told test message = first_where (passes table told test) 0 (components_in message)
 
 -- The number of the component that gives a message this kind; only F5 and F6 have one.
 abbrev pub component_by : Bool → Table → (FromFact → Bool) → Message → Kind → Option ℕ
@@ -139,8 +139,8 @@ component_by of_one table told message kind = None
 abbrev pub dialogue_is_misplaced : Bool → Form → Option Dialogue → Bool
 dialogue_is_misplaced is_asked forms.Unidirectional dialogue = is_some dialogue && not (is_uni dialogue)
 dialogue_is_misplaced is_asked forms.Begin dialogue = is_some dialogue && not (is_request dialogue)
-dialogue_is_misplaced is_asked forms.Abort dialogue = is_misplaced_aborting is_asked dialogue
-dialogue_is_misplaced is_asked _ dialogue = is_misplaced_going_on is_asked dialogue
+dialogue_is_misplaced is_asked forms.Abort dialogue = is_misplaced_in_abort is_asked dialogue
+dialogue_is_misplaced is_asked _ dialogue = is_misplaced_in_continue is_asked dialogue
 
 -- ---- the lowest kind of a message that an end sends
 
@@ -169,7 +169,8 @@ kind_by of_one table own there ended message =
 -- since the last quiet mark.
 pub record AreOfIds (table : Table) (items : List Item) (side : Side) (message : Message) (own there : Option FromId)
     (ended : Bool) : Type 0 where
-  pub from_own : (fact : FromFact) → told_by_from own fact ≡ told_from (told_by_list table items side) (otid_in message) fact
+  pub from_own : (fact : FromFact) → fact_by_from own fact
+      ≡ fact_from (fact_since_mark table items side) (otid_in message) fact
   pub from_there : (fact : FromFact)
-      → told_by_from there fact ≡ told_from (told_by_list table items (other side)) (dtid_in message) fact
-  pub has_ended : ended ≡ told_ended (told_by_list table items side) (dtid_in message)
+      → fact_by_from there fact ≡ fact_from (fact_since_mark table items (other side)) (dtid_in message) fact
+  pub has_ended : ended ≡ fact_ended (fact_since_mark table items side) (dtid_in message)

@@ -10,8 +10,8 @@ use Rattle.tcap_end.specs.End.{is_id}
 use Rattle.tcap_end.specs.Table.{Table}
 use Rattle.tcap_refute.specs.declared.sent_with_invoke_id.ById.{ById}
 use Rattle.tcap_refute.specs.declared.sent_from_id.FromId.{FromId}
-use Rattle.tcap_refute.specs.declared.sent_from_id.Toward.{Toward}
-use Rattle.tcap_refute.specs.declared.sent_from_id.Toward.TheVariants.{Nowhere, One, Several}
+use Rattle.tcap_refute.specs.declared.sent_from_id.Destinations.{Destinations}
+use Rattle.tcap_refute.specs.declared.sent_from_id.Destinations.TheVariants.{Nowhere, One, Several}
 use Rattle.tcap_refute.specs.EarlierMessages.{is_a}
 use Rattle.tcap_refute.specs.KeptFacts.{has_code}
 
@@ -26,27 +26,28 @@ pub record IsInvoked (table : Table) (code : Code) (old new : ById) : Type 0 whe
   pub by_error : new.by_error ≡ old.by_error
 
 -- The destination IDs with one more.
-abbrev pub toward_with : List ℕ → Toward → Toward
-toward_with dtid Nowhere = One dtid
-toward_with dtid (One other) = cond (is_id dtid (Some other)) (One other) Several
-toward_with dtid Several = Several
+abbrev pub with_destination : List ℕ → Destinations → Destinations
+with_destination dtid Nowhere = One dtid
+with_destination dtid (One other) = cond (is_id dtid (Some other)) (One other) Several
+with_destination dtid Several = Several
 
 -- The destination IDs after a message; the flag is whether the message is a Continue.
-abbrev pub toward_behind : Bool → Option (List ℕ) → Toward → Toward
-toward_behind true (Some dtid) toward = toward_with dtid toward
-toward_behind _ _ toward = toward
+abbrev pub destinations_after : Bool → Option (List ℕ) → Destinations → Destinations
+destinations_after true (Some dtid) destinations = with_destination dtid destinations
+destinations_after _ _ destinations = destinations
 
 -- `new` is `old` with one more message, but without its components.
 pub record IsHeaded (message : Message) (old new : FromId) : Type 0 where
   pub begun : new.begun ≡ old.begun || is_a forms.Begin message
   pub asked : new.asked ≡ old.asked || is_a forms.Begin message && is_request (dialogue_in message)
-  pub went_on : new.went_on ≡ old.went_on || is_a forms.Continue message
-  pub toward : new.toward ≡ toward_behind (is_a forms.Continue message) (dtid_in message) old.toward
+  pub continued : new.continued ≡ old.continued || is_a forms.Continue message
+  pub destinations : new.destinations ≡ destinations_after (is_a forms.Continue message)
+      (dtid_in message) old.destinations
   pub ids : new.ids ≡ old.ids
 
 -- `new` and `old` differ in nothing but what components add.
 pub record IsSameHead (old new : FromId) : Type 0 where
   pub begun : new.begun ≡ old.begun
   pub asked : new.asked ≡ old.asked
-  pub went_on : new.went_on ≡ old.went_on
-  pub toward : new.toward ≡ old.toward
+  pub continued : new.continued ≡ old.continued
+  pub destinations : new.destinations ≡ old.destinations

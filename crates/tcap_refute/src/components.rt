@@ -5,7 +5,7 @@ ghost use Rattle.tcap_parts.specs.Meaning.{body_of, code_of, component_of, probl
 ghost use Rattle.tcap_end.specs.Class.{of_class, reports_neither};
 ghost use Rattle.tcap_end.specs.Table.{class_of};
 ghost use Rattle.tcap_refute.specs.Facts.{Answered, Fails, Invoked, OfId, Succeeds};
-ghost use Rattle.tcap_refute.specs.KeptFacts.{id_in, told_by_from};
+ghost use Rattle.tcap_refute.specs.KeptFacts.{id_in, fact_by_from};
 ghost use Rattle.tcap_refute.specs.KindsByFacts.{answer_test, answers_none, component_by, first_passing, has_come, is_not_allowed, operation_test, passes, rejects_none};
 
 use crate::kind::Kind;
@@ -45,7 +45,7 @@ fn is_of_class_4(table: &Table, code: CodeView) -> bool
 }
 
 /// Returns what was sent with this invoke ID, if anything was.
-fn of_id(from: Option<&FromId>, id: i8) -> Option<&ById>
+fn sent_with_id(from: Option<&FromId>, id: i8) -> Option<&ById>
     ensures { option_copied result ≡ id_in (option_copied from.entry) id }
 {
     from?.ids.get(&id)
@@ -53,9 +53,9 @@ fn of_id(from: Option<&FromId>, id: i8) -> Option<&ById>
 
 /// Returns whether an Invoke with this invoke ID was sent.
 fn is_invoked(from: Option<&FromId>, id: i8) -> bool
-    ensures { result ≡ told_by_from (option_copied from.entry) (OfId id Invoked) }
+    ensures { result ≡ fact_by_from (option_copied from.entry) (OfId id Invoked) }
 {
-    match of_id(from, id) {
+    match sent_with_id(from, id) {
         Some(kept) => kept.invoked,
         None => false,
     }
@@ -63,9 +63,9 @@ fn is_invoked(from: Option<&FromId>, id: i8) -> bool
 
 /// Returns whether a Return Result (if `is_result`) or else a Return Error with this invoke ID was sent.
 fn is_answered(from: Option<&FromId>, is_result: bool, id: i8) -> bool
-    ensures { result ≡ told_by_from (option_copied from.entry) (OfId id (Answered is_result)) }
+    ensures { result ≡ fact_by_from (option_copied from.entry) (OfId id (Answered is_result)) }
 {
-    match of_id(from, id) {
+    match sent_with_id(from, id) {
         Some(kept) if is_result => kept.by_result,
         Some(kept) => kept.by_error,
         None => false,
@@ -75,10 +75,10 @@ fn is_answered(from: Option<&FromId>, is_result: bool, id: i8) -> bool
 /// Returns whether an Invoke with this invoke ID was sent whose class reports success. If the body names an
 /// operation, the Invoke must be of that operation.
 fn succeeds(from: Option<&FromId>, id: i8, body: Option<ResultBodyView>) -> bool
-    ensures { result ≡ told_by_from (option_copied from.entry)
+    ensures { result ≡ fact_by_from (option_copied from.entry)
         (OfId id (Succeeds (option_map (λ b. b.code) (option_map body_of body.entry)))) }
 {
-    match (of_id(from, id), body) {
+    match (sent_with_id(from, id), body) {
         (Some(kept), Some(body)) => kept.codes.has(body.code),
         (Some(kept), None) => kept.succeeds,
         (None, _) => false,
@@ -87,9 +87,9 @@ fn succeeds(from: Option<&FromId>, id: i8, body: Option<ResultBodyView>) -> bool
 
 /// Returns whether an Invoke with this invoke ID was sent whose class reports failure.
 fn fails(from: Option<&FromId>, id: i8) -> bool
-    ensures { result ≡ told_by_from (option_copied from.entry) (OfId id Fails) }
+    ensures { result ≡ fact_by_from (option_copied from.entry) (OfId id Fails) }
 {
-    match of_id(from, id) {
+    match sent_with_id(from, id) {
         Some(kept) => kept.fails,
         None => false,
     }
@@ -97,9 +97,9 @@ fn fails(from: Option<&FromId>, id: i8) -> bool
 
 /// Returns whether an Invoke or an answer with this invoke ID was sent.
 fn has_come(from: Option<&FromId>, id: i8) -> bool
-    ensures { result ≡ has_come (told_by_from (option_copied from.entry)) id }
+    ensures { result ≡ has_come (fact_by_from (option_copied from.entry)) id }
 {
-    match of_id(from, id) {
+    match sent_with_id(from, id) {
         Some(kept) => kept.invoked || kept.by_result || kept.by_error,
         None => false,
     }
@@ -110,7 +110,7 @@ fn has_come(from: Option<&FromId>, id: i8) -> bool
 /// If one end alone is judged, mistypedComponent (1) and badlyStructuredComponent (2) may be for what was sent with
 /// the same invoke ID.
 fn rejects_none(of_one: bool, from: Option<&FromId>, id: Option<i8>, problem: ProblemView) -> bool
-    ensures { result ≡ rejects_none of_one (told_by_from (option_copied from.entry)) id (problem_of problem) }
+    ensures { result ≡ rejects_none of_one (fact_by_from (option_copied from.entry)) id (problem_of problem) }
 {
     match (id, problem) {
         (None, _) => true,
@@ -125,7 +125,7 @@ fn rejects_none(of_one: bool, from: Option<&FromId>, id: Option<i8>, problem: Pr
 
 /// Returns whether a component is an answer or a Reject for nothing that was sent.
 fn answers_none(of_one: bool, from: Option<&FromId>, component: ComponentView) -> bool
-    ensures { result ≡ answers_none of_one (told_by_from (option_copied from.entry)) (component_of component.entry) }
+    ensures { result ≡ answers_none of_one (fact_by_from (option_copied from.entry)) (component_of component.entry) }
 {
     match component {
         ComponentView::Invoke { .. } => false,
@@ -138,7 +138,7 @@ fn answers_none(of_one: bool, from: Option<&FromId>, component: ComponentView) -
 
 /// Returns whether a component is an answer that no Invoke allows.
 fn is_not_allowed(from: Option<&FromId>, component: ComponentView) -> bool
-    ensures { result ≡ is_not_allowed (told_by_from (option_copied from.entry)) (component_of component.entry) }
+    ensures { result ≡ is_not_allowed (fact_by_from (option_copied from.entry)) (component_of component.entry) }
 {
     match component {
         ComponentView::ReturnResult { id, body, .. } => !succeeds(from, id, body),
@@ -149,7 +149,7 @@ fn is_not_allowed(from: Option<&FromId>, component: ComponentView) -> bool
 
 /// Returns whether a component passes a test.
 fn passes(table: &Table, from: Option<&FromId>, test: Test, component: ComponentView) -> bool
-    ensures { result ≡ passes table.now (told_by_from (option_copied from.entry)) test (component_of component.entry) }
+    ensures { result ≡ passes table.now (fact_by_from (option_copied from.entry)) test (component_of component.entry) }
 {
     match (test, component) {
         (Test::Answer | Test::AnswerOrReject, ComponentView::Invoke { .. }) => false,
@@ -194,7 +194,7 @@ fn first_passing<M: MessageParts>(
     test: Test,
     message: &M,
 ) -> Option<u64>
-    ensures { result ≡ first_passing table.now (told_by_from (option_copied from.entry)) test (M.meaning message.now) }
+    ensures { result ≡ first_passing table.now (fact_by_from (option_copied from.entry)) test (M.meaning message.now) }
 {
     // Bounds the number of components, so that their numbers fit.
     let _count = message.count();
@@ -218,7 +218,8 @@ pub(crate) fn component_of<M: MessageParts>(
     message: &M,
     kind: Kind,
 ) -> Option<u64>
-    ensures { result ≡ component_by of_one table.now (told_by_from (option_copied from.entry)) (M.meaning message.now) kind }
+    ensures { result ≡ component_by of_one table.now (fact_by_from (option_copied from.entry))
+        (M.meaning message.now) kind }
 {
     match kind {
         Kind::AnswersNothing => {

@@ -7,12 +7,12 @@ ghost use Rattle.tcap_record.specs.declared.entry.End.{End as Side};
 ghost use Rattle.tcap_record.specs.Ends.{other};
 ghost use Rattle.tcap_model.specs.World.{Item};
 ghost use Rattle.tcap_refute.specs.declared.kind.Kind.TheVariants.{BadMessage};
-ghost use Rattle.tcap_refute.specs.KindsByFacts.{AreOfIds, told_from};
+ghost use Rattle.tcap_refute.specs.KindsByFacts.{AreOfIds, fact_from};
 ghost use Rattle.tcap_refute.specs.EarlierMessages.{since_quiet};
-ghost use Rattle.tcap_refute.specs.Facts.{FromFact, told_by_list};
+ghost use Rattle.tcap_refute.specs.Facts.{FromFact, fact_since_mark};
 ghost use Rattle.tcap_refute.specs.FirstComponent.{first_component};
 ghost use Rattle.tcap_refute.specs.FirstKinds.{first_kinds, is_of_first_kind};
-ghost use Rattle.tcap_refute.specs.KeptFacts.{told_by_from};
+ghost use Rattle.tcap_refute.specs.KeptFacts.{fact_by_from};
 ghost use Rattle.tcap_refute.specs.Kind.{is_limit};
 
 use crate::components::component_of;
@@ -71,8 +71,8 @@ pub fn faulty_component<M: MessageParts>(
     kind: Kind,
 ) -> Option<u64>
     ensures { (side : Side) (items : List Item)
-        → ((fact : FromFact) → told_by_from (option_copied there.entry) fact
-        ≡ told_from (told_by_list table.now items (other side)) (dtid_in (M.meaning message.now)) fact)
+        → ((fact : FromFact) → fact_by_from (option_copied there.entry) fact
+        ≡ fact_from (fact_since_mark table.now items (other side)) (dtid_in (M.meaning message.now)) fact)
         → result ≡ first_component of_one table.now side (since_quiet items) (M.meaning message.now) kind }
 {
     component_of(of_one, table, there, message, kind)

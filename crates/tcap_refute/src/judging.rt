@@ -18,7 +18,7 @@ use tcap_record::{Body, End, Entry};
 
 /// The conclusion of a search from an entry.
 #[derive(Clone, Copy, PartialEq, Eq)]
-pub(crate) enum Judged {
+pub(crate) enum EntryResult {
     /// The entry is an item without a kind, and was noted.
     Passed,
     /// The entry has this lowest kind.
@@ -45,13 +45,13 @@ pub(crate) fn is_limit(reason: Reason) -> bool
 }
 
 /// Returns the conclusion from octets that are no message for this reason.
-fn judged_fault(reason: Reason) -> Judged
+fn judged_fault(reason: Reason) -> EntryResult
     ensures { result ≡ judged_fault reason }
 {
     if is_limit(reason) {
-        Judged::Ended
+        EntryResult::Ended
     } else {
-        Judged::Refuted(Kind::BadMessage)
+        EntryResult::Refuted(Kind::BadMessage)
     }
 }
 
@@ -63,23 +63,23 @@ impl Notes {
         table: &Table,
         side: End,
         message: &M,
-    ) -> Result<Judged, AllocError>
+    ) -> Result<EntryResult, AllocError>
         ensures { (items : List Item) → AreNotesOf table.now items self.old → IfOk result
             (λ judged. Judges table.now items (Ok (Sent side (M.meaning message.now))) judged self.new) }
     {
         if let Some(kind) = self.kind_of(table, side, message) {
-            return Ok(Judged::Refuted(kind));
+            return Ok(EntryResult::Refuted(kind));
         }
         self.note(alloc, table, side, message)?;
-        Ok(Judged::Passed)
+        Ok(EntryResult::Passed)
     }
 
     /// Takes a quiet mark: forgets what was before it.
-    fn take_mark(&mut self, alloc: Global) -> Judged
+    fn take_mark(&mut self, alloc: Global) -> EntryResult
         ensures { (table : Table) (items : List Item) → Judges table items (Ok Item.Quiet) result self.new }
     {
         *self = Notes::new(alloc);
-        Judged::Passed
+        EntryResult::Passed
     }
 
     /// Takes the next entry. Fails if memory runs out.
@@ -88,7 +88,7 @@ impl Notes {
         alloc: Global,
         table: &Table,
         entry: &Entry,
-    ) -> Result<Judged, AllocError>
+    ) -> Result<EntryResult, AllocError>
         ensures { (items : List Item) → AreNotesOf table.now items self.old
             → IfOk result (λ judged. Judges table.now items (item_of entry.now) judged self.new) }
     {
@@ -98,7 +98,7 @@ impl Notes {
                 self.take_message(alloc, table, side, &message.view())
             }
             (None, Body::Quiet) => Ok(self.take_mark(alloc)),
-            _ => Ok(Judged::Ended),
+            _ => Ok(EntryResult::Ended),
         }
     }
 }

@@ -4,11 +4,11 @@ ghost use Rattle.std.specs.Prelude.{◌≡◌, option_copied};
 ghost use Rattle.tcap_msg.specs.Meaning.{cause_of};
 ghost use Rattle.tcap_msg.specs.Parts.{cause_in, dialogue_in, dtid_in, kind_in};
 ghost use Rattle.tcap_refute.specs.Facts.{Asked, Begun, Spoke, WentElsewhere, WentOn};
-ghost use Rattle.tcap_refute.specs.KeptFacts.{told_by_from};
+ghost use Rattle.tcap_refute.specs.KeptFacts.{fact_by_from};
 ghost use Rattle.tcap_refute.specs.KindsByFacts.{cause_is_unfounded, comes_after_end, dialogue_is_misplaced, id_is_reused, kind_by, kind_of_ids, kind_of_parts, transaction_is_unknown, was_not_asked};
 
 use crate::components::component_of;
-use crate::dialogues::{is_misplaced_aborting, is_misplaced_going_on, is_uni};
+use crate::dialogues::{is_misplaced_in_abort, is_misplaced_in_continue, is_uni};
 use crate::kind::Kind;
 use crate::sent_from_id::FromId;
 use tcap_ber::SmallView;
@@ -17,48 +17,48 @@ use tcap_msg::{Kind as Form, MessageParts, TransactionIdView};
 
 /// Returns whether a Begin was sent from the ID.
 fn begun(from: Option<&FromId>) -> bool
-    ensures { result ≡ told_by_from (option_copied from.entry) Begun }
+    ensures { result ≡ fact_by_from (option_copied from.entry) Begun }
 {
     matches!(from, Some(kept) if kept.begun)
 }
 
 /// Returns whether a Begin with a dialogue request was sent from the ID.
 fn asked(from: Option<&FromId>) -> bool
-    ensures { result ≡ told_by_from (option_copied from.entry) Asked }
+    ensures { result ≡ fact_by_from (option_copied from.entry) Asked }
 {
     matches!(from, Some(kept) if kept.asked)
 }
 
 /// Returns whether a Continue was sent from the ID.
-fn went_on(from: Option<&FromId>) -> bool
-    ensures { result ≡ told_by_from (option_copied from.entry) WentOn }
+fn continued(from: Option<&FromId>) -> bool
+    ensures { result ≡ fact_by_from (option_copied from.entry) WentOn }
 {
-    matches!(from, Some(kept) if kept.went_on)
+    matches!(from, Some(kept) if kept.continued)
 }
 
 /// Returns whether a message was sent from the ID.
 fn spoke(from: Option<&FromId>) -> bool
-    ensures { result ≡ told_by_from (option_copied from.entry) Spoke }
+    ensures { result ≡ fact_by_from (option_copied from.entry) Spoke }
 {
-    begun(from) || went_on(from)
+    begun(from) || continued(from)
 }
 
 /// Returns whether a Continue was sent from the ID to another ID than `dtid`.
 fn went_elsewhere(from: Option<&FromId>, dtid: TransactionIdView) -> bool
-    ensures { result ≡ told_by_from (option_copied from.entry) (WentElsewhere dtid.entry.octets.now) }
+    ensures { result ≡ fact_by_from (option_copied from.entry) (WentElsewhere dtid.entry.octets.now) }
 {
     match from {
-        Some(kept) => kept.toward.is_elsewhere(dtid),
+        Some(kept) => kept.destinations.is_elsewhere(dtid),
         None => false,
     }
 }
 
 /// Returns whether no message from the ID is a reason for an Abort of the provider with this cause.
 fn cause_is_unfounded(from: Option<&FromId>, cause: SmallView) -> bool
-    ensures { result ≡ cause_is_unfounded (told_by_from (option_copied from.entry)) cause.number }
+    ensures { result ≡ cause_is_unfounded (fact_by_from (option_copied from.entry)) cause.number }
 {
     match cause.number {
-        1 => !went_on(from),
+        1 => !continued(from),
         4 => !begun(from),
         _ => true,
     }
@@ -66,7 +66,7 @@ fn cause_is_unfounded(from: Option<&FromId>, cause: SmallView) -> bool
 
 /// Returns whether nothing was sent from the ID that a message with this cause, if it has one, can refer to.
 fn was_not_asked(from: Option<&FromId>, cause: Option<SmallView>) -> bool
-    ensures { result ≡ was_not_asked (told_by_from (option_copied from.entry)) (cause_of cause) }
+    ensures { result ≡ was_not_asked (fact_by_from (option_copied from.entry)) (cause_of cause) }
 {
     match cause {
         None => !spoke(from),
@@ -76,14 +76,14 @@ fn was_not_asked(from: Option<&FromId>, cause: Option<SmallView>) -> bool
 
 /// Returns whether the message has F2. `from` has what the peer sent from the destination ID.
 fn transaction_is_unknown<M: MessageParts>(from: Option<&FromId>, message: &M) -> bool
-    ensures { result ≡ transaction_is_unknown (told_by_from (option_copied from.entry)) (M.meaning message.now) }
+    ensures { result ≡ transaction_is_unknown (fact_by_from (option_copied from.entry)) (M.meaning message.now) }
 {
     message.dtid().is_some() && was_not_asked(from, message.cause())
 }
 
 /// Returns whether the message has F3. `from` has what its end sent from the originating ID.
 fn id_is_reused<M: MessageParts>(from: Option<&FromId>, message: &M) -> bool
-    ensures { result ≡ id_is_reused (told_by_from (option_copied from.entry))
+    ensures { result ≡ id_is_reused (fact_by_from (option_copied from.entry))
         (dtid_in (M.meaning message.now)) (kind_in (M.meaning message.now)) }
 {
     match (message.kind(), message.dtid()) {
@@ -95,15 +95,15 @@ fn id_is_reused<M: MessageParts>(from: Option<&FromId>, message: &M) -> bool
 
 /// Returns whether the message has F7. `from` has what the peer sent from the destination ID.
 fn dialogue_is_misplaced<M: MessageParts>(from: Option<&FromId>, message: &M) -> bool
-    ensures { result ≡ dialogue_is_misplaced (told_by_from (option_copied from.entry) Asked)
+    ensures { result ≡ dialogue_is_misplaced (fact_by_from (option_copied from.entry) Asked)
         (kind_in (M.meaning message.now)) (dialogue_in (M.meaning message.now)) }
 {
     let dialogue = message.dialogue();
     match message.kind() {
         Form::Unidirectional => dialogue.is_some() && !is_uni(dialogue),
         Form::Begin => dialogue.is_some() && !is_request(dialogue),
-        Form::Abort => is_misplaced_aborting(asked(from), dialogue),
-        _ => is_misplaced_going_on(asked(from), dialogue),
+        Form::Abort => is_misplaced_in_abort(asked(from), dialogue),
+        _ => is_misplaced_in_continue(asked(from), dialogue),
     }
 }
 
@@ -126,7 +126,8 @@ fn kind_of_ids<M: MessageParts>(
     has_ended: bool,
     message: &M,
 ) -> Option<Kind>
-    ensures { result ≡ kind_of_ids (told_by_from (option_copied own.entry)) (told_by_from (option_copied there.entry)) has_ended
+    ensures { result ≡ kind_of_ids (fact_by_from (option_copied own.entry))
+        (fact_by_from (option_copied there.entry)) has_ended
         (M.meaning message.now) }
 {
     if transaction_is_unknown(there, message) {
@@ -147,7 +148,8 @@ fn kind_of_parts<M: MessageParts>(
     there: Option<&FromId>,
     message: &M,
 ) -> Option<Kind>
-    ensures { result ≡ kind_of_parts of_one table.now (told_by_from (option_copied there.entry)) (M.meaning message.now) }
+    ensures { result ≡ kind_of_parts of_one table.now (fact_by_from (option_copied there.entry))
+        (M.meaning message.now) }
 {
     if component_of(of_one, table, there, message, Kind::AnswersNothing).is_some() {
         Some(Kind::AnswersNothing)
@@ -172,7 +174,8 @@ pub(crate) fn kind_by<M: MessageParts>(
     has_ended: bool,
     message: &M,
 ) -> Option<Kind>
-    ensures { result ≡ kind_by of_one table.now (told_by_from (option_copied own.entry)) (told_by_from (option_copied there.entry))
+    ensures { result ≡ kind_by of_one table.now (fact_by_from (option_copied own.entry))
+        (fact_by_from (option_copied there.entry))
         has_ended (M.meaning message.now) }
 {
     match kind_of_ids(own, there, has_ended, message) {

@@ -13,8 +13,8 @@ ghost use Rattle.tcap_model.specs.World.{is_side};
 ghost use Rattle.tcap_model.specs.SinceMark.{ended_by};
 ghost use Rattle.tcap_refute.specs.Facts.{EndFact, Ended, From, FromFact, shows_end, shows_from};
 ghost use Rattle.tcap_model.specs.World.{Item, Sent};
-ghost use Rattle.tcap_refute.specs.KindsByFacts.{told_ended};
-ghost use Rattle.tcap_refute.specs.KeptFacts.{AreNotesOf, holds, kept_from, notes_at, tells_end, tells_from, told_by_notes};
+ghost use Rattle.tcap_refute.specs.KindsByFacts.{fact_ended};
+ghost use Rattle.tcap_refute.specs.KeptFacts.{AreNotesOf, holds, kept_from, notes_at, end_fact_noted, from_fact_noted, fact_by_notes};
 ghost use Rattle.tcap_refute.specs.Kind.{lowest_kind};
 
 use crate::kind::Kind;
@@ -55,7 +55,7 @@ fn ended_by<M: MessageParts>(message: &M) -> Option<TransactionIdView<'_>>
 impl EndNotes {
     /// Creates the notes on an end that sent nothing.
     fn new(alloc: Global) -> EndNotes
-        ensures { (fact : EndFact) → tells_end fact result ≡ false }
+        ensures { (fact : EndFact) → end_fact_noted fact result ≡ false }
     {
         EndNotes {
             from: BTreeMap::new(alloc),
@@ -72,7 +72,7 @@ impl EndNotes {
 
     /// Returns whether the end ended the dialogue with an ID; false if there is none.
     fn has_ended(&self, id: Option<TransactionIdView>) -> bool
-        ensures { result ≡ told_ended (λ fact. tells_end fact self.now) (id_of id.entry) }
+        ensures { result ≡ fact_ended (λ fact. end_fact_noted fact self.now) (id_of id.entry) }
     {
         match id {
             Some(id) => self.ended.contains(&id.to_transaction_id()),
@@ -89,8 +89,8 @@ impl EndNotes {
         message: &M,
     ) -> Result<(), AllocError>
         ensures from { OnOk result ((other : List ℕ) (fact : FromFact)
-            → holds (tells_from fact) (lookup (is_at (octets_cmp other)) self.new.from.entries)
-            ≡ holds (tells_from fact) (lookup (is_at (octets_cmp other)) self.old.from.entries)
+            → holds (from_fact_noted fact) (lookup (is_at (octets_cmp other)) self.new.from.entries)
+            ≡ holds (from_fact_noted fact) (lookup (is_at (octets_cmp other)) self.old.from.entries)
             || is_id other (Some id.entry.octets.now) && shows_from table.now fact (M.meaning message.now)) }
         ensures ended { self.new.ended ≡ self.old.ended }
     {
@@ -111,8 +111,8 @@ impl EndNotes {
         table: &Table,
         message: &M,
     ) -> Result<(), AllocError>
-        ensures from { OnOk result ((id : List ℕ) (fact : FromFact) → tells_end (From id fact) self.new
-            ≡ tells_end (From id fact) self.old || shows_end table.now (From id fact) (M.meaning message.now)) }
+        ensures from { OnOk result ((id : List ℕ) (fact : FromFact) → end_fact_noted (From id fact) self.new
+            ≡ end_fact_noted (From id fact) self.old || shows_end table.now (From id fact) (M.meaning message.now)) }
         ensures ended { self.new.ended ≡ self.old.ended }
     {
         match message.otid() {
@@ -123,8 +123,8 @@ impl EndNotes {
 
     /// Notes the destination ID of a message that ends a dialogue. Fails if memory runs out.
     fn note_ended<M: MessageParts>(&mut self, message: &M) -> Result<(), AllocError>
-        ensures ended { OnOk result ((id : List ℕ) → tells_end (Ended id) self.new
-            ≡ tells_end (Ended id) self.old || is_id id (ended_by (M.meaning message.now))) }
+        ensures ended { OnOk result ((id : List ℕ) → end_fact_noted (Ended id) self.new
+            ≡ end_fact_noted (Ended id) self.old || is_id id (ended_by (M.meaning message.now))) }
         ensures from { self.new.from ≡ self.old.from }
     {
         if let Some(id) = ended_by(message) {
@@ -140,8 +140,8 @@ impl EndNotes {
         table: &Table,
         message: &M,
     ) -> Result<(), AllocError>
-        ensures { OnOk result ((fact : EndFact) → tells_end fact self.new
-            ≡ tells_end fact self.old || shows_end table.now fact (M.meaning message.now)) }
+        ensures { OnOk result ((fact : EndFact) → end_fact_noted fact self.new
+            ≡ end_fact_noted fact self.old || shows_end table.now fact (M.meaning message.now)) }
     {
         self.note_otid(alloc, table, message)?;
         self.note_ended(message)
@@ -151,7 +151,7 @@ impl EndNotes {
 impl Notes {
     /// Creates the notes on two ends that sent nothing.
     pub(crate) fn new(alloc: Global) -> Notes
-        ensures { (side : Side) (fact : EndFact) → told_by_notes result side fact ≡ false }
+        ensures { (side : Side) (fact : EndFact) → fact_by_notes result side fact ≡ false }
     {
         Notes {
             a: EndNotes::new(alloc),
@@ -194,8 +194,8 @@ impl Notes {
         side: End,
         message: &M,
     ) -> Result<(), AllocError>
-        ensures { OnOk result ((end : Side) (fact : EndFact) → told_by_notes self.new end fact
-            ≡ told_by_notes self.old end fact || is_side end side && shows_end table.now fact (M.meaning message.now)) }
+        ensures { OnOk result ((end : Side) (fact : EndFact) → fact_by_notes self.new end fact
+            ≡ fact_by_notes self.old end fact || is_side end side && shows_end table.now fact (M.meaning message.now)) }
     {
         match side {
             End::A => self.a.note(alloc, table, message),

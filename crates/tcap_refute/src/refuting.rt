@@ -5,7 +5,7 @@ ghost use Rattle.tcap_model.specs.Entries.{item_of};
 ghost use Rattle.tcap_refute.specs.Kind.{refuted};
 ghost use Rattle.tcap_refute.specs.Unsendable.{IsBadByKind};
 
-use crate::judging::Judged;
+use crate::judging::EntryResult;
 use crate::kind::Refutation;
 use crate::notes::Notes;
 use std::alloc::{AllocError, Global};
@@ -40,14 +40,14 @@ fn first_refuted(
     let mut notes = Notes::new(alloc);
     for (number, entry) in record.entries.iter().enumerate() {
         match notes.take(alloc, table, entry)? {
-            Judged::Passed => {}
-            Judged::Refuted(kind) => {
+            EntryResult::Passed => {}
+            EntryResult::Refuted(kind) => {
                 return Ok(Some(Refutation {
                     entry: number as u64,
                     kind,
                 }));
             }
-            Judged::Ended => return Ok(None),
+            EntryResult::Ended => return Ok(None),
         }
     }
     Ok(None)

@@ -7,8 +7,8 @@ ghost use Rattle.std.specs.Ordering.{int_cmp};
 ghost use Rattle.std.specs.List.{list_any};
 ghost use Rattle.tcap_parts.specs.Meaning.{component_of, components_left};
 ghost use Rattle.tcap_refute.specs.Facts.{FromFact, IdFact, noted_id, shows, shows_from};
-ghost use Rattle.tcap_refute.specs.KeptFacts.{holds, is_elsewhere, tells, tells_from};
-ghost use Rattle.tcap_refute.specs.NotesUpdate.{IsHeaded, IsSameHead, toward_with};
+ghost use Rattle.tcap_refute.specs.KeptFacts.{holds, is_elsewhere, id_fact_noted, from_fact_noted};
+ghost use Rattle.tcap_refute.specs.NotesUpdate.{IsHeaded, IsSameHead, with_destination};
 
 use crate::sent_with_invoke_id::ById;
 use std::alloc::{AllocError, Global};
@@ -19,7 +19,7 @@ use tcap_parts::{ComponentView, Components};
 
 /// The destination IDs of an end's Continues.
 #[derive(Debug, Drop)]
-pub(crate) enum Toward {
+pub(crate) enum Destinations {
     /// There was no Continue.
     Nowhere,
     /// All Continues went to this ID.
@@ -37,9 +37,9 @@ pub struct FromId {
     /// True if it sent a Begin with a dialogue request.
     pub(crate) asked: bool,
     /// True if it sent a Continue.
-    pub(crate) went_on: bool,
+    pub(crate) continued: bool,
     /// The destination IDs of its Continues.
-    pub(crate) toward: Toward,
+    pub(crate) destinations: Destinations,
     /// The notes on each invoke ID.
     pub(crate) ids: BTreeMap<i8, ById>,
 }
@@ -56,25 +56,26 @@ fn noted_id(component: &ComponentView) -> Option<i8>
     }
 }
 
-impl Toward {
+impl Destinations {
     /// Returns whether a Continue went to another ID than this.
     pub(crate) fn is_elsewhere(&self, dtid: TransactionIdView) -> bool
         ensures { result ≡ is_elsewhere dtid.entry.octets.now self.now }
     {
         match self {
-            Toward::Nowhere => false,
-            Toward::One(other) => dtid.octets != other.octets(),
-            Toward::Several => true,
+            Destinations::Nowhere => false,
+            Destinations::One(other) => dtid.octets != other.octets(),
+            Destinations::Several => true,
         }
     }
 
     /// Notes a Continue to this ID.
     fn note(&mut self, dtid: TransactionIdView)
-        ensures { self.new ≡ toward_with dtid.entry.octets.now self.old }
+        ensures { self.new ≡ with_destination dtid.entry.octets.now self.old }
     {
         match self {
-            Toward::Nowhere => *self = Toward::One(dtid.to_transaction_id()),
-            Toward::One(other) if dtid.octets != other.octets() => *self = Toward::Several,
+            Destinations::Nowhere => *self = Destinations::One(dtid.to_transaction_id()),
+            Destinations::One(other) if dtid.octets != other.octets() => *self =
+                Destinations::Several,
             _ => {}
         }
     }
@@ -83,13 +84,13 @@ impl Toward {
 impl FromId {
     /// Creates the notes for an ID from which nothing was sent.
     pub fn new(alloc: Global) -> FromId
-        ensures { (fact : FromFact) → tells_from fact result ≡ false }
+        ensures { (fact : FromFact) → from_fact_noted fact result ≡ false }
     {
         FromId {
             begun: false,
             asked: false,
-            went_on: false,
-            toward: Toward::Nowhere,
+            continued: false,
+            destinations: Destinations::Nowhere,
             ids: BTreeMap::new(alloc),
         }
     }
@@ -106,9 +107,9 @@ impl FromId {
                 }
             }
             Form::Continue => {
-                self.went_on = true;
+                self.continued = true;
                 if let Some(dtid) = message.dtid() {
-                    self.toward.note(dtid);
+                    self.destinations.note(dtid);
                 }
             }
             _ => {}
@@ -125,8 +126,8 @@ impl FromId {
     ) -> Result<(), AllocError>
         requires { noted_id (component_of component) ≡ Some id }
         ensures ids { OnOk result ((other : ℤ) (fact : IdFact)
-            → holds (tells fact) (lookup (is_at (int_cmp other)) self.new.ids.entries)
-            ≡ holds (tells fact) (lookup (is_at (int_cmp other)) self.old.ids.entries)
+            → holds (id_fact_noted fact) (lookup (is_at (int_cmp other)) self.new.ids.entries)
+            ≡ holds (id_fact_noted fact) (lookup (is_at (int_cmp other)) self.old.ids.entries)
             || shows table.now other fact (component_of component.entry)) }
         ensures head { IsSameHead self.old self.new }
     {
@@ -147,8 +148,8 @@ impl FromId {
         component: ComponentView,
     ) -> Result<(), AllocError>
         ensures ids { OnOk result ((id : ℤ) (fact : IdFact)
-            → holds (tells fact) (lookup (is_at (int_cmp id)) self.new.ids.entries)
-            ≡ holds (tells fact) (lookup (is_at (int_cmp id)) self.old.ids.entries)
+            → holds (id_fact_noted fact) (lookup (is_at (int_cmp id)) self.new.ids.entries)
+            ≡ holds (id_fact_noted fact) (lookup (is_at (int_cmp id)) self.old.ids.entries)
             || shows table.now id fact (component_of component.entry)) }
         ensures head { IsSameHead self.old self.new }
     {
@@ -166,8 +167,8 @@ impl FromId {
         components: Components,
     ) -> Result<(), AllocError>
         ensures ids { OnOk result ((id : ℤ) (fact : IdFact)
-            → holds (tells fact) (lookup (is_at (int_cmp id)) self.new.ids.entries)
-            ≡ holds (tells fact) (lookup (is_at (int_cmp id)) self.old.ids.entries)
+            → holds (id_fact_noted fact) (lookup (is_at (int_cmp id)) self.new.ids.entries)
+            ≡ holds (id_fact_noted fact) (lookup (is_at (int_cmp id)) self.old.ids.entries)
             || list_any (shows table.now id fact) (components_left components.entry)) }
         ensures head { IsSameHead self.old self.new }
     {
@@ -188,8 +189,8 @@ impl FromId {
         table: &Table,
         message: &M,
     ) -> Result<(), AllocError>
-        ensures { OnOk result ((fact : FromFact) → tells_from fact self.new
-            ≡ tells_from fact self.old || shows_from table.now fact (M.meaning message.now)) }
+        ensures { OnOk result ((fact : FromFact) → from_fact_noted fact self.new
+            ≡ from_fact_noted fact self.old || shows_from table.now fact (M.meaning message.now)) }
     {
         self.note_head(message);
         self.note_components(alloc, table, message.components())

@@ -4,7 +4,7 @@ ghost use Rattle.std.specs.Prelude.{◌≡◌, ◌||◌, ℤ, false, OnOk, Some}
 ghost use Rattle.tcap_parts.specs.Meaning.{code_of, component_of};
 ghost use Rattle.tcap_end.specs.Class.{of_class, reports};
 ghost use Rattle.tcap_refute.specs.Facts.{IdFact, noted_id, shows};
-ghost use Rattle.tcap_refute.specs.KeptFacts.{tells};
+ghost use Rattle.tcap_refute.specs.KeptFacts.{id_fact_noted};
 ghost use Rattle.tcap_refute.specs.NotesUpdate.{IsInvoked};
 
 use crate::codes::Codes;
@@ -42,7 +42,7 @@ fn class_reports(class: Option<u8>, is_result: bool) -> bool
 impl ById {
     /// Creates the notes for an ID with which nothing was sent.
     pub(crate) fn new() -> ById
-        ensures { (fact : IdFact) → tells fact result ≡ false }
+        ensures { (fact : IdFact) → id_fact_noted fact result ≡ false }
     {
         ById {
             invoked: false,
@@ -83,8 +83,8 @@ impl ById {
         component: ComponentView,
     ) -> Result<(), AllocError>
         ensures { (id : ℤ) → noted_id (component_of component.entry) ≡ Some id
-            → OnOk result ((fact : IdFact) → tells fact self.new
-            ≡ tells fact self.old || shows table.now id fact (component_of component.entry)) }
+            → OnOk result ((fact : IdFact) → id_fact_noted fact self.new
+            ≡ id_fact_noted fact self.old || shows table.now id fact (component_of component.entry)) }
     {
         match component {
             ComponentView::Invoke { code, .. } => self.note_invoke(alloc, table, code)?,

@@ -5,7 +5,7 @@ use tcap_end::reports;
 use tcap_msg::{Kind as Form, Message, MessageParts};
 use tcap_parts::ComponentView;
 use tcap_record::{Body, End, Entry};
-use tcap_traces::Judged;
+use tcap_traces::JudgedDialogue;
 
 /// The most answers that are listed.
 const MOST: usize = 8;
@@ -73,7 +73,7 @@ impl Answers {
 
 /// Returns the ID of an Invoke whose operation is of class 1. Such an operation reports both success and failure (Q.771
 /// 3.1), so an answer has to come.
-fn asking(judged: &Judged, component: ComponentView) -> Option<i8> {
+fn asking(judged: &JudgedDialogue, component: ComponentView) -> Option<i8> {
     let ComponentView::Invoke { id, code, .. } = component else {
         return None;
     };
@@ -87,7 +87,7 @@ fn asking(judged: &Judged, component: ComponentView) -> Option<i8> {
 /// entry.
 fn waits_of(
     alloc: Global,
-    judged: &Judged,
+    judged: &JudgedDialogue,
     of: End,
     entry: usize,
     message: &Message,
@@ -115,7 +115,7 @@ fn waits_of(
 }
 
 /// Returns the answers that both ends owe, the last first.
-fn all_waits(alloc: Global, judged: &Judged) -> Result<Vec<Wait>, AllocError> {
+fn all_waits(alloc: Global, judged: &JudgedDialogue) -> Result<Vec<Wait>, AllocError> {
     let mut waits = Vec::new(alloc);
     let mut by_a = Answers::new(alloc);
     let mut by_b = Answers::new(alloc);
@@ -170,7 +170,7 @@ fn push_line(text: &mut String, wait: Option<Wait>) -> Result<(), AllocError> {
 pub(crate) fn push_waiting(
     alloc: Global,
     text: &mut String,
-    judged: &Judged,
+    judged: &JudgedDialogue,
 ) -> Result<(), AllocError> {
     let waits = all_waits(alloc, judged)?;
     for wait in waits.iter().rev().take(MOST) {
@@ -191,7 +191,7 @@ pub(crate) fn push_waiting(
 pub(crate) fn push_first_wait(
     alloc: Global,
     text: &mut String,
-    judged: &Judged,
+    judged: &JudgedDialogue,
 ) -> Result<(), AllocError> {
     let waits = all_waits(alloc, judged)?;
     push_wait(text, waits.last().copied())

@@ -5,11 +5,11 @@ ghost use Rattle.tcap_traces.specs.declared.verdict.Verdict.TheVariants as verdi
 ghost use Rattle.tcap_traces.specs.Verdict.{trace_verdict};
 ghost use Rattle.tcap_report.specs.Counts.{HasJudged, no_counts, with_read, with_verdict};
 
+use crate::doubt_words::push_hint;
 use crate::fault::{FormFault, Stop};
-use crate::sinks::{Lines, Sinks, Told, write_text};
+use crate::sinks::{Lines, Sinks, TraceSummary, write_text};
 use crate::sum::{Sum, push_counts};
-use crate::trace::{Asked, Trace, Watch};
-use crate::words::push_hint;
+use crate::trace::{Trace, TraceOptions, Watch};
 use std::alloc::{AllocError, Global};
 use tcap_ber::Write;
 use tcap_traces::{Verdict, trace_verdict};
@@ -84,8 +84,8 @@ impl Trace<'_> {
         self.push_line(&mut line, verdict, &why)?;
         push_hint(&mut line, hint)?;
         write_text(sinks.text, &line)?;
-        let told = Told {
-            name: self.asked.name,
+        let returned = TraceSummary {
+            name: self.options.name,
             verdict,
             messages: self.messages,
             dialogues: self.dialogues,
@@ -94,7 +94,7 @@ impl Trace<'_> {
             line: line_in(&fault),
             hint,
         };
-        sinks.tell_trace(self.alloc, told)?;
+        sinks.report_trace(self.alloc, returned)?;
         sinks.flush()?;
         *sinks.sum = self.so_far(sinks.sum);
         sinks.sum.traces.add(verdict);
@@ -120,7 +120,7 @@ impl Trace<'_> {
 
     /// Appends the line of the trace: its name, its verdict, `why` and its counts.
     fn push_line(&self, text: &mut String, verdict: Verdict, why: &str) -> Result<(), AllocError> {
-        text.push_str(self.asked.name)?;
+        text.push_str(self.options.name)?;
         text.push_str(": ")?;
         text.push_str(verdict.word())?;
         if !why.is_empty() {
@@ -136,9 +136,9 @@ impl Trace<'_> {
 ///
 /// # Errors
 /// `Stop::Memory` if memory runs out, `Stop::Write` if a sink fails.
-pub fn tell_unread<W: Write, J: Lines, P: Watch>(
+pub fn report_unread<W: Write, J: Lines, P: Watch>(
     alloc: Global,
-    asked: Asked,
+    options: TraceOptions,
     why: &str,
     sinks: &mut Sinks<W, J, P>,
 ) -> Result<Verdict, Stop>
@@ -149,5 +149,5 @@ pub fn tell_unread<W: Write, J: Lines, P: Watch>(
 {
     let mut text = String::new(alloc);
     text.push_str(why)?;
-    Trace::new(alloc, asked).end(Some(FormFault { line: None, text }), None, sinks)
+    Trace::new(alloc, options).end(Some(FormFault { line: None, text }), None, sinks)
 }

@@ -11,7 +11,7 @@ use tcap_msg::{Kind as Form, Message, MessageParts};
 use tcap_parts::{CodeView, ComponentView, DialogueView};
 use tcap_record::{Body, Entry, Record, push_hex};
 use tcap_refute::{Kind, Refutation};
-use tcap_traces::Judged;
+use tcap_traces::JudgedDialogue;
 
 /// The most invocations of an ID that are listed.
 const MOST: usize = 8;
@@ -212,7 +212,7 @@ fn component_at(message: &Message, number: Option<u64>) -> Option<ComponentView<
 /// Appends which fault of its kind this is, if there is more to say than the evidence.
 pub(crate) fn push_which(
     text: &mut String,
-    judged: &Judged,
+    judged: &JudgedDialogue,
     table: &NamedTable,
     at: Refutation,
     found: &Evidence,

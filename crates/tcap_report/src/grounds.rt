@@ -6,7 +6,7 @@ use std::alloc::{AllocError, Global};
 use std::collections::BTreeSet;
 use tcap_evidence::{Evidence, find_evidence};
 use tcap_record::End;
-use tcap_traces::{Judged, Said};
+use tcap_traces::{EndResult, JudgedDialogue};
 
 /// The most entries of a ground, and the most invocations, that are named.
 const MOST: usize = 8;
@@ -23,7 +23,7 @@ pub(crate) struct Grounds {
 /// Finds the evidence for the fault of an end, if the end is asked and at fault.
 fn evidence_of(
     alloc: Global,
-    judged: &Judged,
+    judged: &JudgedDialogue,
     of: Option<End>,
     end: End,
 ) -> Result<Option<Evidence>, AllocError> {
@@ -31,7 +31,7 @@ fn evidence_of(
         return Ok(None);
     };
     match ends.of(end) {
-        Said::Fail(at) | Said::Doubtful(at, _) if is_asked(of, end) => {
+        EndResult::Fail(at) | EndResult::Doubtful(at, _) if is_asked(of, end) => {
             match find_evidence(alloc, &judged.record, table.table(), end, at, true) {
                 Ok(found) => Ok(Some(found)),
                 Err(_) => Err(AllocError),
@@ -61,7 +61,7 @@ impl Grounds {
     /// Finds the evidence for both ends of a dialogue. `AllocError` if memory runs out.
     pub(crate) fn of(
         alloc: Global,
-        judged: &Judged,
+        judged: &JudgedDialogue,
         of: Option<End>,
     ) -> Result<Grounds, AllocError> {
         Ok(Grounds {
@@ -87,7 +87,7 @@ impl Grounds {
     pub(crate) fn named(
         &self,
         alloc: Global,
-        judged: &Judged,
+        judged: &JudgedDialogue,
     ) -> Result<BTreeSet<u64>, AllocError> {
         let mut named = BTreeSet::new(alloc);
         add_shown(&mut named, &self.a)?;
@@ -104,9 +104,9 @@ impl Grounds {
 }
 
 /// Returns the entry that the result for an end is about.
-fn named_by(said: Said) -> Option<u64> {
+fn named_by(said: EndResult) -> Option<u64> {
     match said {
-        Said::Behind(number) => Some(number),
+        EndResult::AfterBadEntry(number) => Some(number),
         _ => blamed_by(said),
     }
 }

@@ -3,14 +3,14 @@
 //! Each function returns `AllocError` if memory runs out.
 
 use crate::awaited_answers::push_first_wait;
+use crate::doubt_words::{line_of, push_doubt, push_said};
 use crate::order::{in_order, is_asked};
 use crate::text::no_table_words;
-use crate::words::{line_of, push_doubt, push_said};
 use std::alloc::{AllocError, Global};
 use tcap_evidence::push_sentence;
 use tcap_record::End;
 use tcap_refute::Refutation;
-use tcap_traces::{Case, Judged, Said};
+use tcap_traces::{Case, EndResult, JudgedDialogue};
 
 /// Appends the line number of an entry, or the entry's number if the trace has no lines.
 fn push_line(text: &mut String, case: &Case, entry: u64) -> Result<(), AllocError> {
@@ -35,25 +35,25 @@ fn push_end(
     alloc: Global,
     text: &mut String,
     case: &Case,
-    judged: &Judged,
+    judged: &JudgedDialogue,
     end: End,
-    said: Said,
+    said: EndResult,
 ) -> Result<(), AllocError> {
     text.push_str(end.letter())?;
     text.push_str(": ")?;
     match said {
-        Said::Fail(at) => push_blame(text, case, end, at),
-        Said::Doubtful(at, doubt) => {
+        EndResult::Fail(at) => push_blame(text, case, end, at),
+        EndResult::Doubtful(at, doubt) => {
             push_blame(text, case, end, at)?;
             text.push_str("; inconclusive: ")?;
             push_doubt(alloc, text, case, doubt)
         }
-        Said::Behind(entry) => {
+        EndResult::AfterBadEntry(entry) => {
             push_line(text, case, entry)?;
             text.push_str("which ")?;
             push_said(alloc, text, case, said)
         }
-        Said::Open => {
+        EndResult::Open => {
             push_said(alloc, text, case, said)?;
             text.push_str("; ")?;
             push_first_wait(alloc, text, judged)
@@ -67,7 +67,7 @@ pub(crate) fn push_headline(
     alloc: Global,
     text: &mut String,
     case: &Case,
-    judged: &Judged,
+    judged: &JudgedDialogue,
     of: Option<End>,
 ) -> Result<(), AllocError> {
     let Some(ends) = judged.ends else {

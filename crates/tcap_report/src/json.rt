@@ -3,21 +3,21 @@
 //! Each function returns `AllocError` if memory runs out.
 
 use crate::awaited_answers::push_waiting;
+use crate::doubt_words::{comment_of, ids_of, line_of, push_doubt};
 use crate::fields::{push_some, push_sums, push_verdicts};
 use crate::grounds::Grounds;
 use crate::messages::push_messages;
 use crate::order::{is_asked, last_open};
 use crate::reason::push_reason;
-use crate::sinks::Told;
+use crate::sinks::TraceSummary;
 use crate::sum::Sum;
 use crate::text::{push_behind, push_undecided};
-use crate::words::{comment_of, ids_of, line_of, push_doubt};
 use std::alloc::{AllocError, Global};
-use tcap_evidence::{Evidence, push_what};
+use tcap_evidence::{Evidence, push_fact};
 use tcap_page::{push_flag, push_named, push_numbers, push_octets, push_text};
 use tcap_record::{End, push_hex};
 use tcap_refute::Refutation;
-use tcap_traces::{Behind, Case, Judged, Said, Verdict, sent_by};
+use tcap_traces::{Case, EndResult, JudgedDialogue, NextItem, Verdict, sent_by};
 
 /// Appends the IDs of an end.
 fn push_ids(json: &mut String, case: &Case, end: End) -> Result<(), AllocError> {
@@ -42,7 +42,7 @@ fn push_entries(json: &mut String, case: &Case) -> Result<(), AllocError> {
         write!(json, "{number}")?;
         first = false;
     }
-    if let Behind::Mark { number, .. } = case.behind {
+    if let NextItem::Mark { number, .. } = case.behind {
         json.push_str(if first { "" } else { "," })?;
         write!(json, "{number}")?;
     }
@@ -54,7 +54,7 @@ fn push_entries(json: &mut String, case: &Case) -> Result<(), AllocError> {
         write!(json, "{line}")?;
         first = false;
     }
-    if let Behind::Mark { line, .. } = case.behind {
+    if let NextItem::Mark { line, .. } = case.behind {
         json.push_str(if first { "" } else { "," })?;
         write!(json, "{line}")?;
     }
@@ -66,7 +66,7 @@ fn push_blamed(
     alloc: Global,
     json: &mut String,
     case: &Case,
-    judged: &Judged,
+    judged: &JudgedDialogue,
     end: End,
     at: Refutation,
     grounds: &Grounds,
@@ -103,10 +103,10 @@ fn push_evidence(
     json.push_str("\"shows\":[")?;
     let mut first = true;
     for ground in &found.grounds {
-        let mut what = String::new(alloc);
-        push_what(&mut what, end, ground.what, found.id)?;
+        let mut fact = String::new(alloc);
+        push_fact(&mut fact, end, ground.fact, found.id)?;
         json.push_str(if first { "{\"what\":" } else { ",{\"what\":" })?;
-        push_text(json, &what)?;
+        push_text(json, &fact)?;
         json.push_str(",\"entries\":")?;
         push_numbers(json, &ground.entries)?;
         json.push_str("}")?;
@@ -136,21 +136,21 @@ fn push_end(
     alloc: Global,
     json: &mut String,
     case: &Case,
-    judged: &Judged,
+    judged: &JudgedDialogue,
     end: End,
-    said: Said,
+    said: EndResult,
     grounds: &Grounds,
 ) -> Result<(), AllocError> {
     json.push_str("{\"verdict\":\"")?;
     json.push_str(said.verdict().word())?;
     json.push_str("\"")?;
     match said {
-        Said::Pass(unheard) => {
+        EndResult::Pass(unheard) => {
             let sent = sent_by(&judged.record, end);
             write!(json, ",\"unheard\":{unheard},\"sent\":{sent}")?;
         }
-        Said::Fail(at) => push_blamed(alloc, json, case, judged, end, at, grounds)?,
-        Said::Doubtful(at, doubt) => {
+        EndResult::Fail(at) => push_blamed(alloc, json, case, judged, end, at, grounds)?,
+        EndResult::Doubtful(at, doubt) => {
             push_blamed(alloc, json, case, judged, end, at, grounds)?;
             let mut text = String::new(alloc);
             push_doubt(alloc, &mut text, case, doubt)?;
@@ -166,7 +166,7 @@ fn push_end(
 }
 
 /// Appends the application context name and the name of the table, if there are any.
-fn push_table(json: &mut String, judged: &Judged) -> Result<(), AllocError> {
+fn push_table(json: &mut String, judged: &JudgedDialogue) -> Result<(), AllocError> {
     if let Some(context) = &judged.context {
         push_octets(json, "context", context)?;
     }
@@ -182,7 +182,7 @@ fn push_ends(
     alloc: Global,
     json: &mut String,
     case: &Case,
-    judged: &Judged,
+    judged: &JudgedDialogue,
     of: Option<End>,
     grounds: &Grounds,
 ) -> Result<(), AllocError> {
@@ -213,7 +213,7 @@ pub(crate) fn push_case(
     json: &mut String,
     trace: &str,
     case: &Case,
-    judged: &Judged,
+    judged: &JudgedDialogue,
     of: Option<End>,
     grounds: &Grounds,
 ) -> Result<(), AllocError> {
@@ -240,18 +240,23 @@ pub(crate) fn push_case(
 }
 
 /// Appends the object of a trace.
-pub(crate) fn push_trace(json: &mut String, told: Told) -> Result<(), AllocError> {
+pub(crate) fn push_trace(json: &mut String, returned: TraceSummary) -> Result<(), AllocError> {
     json.push_str("{\"trace\":")?;
-    push_text(json, told.name)?;
-    push_named(json, "verdict", told.verdict.word())?;
-    push_sums(json, told.messages, &told.dialogues, told.unheard)?;
-    if !told.why.is_empty() {
-        push_named(json, "text", told.why)?;
+    push_text(json, returned.name)?;
+    push_named(json, "verdict", returned.verdict.word())?;
+    push_sums(
+        json,
+        returned.messages,
+        &returned.dialogues,
+        returned.unheard,
+    )?;
+    if !returned.why.is_empty() {
+        push_named(json, "text", returned.why)?;
     }
-    if let Some(line) = told.line {
+    if let Some(line) = returned.line {
         write!(json, ",\"line\":{line}")?;
     }
-    if let Some(hint) = told.hint {
+    if let Some(hint) = returned.hint {
         push_named(json, "hint", hint)?;
     }
     json.push_str("}\n")

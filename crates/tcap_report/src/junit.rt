@@ -1,11 +1,11 @@
 //! Reports as JUnit XML, with a testsuite for each trace.
 
+use crate::doubt_words::push_hint;
 use crate::headline::push_headline;
 use crate::sum::{Counts, push_count};
-use crate::words::push_hint;
 use std::alloc::{AllocError, Global};
 use tcap_record::End;
-use tcap_traces::{Case, Judged, Verdict};
+use tcap_traces::{Case, JudgedDialogue, Verdict};
 
 /// The number of testcases, and how many of them fail or have an error.
 #[derive(Clone, Copy, Debug)]
@@ -151,7 +151,7 @@ impl Junit {
         &mut self,
         trace: &str,
         case: &Case,
-        judged: &Judged,
+        judged: &JudgedDialogue,
         of: Option<End>,
         text: &str,
     ) -> Result<(), AllocError> {

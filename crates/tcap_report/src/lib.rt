@@ -3,6 +3,7 @@
 #![tactic(auto)]
 
 mod awaited_answers;
+mod doubt_words;
 mod ending;
 mod fault;
 mod fault_details;
@@ -14,7 +15,6 @@ mod junit;
 mod listed_entries;
 mod messages;
 mod no_message;
-mod noting;
 mod order;
 mod page;
 mod reason;
@@ -22,15 +22,15 @@ mod sinks;
 mod sum;
 mod text;
 mod trace;
+mod trace_notes;
 mod trace_reader;
 mod unheard;
 mod used_again;
-mod words;
 
-pub use ending::tell_unread;
+pub use ending::report_unread;
 pub use fault::Stop;
 pub use junit::{Junit, NOT_ENDED};
 pub use page::Page;
 pub use sinks::{Lines, Sinks};
 pub use sum::Sum;
-pub use trace::{Asked, Watch, run_trace};
+pub use trace::{TraceOptions, Watch, run_trace};

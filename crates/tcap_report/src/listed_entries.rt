@@ -2,18 +2,18 @@
 
 ghost use Rattle.std.specs.Prelude.{◌<◌, ◌≤◌, ◌+◌, ◌⊎◌, ◌↔◌, IsTrue};
 
-use tcap_traces::{Judged, Said};
+use tcap_traces::{EndResult, JudgedDialogue};
 
 /// Returns the number of the entry at which an end is at fault.
-pub(crate) fn blamed_by(said: Said) -> Option<u64> {
+pub(crate) fn blamed_by(said: EndResult) -> Option<u64> {
     match said {
-        Said::Fail(at) | Said::Doubtful(at, _) => Some(at.entry),
+        EndResult::Fail(at) | EndResult::Doubtful(at, _) => Some(at.entry),
         _ => None,
     }
 }
 
 /// Returns the number of the last entry listed: the last one at fault, or the last of all if no end is at fault.
-pub(crate) fn last_listed(judged: &Judged) -> usize {
+pub(crate) fn last_listed(judged: &JudgedDialogue) -> usize {
     let last = judged.record.entries.len().saturating_sub(1);
     let Some(ends) = judged.ends else {
         return last;

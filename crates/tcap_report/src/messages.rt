@@ -1,13 +1,13 @@
 //! The messages of a dialogue, as JSON objects.
 
+use crate::doubt_words::{comment_of, line_of};
 use crate::grounds::Grounds;
 use crate::listed_entries::{is_near, last_listed};
 use crate::no_message::push_no_message;
-use crate::words::{comment_of, line_of};
 use std::alloc::{AllocError, Global};
 use tcap_page::{push_entry, push_named, push_octets};
 use tcap_record::{Body, Entry};
-use tcap_traces::{Case, Judged};
+use tcap_traces::{Case, JudgedDialogue};
 
 /// The number of entries listed at the beginning of a dialogue, and (`BEFORE`) before the last one at fault.
 const FIRST: usize = 16;
@@ -24,7 +24,7 @@ fn push_message(
     alloc: Global,
     json: &mut String,
     case: &Case,
-    judged: &Judged,
+    judged: &JudgedDialogue,
     number: usize,
     entry: &Entry,
 ) -> Result<(), AllocError> {
@@ -57,7 +57,7 @@ pub(crate) fn push_messages(
     alloc: Global,
     json: &mut String,
     case: &Case,
-    judged: &Judged,
+    judged: &JudgedDialogue,
     grounds: &Grounds,
 ) -> Result<(), AllocError> {
     let named = grounds.named(alloc, judged)?;

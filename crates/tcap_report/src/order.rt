@@ -2,12 +2,12 @@
 
 use crate::listed_entries::blamed_by;
 use tcap_record::End;
-use tcap_traces::{Ends, Said};
+use tcap_traces::{EndResult, Ends};
 
 /// Returns whether the verdict on an end is asked.
 pub(crate) fn is_asked(of: Option<End>, end: End) -> bool {
     match of {
-        Some(asked) => asked == end,
+        Some(options) => options == end,
         None => true,
     }
 }
@@ -23,9 +23,9 @@ pub(crate) fn later_end(ends: Ends, of: Option<End>) -> Option<End> {
 
 /// Returns the last end that is asked and open. If an end is open, at most one is blamed, so B comes after A.
 pub(crate) fn last_open(ends: Ends, of: Option<End>) -> Option<End> {
-    if is_asked(of, End::B) && ends.b == Said::Open {
+    if is_asked(of, End::B) && ends.b == EndResult::Open {
         Some(End::B)
-    } else if is_asked(of, End::A) && ends.a == Said::Open {
+    } else if is_asked(of, End::A) && ends.a == EndResult::Open {
         Some(End::A)
     } else {
         None

@@ -9,7 +9,7 @@ use std::alloc::{AllocError, Global};
 use tcap_evidence::push_fault;
 use tcap_record::End;
 use tcap_refute::{Kind, Refutation};
-use tcap_traces::{Case, Judged};
+use tcap_traces::{Case, JudgedDialogue};
 
 /// Returns the first line of a text.
 fn first_line(text: &str) -> &str {
@@ -34,7 +34,7 @@ pub(crate) fn push_reason(
     alloc: Global,
     text: &mut String,
     case: &Case,
-    judged: &Judged,
+    judged: &JudgedDialogue,
     end: End,
     at: Refutation,
     grounds: &Grounds,

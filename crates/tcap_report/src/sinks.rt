@@ -12,7 +12,7 @@ use std::alloc::Global;
 use std::io;
 use tcap_ber::{Counted, Failed, Write};
 use tcap_record::End;
-use tcap_traces::{Case, Judged, Verdict};
+use tcap_traces::{Case, JudgedDialogue, Verdict};
 
 /// A writer of lines that may keep some of them back for a while.
 pub trait Lines: Write {
@@ -48,7 +48,7 @@ pub struct Sinks<'a, W, J, P> {
 
 /// The report on a trace.
 #[derive(Clone, Copy)]
-pub(crate) struct Told<'a> {
+pub(crate) struct TraceSummary<'a> {
     pub(crate) name: &'a str,
     pub(crate) verdict: Verdict,
     pub(crate) messages: u64,
@@ -69,27 +69,27 @@ pub(crate) fn write_text<W: Write>(writer: &mut W, text: &str) -> Result<(), Sto
 
 impl<W: Write, J: Lines, P> Sinks<'_, W, J, P> {
     /// Reports the verdict on a dialogue. The text, the page and JUnit XML have only dialogues that do not pass.
-    pub(crate) fn tell_case(
+    pub(crate) fn report_case(
         &mut self,
         alloc: Global,
         name: &str,
         case: &Case,
-        judged: &Judged,
+        judged: &JudgedDialogue,
         of: Option<End>,
     ) -> Result<(), Stop>
         ensures { self.new.sum ≡ self.old.sum }
     {
         let grounds = Grounds::of(alloc, judged, of)?;
-        self.tell_found(alloc, name, case, judged, of, &grounds)
+        self.report_found(alloc, name, case, judged, of, &grounds)
     }
 
     /// Reports the verdict on a dialogue, with the evidence that was found for it.
-    fn tell_found(
+    fn report_found(
         &mut self,
         alloc: Global,
         name: &str,
         case: &Case,
-        judged: &Judged,
+        judged: &JudgedDialogue,
         of: Option<End>,
         grounds: &Grounds,
     ) -> Result<(), Stop>
@@ -103,7 +103,7 @@ impl<W: Write, J: Lines, P> Sinks<'_, W, J, P> {
         if shown || self.json.is_some() {
             let mut line = String::new(alloc);
             json::push_case(alloc, &mut line, name, case, judged, of, grounds)?;
-            self.tell_object(&line, shown)?;
+            self.report_object(&line, shown)?;
         }
         if passes {
             return Ok(());
@@ -117,7 +117,7 @@ impl<W: Write, J: Lines, P> Sinks<'_, W, J, P> {
     }
 
     /// Writes the line of an object to the lines of JSON and, if `shown` is set, to the page.
-    fn tell_object(&mut self, line: &str, shown: bool) -> Result<(), Stop>
+    fn report_object(&mut self, line: &str, shown: bool) -> Result<(), Stop>
         ensures { self.new.sum ≡ self.old.sum }
     {
         if let Some(writer) = &mut self.json {
@@ -140,19 +140,19 @@ impl<W: Write, J: Lines, P> Sinks<'_, W, J, P> {
     }
 
     /// Reports the verdict on a trace as JSON, on the page, and as JUnit XML.
-    pub(crate) fn tell_trace(&mut self, alloc: Global, told: Told) -> Result<(), Stop>
+    pub(crate) fn report_trace(&mut self, alloc: Global, returned: TraceSummary) -> Result<(), Stop>
         ensures { self.new.sum ≡ self.old.sum }
     {
         if self.json.is_some() || self.page.is_some() {
             let mut line = String::new(alloc);
-            json::push_trace(&mut line, told)?;
-            self.tell_object(&line, true)?;
+            json::push_trace(&mut line, returned)?;
+            self.report_object(&line, true)?;
         }
         if let Some(junit) = &mut self.junit {
-            if !told.why.is_empty() {
-                junit.add_fault(told.name, told.why, told.hint)?;
+            if !returned.why.is_empty() {
+                junit.add_fault(returned.name, returned.why, returned.hint)?;
             }
-            junit.end_trace(told.name, &told.dialogues, told.unheard)?;
+            junit.end_trace(returned.name, &returned.dialogues, returned.unheard)?;
         }
         Ok(())
     }

@@ -3,19 +3,19 @@
 //! Each function returns `AllocError` if memory runs out.
 
 use crate::awaited_answers::push_waiting;
+use crate::doubt_words::{comment_of, ids_of, line_of, push_doubt, push_ids, push_said};
 use crate::grounds::Grounds;
 use crate::listed_entries::{is_near, last_listed};
 use crate::no_message::push_no_message;
 use crate::order::{in_order, is_asked, last_open};
 use crate::reason::push_reason;
-use crate::words::{comment_of, ids_of, line_of, push_doubt, push_ids, push_said};
 use std::alloc::{AllocError, Global};
 use tcap_books::NamedTable;
 use tcap_msg::MessageParts;
 use tcap_page::push_component;
 use tcap_record::{Body, End, Entry, push_head, push_hex};
 use tcap_refute::Refutation;
-use tcap_traces::{Case, Judged, Said, Verdict};
+use tcap_traces::{Case, EndResult, JudgedDialogue, Verdict};
 
 /// The number of entries listed at the beginning of a dialogue, and (`BEFORE`) before the last one at fault.
 const FIRST: usize = 8;
@@ -35,7 +35,7 @@ fn push_all_ids(text: &mut String, case: &Case) -> Result<(), AllocError> {
 }
 
 /// Appends the application context name and the name of the table, if there are any.
-fn push_table(text: &mut String, judged: &Judged) -> Result<(), AllocError> {
+fn push_table(text: &mut String, judged: &JudgedDialogue) -> Result<(), AllocError> {
     if let Some(context) = &judged.context {
         text.push_str(", context ")?;
         push_hex(text, context)?;
@@ -52,7 +52,7 @@ fn push_dialogue(
     text: &mut String,
     trace: &str,
     case: &Case,
-    judged: &Judged,
+    judged: &JudgedDialogue,
 ) -> Result<(), AllocError> {
     let number = case.number();
     text.push_str(trace)?;
@@ -116,9 +116,9 @@ pub(crate) fn push_undecided(
     alloc: Global,
     text: &mut String,
     case: &Case,
-    said: Said,
+    said: EndResult,
 ) -> Result<(), AllocError> {
-    if let Said::Behind(entry) = said {
+    if let EndResult::AfterBadEntry(entry) = said {
         write!(text, "entry {entry} of the dialogue")?;
         push_place(alloc, text, case, entry)?;
         text.push_str(" ")?;
@@ -132,19 +132,19 @@ fn push_end(
     alloc: Global,
     text: &mut String,
     case: &Case,
-    judged: &Judged,
+    judged: &JudgedDialogue,
     end: End,
-    said: Said,
+    said: EndResult,
     grounds: &Grounds,
 ) -> Result<(), AllocError> {
     let later = grounds.later == Some(end);
     match said {
-        Said::Pass(_) => Ok(()),
-        Said::Fail(at) => {
+        EndResult::Pass(_) => Ok(()),
+        EndResult::Fail(at) => {
             push_blamed(alloc, text, case, end, said.verdict(), at, later)?;
             push_reason(alloc, text, case, judged, end, at, grounds)
         }
-        Said::Doubtful(at, doubt) => {
+        EndResult::Doubtful(at, doubt) => {
             push_blamed(alloc, text, case, end, said.verdict(), at, later)?;
             text.push_str("  that is inconclusive: ")?;
             push_doubt(alloc, text, case, doubt)?;
@@ -184,7 +184,7 @@ fn push_entry(
     alloc: Global,
     text: &mut String,
     case: &Case,
-    judged: &Judged,
+    judged: &JudgedDialogue,
     number: usize,
     entry: &Entry,
 ) -> Result<(), AllocError> {
@@ -204,7 +204,7 @@ fn push_entries(
     alloc: Global,
     text: &mut String,
     case: &Case,
-    judged: &Judged,
+    judged: &JudgedDialogue,
 ) -> Result<(), AllocError> {
     let last = last_listed(judged);
     text.push_str("  the entries of the dialogue:\n")?;
@@ -219,7 +219,7 @@ fn push_entries(
 }
 
 /// Returns the words for a dialogue without a table.
-pub(crate) fn no_table_words(judged: &Judged) -> &'static str {
+pub(crate) fn no_table_words(judged: &JudgedDialogue) -> &'static str {
     if judged.context.is_some() {
         "no table is for this application context name"
     } else {
@@ -228,7 +228,7 @@ pub(crate) fn no_table_words(judged: &Judged) -> &'static str {
 }
 
 /// Appends the line of a dialogue without a table.
-fn push_no_table(text: &mut String, judged: &Judged) -> Result<(), AllocError> {
+fn push_no_table(text: &mut String, judged: &JudgedDialogue) -> Result<(), AllocError> {
     text.push_str("  ")?;
     text.push_str(no_table_words(judged))?;
     text.push_str("\n")
@@ -240,7 +240,7 @@ pub(crate) fn push_case(
     text: &mut String,
     trace: &str,
     case: &Case,
-    judged: &Judged,
+    judged: &JudgedDialogue,
     of: Option<End>,
     grounds: &Grounds,
 ) -> Result<(), AllocError> {
@@ -255,7 +255,7 @@ pub(crate) fn push_behind(
     alloc: Global,
     text: &mut String,
     case: &Case,
-    judged: &Judged,
+    judged: &JudgedDialogue,
     of: Option<End>,
     grounds: &Grounds,
 ) -> Result<(), AllocError> {

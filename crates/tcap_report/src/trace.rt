@@ -3,11 +3,11 @@
 ghost use Rattle.std.specs.Io.KnownBytes.{IsAtEnd};
 ghost use Rattle.std.specs.Prelude.{◌≡◌, ◌⊎◌, ◌||◌, ◌≤◌, [], ◌∷◌, List, Some, cond, false, not, is_some, length, IfOk, OnOk};
 ghost use Rattle.tcap_dialogues.specs.Course.{Heading, courses_so_far};
-ghost use Rattle.tcap_dialogues.specs.CutDialogues.{AreGathered};
+ghost use Rattle.tcap_dialogues.specs.CutDialogues.{AreCompleteDialogues};
 ghost use Rattle.tcap_dialogues.specs.CutState.{IsCut};
 ghost use Rattle.tcap_dialogues.specs.declared.reuse.Reuse.{Reuse as Reusing};
 ghost use Rattle.tcap_traces.specs.declared.verdict.Verdict.TheVariants as verdicts;
-ghost use Rattle.tcap_report.specs.declared.trace.Asked.{Asked as AskedOf};
+ghost use Rattle.tcap_report.specs.declared.trace.TraceOptions.{TraceOptions as OptionsOf};
 ghost use Rattle.tcap_report.specs.Counts.{HasJudged, more, no_counts, with_one};
 ghost use Rattle.tcap_report.specs.TraceVerdict.{IsJudged};
 ghost use Rattle.tcap_report.specs.Progress.{IsBetween, IsStopped, IsWithin, Judges, Reads, UnlessStopped, is_fault};
@@ -24,13 +24,15 @@ use std::collections::BTreeMap;
 use std::mem;
 use tcap_ber::{Failed, Read, Write};
 use tcap_books::Book;
-use tcap_dialogues::{Cut, Gathered, HeadingView, Reuse};
+use tcap_dialogues::{CompleteDialogue, Cut, HeadingView, Reuse};
 use tcap_record::{End, PIECE_LEN};
-use tcap_traces::{BeforeMarks, Behind, Case, Judged, Piece, TraceEntry, Unread, Verdict, judge};
+use tcap_traces::{
+    BeforeMarks, Case, JudgedDialogue, NextItem, Piece, TraceEntry, Unread, Verdict, judge,
+};
 
 /// The options for a trace.
 #[derive(Clone, Copy, Debug)]
-pub struct Asked<'a> {
+pub struct TraceOptions<'a> {
     /// The name of the trace.
     pub name: &'a str,
     /// The end whose verdicts are asked, or None for both.
@@ -55,7 +57,7 @@ pub trait Watch {
 #[derive(Drop)]
 pub(crate) struct Trace<'a> {
     pub(crate) alloc: Global,
-    pub(crate) asked: Asked<'a>,
+    pub(crate) options: TraceOptions<'a>,
     cut: Cut,
     // The entries of the segment that wait to be judged, by their numbers in the segment.
     pub(crate) held: BTreeMap<u64, TraceEntry>,
@@ -78,14 +80,14 @@ pub(crate) struct Trace<'a> {
 
 impl<'a> Trace<'a> {
     /// Creates the state before the first octet.
-    pub(crate) fn new(alloc: Global, asked: Asked<'a>) -> Trace<'a>
-        ensures between { IsBetween asked.entry result }
+    pub(crate) fn new(alloc: Global, options: TraceOptions<'a>) -> Trace<'a>
+        ensures between { IsBetween options.entry result }
         ensures nothing { (result.readable ≡ 0) × (result.messages ≡ 0) × (result.unheard ≡ 0) × (result.dialogues ≡ no_counts) }
     {
         Trace {
             alloc,
-            asked,
-            cut: Cut::new(alloc, asked.reuse),
+            options,
+            cut: Cut::new(alloc, options.reuse),
             held: BTreeMap::new(alloc),
             count: 0,
             before: 0,
@@ -106,7 +108,7 @@ impl<'a> Trace<'a> {
         entry: TraceEntry,
         sinks: &mut Sinks<W, J, P>,
     ) -> Result<(), Stop>
-        ensures within { (asked : AskedOf) → IsWithin asked self.old → OnOk result (IsWithin asked self.new) }
+        ensures within { (options : OptionsOf) → IsWithin options self.old → OnOk result (IsWithin options self.new) }
         ensures same_sum { sinks.new.sum ≡ sinks.old.sum }
     {
         let mut done = Vec::new(self.alloc);
@@ -118,7 +120,7 @@ impl<'a> Trace<'a> {
             return Err(Stop::Memory);
         }
         self.count = self.count.saturating_add(1);
-        self.judge_all(done, Behind::More, sinks)
+        self.judge_all(done, NextItem::More, sinks)
     }
 
     /// Counts an entry with this heading.
@@ -134,38 +136,38 @@ impl<'a> Trace<'a> {
     }
 
     /// Returns the live dialogues of the segment, which has ended.
-    fn finished(&mut self) -> Result<Vec<Gathered>, AllocError>
+    fn finished(&mut self) -> Result<Vec<CompleteDialogue>, AllocError>
         ensures live { (reuse : Reusing) (headings : List Heading) → IsCut reuse headings self.old.cut
-            → IfOk result (λ given. AreGathered (courses_so_far reuse headings).live given.items) }
-        ensures cut { IsCut self.old.asked.reuse [] self.new.cut }
+            → IfOk result (λ given. AreCompleteDialogues (courses_so_far reuse headings).live given.items) }
+        ensures cut { IsCut self.old.options.reuse [] self.new.cut }
         ensures rest { self.new ≡ record self.old { cut = self.new.cut } }
     {
         let mut given = Vec::new(self.alloc);
-        let cut = mem::replace(&mut self.cut, Cut::new(self.alloc, self.asked.reuse));
+        let cut = mem::replace(&mut self.cut, Cut::new(self.alloc, self.options.reuse));
         cut.finish(&mut given)?;
         Ok(given)
     }
 
     /// Returns what follows a segment that ends: the quiet mark in line `mark`, or the end of the trace.
-    fn ending(&self, mark: Option<u64>) -> Behind
+    fn ending(&self, mark: Option<u64>) -> NextItem
         ensures { is_fault result ≡ false }
     {
         match mark {
-            Some(line) => Behind::Mark {
+            Some(line) => NextItem::Mark {
                 line,
                 number: self.before.saturating_add(self.count),
             },
-            None => Behind::End,
+            None => NextItem::End,
         }
     }
 
     /// Ends the segment, at the quiet mark in line `mark` or with the trace, and judges its live dialogues.
-    fn end_stretch<W: Write, J: Lines, P: Watch>(
+    fn end_segment<W: Write, J: Lines, P: Watch>(
         &mut self,
         mark: Option<u64>,
         sinks: &mut Sinks<W, J, P>,
     ) -> Result<(), Stop>
-        ensures between { (asked : AskedOf) → IsWithin asked self.old → OnOk result (IsBetween asked self.new) }
+        ensures between { (options : OptionsOf) → IsWithin options self.old → OnOk result (IsBetween options self.new) }
         ensures readable { OnOk result (self.new.readable ≡ self.old.readable) }
         ensures same_sum { sinks.new.sum ≡ sinks.old.sum }
     {
@@ -184,11 +186,11 @@ impl<'a> Trace<'a> {
         line: u64,
         sinks: &mut Sinks<W, J, P>,
     ) -> Result<(), Stop>
-        ensures between { (asked : AskedOf) → IsWithin asked self.old → OnOk result (IsBetween asked self.new) }
+        ensures between { (options : OptionsOf) → IsWithin options self.old → OnOk result (IsBetween options self.new) }
         ensures same_sum { sinks.new.sum ≡ sinks.old.sum }
     {
         self.marks.note_sent(&self.cut)?;
-        self.end_stretch(Some(line), sinks)?;
+        self.end_segment(Some(line), sinks)?;
         self.marks.mark()?;
         Ok(())
     }
@@ -199,18 +201,18 @@ impl<'a> Trace<'a> {
         &mut self,
         sinks: &mut Sinks<W, J, P>,
     ) -> Result<(), Stop>
-        ensures stopped { (asked : AskedOf) → IsWithin asked self.old → OnOk result (IsStopped asked self.new) }
+        ensures stopped { (options : OptionsOf) → IsWithin options self.old → OnOk result (IsStopped options self.new) }
         ensures same_sum { sinks.new.sum ≡ sinks.old.sum }
     {
         let given = self.finished()?;
-        self.judge_all(given, Behind::Fault, sinks)
+        self.judge_all(given, NextItem::Fault, sinks)
     }
 
     /// Judges these dialogues, one after another.
     fn judge_all<W: Write, J: Lines, P: Watch>(
         &mut self,
-        given: Vec<Gathered>,
-        behind: Behind,
+        given: Vec<CompleteDialogue>,
+        behind: NextItem,
         sinks: &mut Sinks<W, J, P>,
     ) -> Result<(), Stop>
         ensures judges { OnOk result (Judges (is_fault behind) given.items self.old self.new) }
@@ -224,7 +226,10 @@ impl<'a> Trace<'a> {
     }
 
     /// Takes the entries of a dialogue out of those that wait.
-    pub(crate) fn taken(&mut self, gathered: &Gathered) -> Result<Vec<TraceEntry>, AllocError>
+    pub(crate) fn taken(
+        &mut self,
+        gathered: &CompleteDialogue,
+    ) -> Result<Vec<TraceEntry>, AllocError>
         ensures few { IfOk result (λ entries. length entries.items ≤ length gathered.now.numbers.items) }
         ensures rest { self.new ≡ record self.old { held = self.new.held } }
     {
@@ -240,15 +245,15 @@ impl<'a> Trace<'a> {
     /// Judges a dialogue and reports the verdict.
     fn judge<W: Write, J: Lines, P: Watch>(
         &mut self,
-        gathered: Gathered,
-        behind: Behind,
+        gathered: CompleteDialogue,
+        behind: NextItem,
         sinks: &mut Sinks<W, J, P>,
     ) -> Result<(), Stop>
         ensures judges { OnOk result (Judges (is_fault behind) (gathered ∷ []) self.old self.new) }
         ensures same_sum { sinks.new.sum ≡ sinks.old.sum }
     {
         let case = self.case_of(gathered, behind)?;
-        let judged = judge(self.alloc, &case, self.asked.book)?;
+        let judged = judge(self.alloc, &case, self.options.book)?;
         self.tell(&case, &judged, sinks)
     }
 
@@ -257,31 +262,34 @@ impl<'a> Trace<'a> {
     fn tell<W: Write, J: Lines, P: Watch>(
         &mut self,
         case: &Case,
-        judged: &Judged,
+        judged: &JudgedDialogue,
         sinks: &mut Sinks<W, J, P>,
     ) -> Result<(), Stop>
         ensures counted { OnOk result (self.new.dialogues ≡ cond (not (is_fault case.now.behind) || is_fail judged.now.verdict)
             (with_one judged.now.verdict self.old.dialogues) self.old.dialogues) }
-        ensures asked { self.new.asked ≡ self.old.asked }
+        ensures options { self.new.options ≡ self.old.options }
         ensures cut { self.new.cut ≡ self.old.cut }
         ensures messages { self.new.messages ≡ self.old.messages }
         ensures readable { self.new.readable ≡ self.old.readable }
         ensures same_sum { sinks.new.sum ≡ sinks.old.sum }
     {
-        if !is_told(case, judged) {
+        if !is_reported(case, judged) {
             return Ok(());
         }
         self.marks.note(&case.gathered, case.may_go_on())?;
         self.count(case, judged);
-        sinks.tell_case(self.alloc, self.asked.name, case, judged, self.asked.of)
+        sinks.report_case(self.alloc, self.options.name, case, judged, self.options.of)
     }
 
     /// Counts the verdict on a dialogue.
-    fn count(&mut self, case: &Case, judged: &Judged)
+    fn count(&mut self, case: &Case, judged: &JudgedDialogue)
         ensures { self.new ≡ record self.old { dialogues = with_one judged.now.verdict self.old.dialogues; unheard = self.new.unheard } }
     {
         self.dialogues.add(judged.verdict);
-        if judged.verdict == Verdict::Pass && case.has_ids() && is_unheard(judged, self.asked.of) {
+        if judged.verdict == Verdict::Pass
+            && case.has_ids()
+            && is_unheard(judged, self.options.of)
+        {
             self.unheard = self.unheard.saturating_add(1);
         }
     }
@@ -292,7 +300,8 @@ impl<'a> Trace<'a> {
         octets: &mut TraceReader,
         sinks: &mut Sinks<W, J, P>,
     ) -> Result<(), Halt>
-        ensures within { (asked : AskedOf) → IsWithin asked self.old → UnlessStopped result (IsWithin asked self.new) }
+        ensures within { (options : OptionsOf) → IsWithin options self.old
+            → UnlessStopped result (IsWithin options self.new) }
         ensures nothing { HasNothing octets.old → OnOk result (HasNothing octets.new × (self.new.readable ≡ self.old.readable)) }
         ensures same_sum { sinks.new.sum ≡ sinks.old.sum }
     {
@@ -313,7 +322,7 @@ impl<'a> Trace<'a> {
         piece: Piece,
         sinks: &mut Sinks<W, J, P>,
     ) -> Result<(), Stop>
-        ensures within { (asked : AskedOf) → IsWithin asked self.old → OnOk result (IsWithin asked self.new) }
+        ensures within { (options : OptionsOf) → IsWithin options self.old → OnOk result (IsWithin options self.new) }
         ensures same_sum { sinks.new.sum ≡ sinks.old.sum }
     {
         match piece {
@@ -340,7 +349,7 @@ impl<'a> Trace<'a> {
         octets: &mut TraceReader,
         sinks: &mut Sinks<W, J, P>,
     ) -> Result<(), Halt>
-        ensures reads { (asked : AskedOf) → IsWithin asked self.old → Reads asked result self.new }
+        ensures reads { (options : OptionsOf) → IsWithin options self.old → Reads options result self.new }
         ensures nothing { R.untold reader.old ≡ Some [] → HasNothing octets.old
             → OnOk result (self.new.readable ≡ self.old.readable) }
         ensures all { OnOk result (IsAtEnd (R.untold reader.new) × (R.failures reader.new ≡ R.failures reader.old)) }
@@ -348,16 +357,16 @@ impl<'a> Trace<'a> {
     {
         let mut piece = [0; PIECE_LEN];
         for _ in 0..u64::MAX {
-            let told = match reader.read(&mut piece) {
-                Ok(told) => told,
+            let returned = match reader.read(&mut piece) {
+                Ok(returned) => returned,
                 Err(Failed) => return Err(self.unreadable()?),
             };
-            octets.feed(&piece[..told])?;
+            octets.feed(&piece[..returned])?;
             self.read_on(octets, sinks)?;
             sinks.flush()?;
             sinks.watch.look(&self.so_far(sinks.sum));
-            if told == 0 {
-                return match self.end_stretch(None, sinks) {
+            if returned == 0 {
+                return match self.end_segment(None, sinks) {
                     Ok(()) => Ok(()),
                     Err(stop) => Err(Halt::Stop(stop)),
                 };
@@ -385,12 +394,12 @@ fn broken_off_text(alloc: Global, line: u64, missing: &[u8]) -> Result<String, A
 
 /// Returns whether a judged dialogue is reported: always, unless a fault ends the trace before the dialogue is over and
 /// the dialogue does not fail.
-fn is_told(case: &Case, judged: &Judged) -> bool
+fn is_reported(case: &Case, judged: &JudgedDialogue) -> bool
     ensures { result ≡ not (is_fault case.now.behind) || is_fail judged.now.verdict }
 {
     match (case.behind, judged.verdict) {
-        (Behind::Fault, Verdict::Fail) => true,
-        (Behind::Fault, _) => false,
+        (NextItem::Fault, Verdict::Fail) => true,
+        (NextItem::Fault, _) => false,
         _ => true,
     }
 }
@@ -405,18 +414,18 @@ fn is_told(case: &Case, judged: &Judged) -> bool
 pub fn run_trace<R: Read, W: Write, J: Lines, P: Watch>(
     alloc: Global,
     reader: &mut R,
-    asked: Asked,
+    options: TraceOptions,
     sinks: &mut Sinks<W, J, P>,
 ) -> Result<Verdict, Stop>
     ensures judged { IfOk result (λ verdict.
-        IsJudged asked.entry verdict sinks.old.sum.now sinks.new.sum.now) }
+        IsJudged options.entry verdict sinks.old.sum.now sinks.new.sum.now) }
     ensures counted { IfOk result (λ verdict. HasJudged (verdict ∷ []) sinks.old.sum.now sinks.new.sum.now) }
     ensures nothing { R.untold reader.old ≡ Some [] → IfOk result (λ verdict. verdict ≡ verdicts.Error) }
     ensures all { IfOk result (λ verdict. (verdict ≡ verdicts.Error)
         ⊎ IsAtEnd (R.untold reader.new) × (R.failures reader.new ≡ R.failures reader.old)) }
     ensures same_sum { sinks.new.sum.ghost_name ≡ sinks.old.sum.ghost_name }
 {
-    let mut trace = Trace::new(alloc, asked);
+    let mut trace = Trace::new(alloc, options);
     let mut octets = TraceReader::new(alloc);
     match trace.read_all(reader, &mut octets, sinks) {
         Ok(()) => trace.end_whole(sinks),

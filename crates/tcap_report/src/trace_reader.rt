@@ -112,7 +112,10 @@ impl TraceReader {
                 (None, record_text(alloc, what, place)?)
             }
             FormRule::CutEntry(place) => {
-                (None, record_text(alloc, "the record ends within an entry", place)?)
+                (
+                    None,
+                    record_text(alloc, "the record ends within an entry", place)?,
+                )
             }
             FormRule::BadElement(reason, place) => {
                 (None, record_text(alloc, name_of(reason), place)?)

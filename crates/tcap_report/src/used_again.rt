@@ -1,6 +1,6 @@
 //! IDs that are used again under `--ids once`, which never frees an ID before a quiet mark.
 
-use crate::words::line_of;
+use crate::doubt_words::line_of;
 use std::alloc::{AllocError, Global};
 use std::collections::BTreeSet;
 use tcap_dialogues::HeadingView;

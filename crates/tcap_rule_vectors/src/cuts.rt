@@ -3,7 +3,7 @@
 use std::alloc::Global;
 use std::collections::BTreeSet;
 use std::fmt::Write;
-use tcap_dialogues::{Cut, Gathered, HeadingView, Reuse};
+use tcap_dialogues::{CompleteDialogue, Cut, HeadingView, Reuse};
 use tcap_msg::{Kind, TransactionId};
 use tcap_record::End;
 
@@ -28,7 +28,7 @@ fn id_of(letter: u8) -> Option<TransactionId> {
 }
 
 /// Takes an entry, and returns whether it begins one more dialogue.
-fn take(cut: &mut Cut, word: &str, done: &mut Vec<Gathered>) -> Option<bool> {
+fn take(cut: &mut Cut, word: &str, done: &mut Vec<CompleteDialogue>) -> Option<bool> {
     let [sender, kind, from, to, rest @ ..] = word.as_bytes() else {
         return None;
     };
@@ -52,7 +52,7 @@ fn take(cut: &mut Cut, word: &str, done: &mut Vec<Gathered>) -> Option<bool> {
 }
 
 /// Appends the numbers of the entries of a dialogue, and of the earlier dialogue that had one of its IDs.
-fn push_dialogue(text: &mut String, dialogue: &Gathered) -> Option<()> {
+fn push_dialogue(text: &mut String, dialogue: &CompleteDialogue) -> Option<()> {
     for number in &dialogue.numbers {
         write!(text, "{number},").ok()?;
     }
@@ -79,7 +79,7 @@ fn push_sent(alloc: Global, text: &mut String, cut: &Cut, end: End) -> Option<()
 
 /// Returns the dialogues, the count of entries that begin one more dialogue, and the IDs from which the ends sent, with
 /// semicolons between them.
-fn text_of(alloc: Global, done: &[Gathered], begun: u64, sent: &str) -> Option<String> {
+fn text_of(alloc: Global, done: &[CompleteDialogue], begun: u64, sent: &str) -> Option<String> {
     let mut text = String::new(alloc);
     for dialogue in done {
         push_dialogue(&mut text, dialogue)?;

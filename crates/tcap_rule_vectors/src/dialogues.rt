@@ -8,8 +8,8 @@ use tcap_ber::Counted;
 use tcap_books::Book;
 use tcap_dialogues::Reuse;
 use tcap_record::{End, read_record};
-use tcap_report::{Asked, Junit, Page, Sinks, Sum, Watch, run_trace};
-use tcap_traces::{Circumstances, Ends, Said, Verdict, judge_dialogue, trace_verdict};
+use tcap_report::{Junit, Page, Sinks, Sum, TraceOptions, Watch, run_trace};
+use tcap_traces::{Circumstances, EndResult, Ends, Verdict, judge_dialogue, trace_verdict};
 use tcap_vectors::octets_of;
 
 /// Returns the circumstances that these words describe.
@@ -52,7 +52,7 @@ fn ends_of(alloc: Global, record: &str, table: &str, circumstances: &str) -> Opt
 }
 
 /// Returns whether this is the expected verdict on an end. A dash accepts any.
-fn is_said(alloc: Global, said: Said, wanted: &str) -> Option<bool> {
+fn is_said(alloc: Global, said: EndResult, wanted: &str) -> Option<bool> {
     Some(wanted == "-" || format!(in alloc; "{said:?}").ok()?.as_str() == wanted)
 }
 
@@ -72,10 +72,10 @@ fn is_verdict(alloc: Global, verdict: Verdict, wanted: &str) -> Option<bool> {
 }
 
 /// Returns the verdict `passes` or `undecided` on an end.
-fn said_of(word: &str) -> Option<Said> {
+fn said_of(word: &str) -> Option<EndResult> {
     match word {
-        "passes" => Some(Said::Pass(0)),
-        "undecided" => Some(Said::Undecided),
+        "passes" => Some(EndResult::Pass(0)),
+        "undecided" => Some(EndResult::Undecided),
         _ => None,
     }
 }
@@ -114,9 +114,9 @@ pub(crate) fn is_trace_verdict(
 
 /// An observer that does nothing.
 #[derive(Drop)]
-struct Nobody;
+struct NoWatch;
 
-impl Watch for Nobody {
+impl Watch for NoWatch {
     fn look(&mut self, _sum: &Sum) {}
 }
 
@@ -124,7 +124,7 @@ impl Watch for Nobody {
 pub(crate) fn is_trace(alloc: Global, lines: &str, book: &str, wanted: &str) -> Option<bool> {
     let lines = lines_of(alloc, lines)?;
     let book = Book::from_json(alloc, book.as_bytes()).ok()?;
-    let asked = Asked {
+    let asked = TraceOptions {
         name: "t",
         of: None,
         reuse: Reuse::Again(10),
@@ -137,7 +137,7 @@ pub(crate) fn is_trace(alloc: Global, lines: &str, book: &str, wanted: &str) -> 
     let mut json = Counted::new(Vec::new(alloc));
     let mut junit = Junit::new(alloc);
     let mut html = Counted::new(Vec::new(alloc));
-    let mut nobody = Nobody;
+    let mut nobody = NoWatch;
     let page = Page::begin(&mut html).ok()?;
     let mut sinks = Sinks {
         text: &mut text,

@@ -122,7 +122,7 @@ fn refused_by_name(
 }
 
 /// Closes a half, or expires an invocation on it, and returns the end's result.
-fn unseen(
+fn internal(
     alloc: Global,
     end: &mut EndState,
     table: &str,
@@ -153,11 +153,11 @@ fn answer(alloc: Global, end: &mut EndState, row: &str, as_value: bool) -> Optio
             let table = words.next()?;
             let half = half_of(words.next()?, words.next()?)?;
             let invoke = words.next()?.parse::<i8>().ok()?;
-            unseen(alloc, end, table, half, Some(invoke))?
+            internal(alloc, end, table, half, Some(invoke))?
         }
         "close" => {
             let table = words.next()?;
-            unseen(
+            internal(
                 alloc,
                 end,
                 table,

@@ -8,8 +8,8 @@ use Rattle.tcap_record.specs.Ends.{other, is_entry_of}
 use Rattle.tcap_search.specs.declared.leasts.Leasts.{Leasts}
 use Rattle.tcap_search.specs.LeastNumbers.{HasRoom, is_below, is_transaction, least_at, lesser, is_within}
 use Rattle.tcap_search.specs.SegmentEntries.{Line, is_of_peer, line_behind, lines_of, message_of, share_transaction, are_of_one_end}
-use Rattle.tcap_search.specs.ProposedCertificate.{ends, was_ended, Fated, fated, is_delivered_by, is_end_or_abort, was_told, closing_by, closings_from, closings_of, is_closing_of, is_continue, with_closing}
-use Rattle.tcap_search.specs.ClosedByTie.{KeepsEnded, KeepsTold, gap_told, KeepsListed, both_of, shown_by}
+use Rattle.tcap_search.specs.ProposedCertificate.{ends, was_ended, Fated, fated, is_delivered_by, is_end_or_abort, was_end_delivered, closing_by, closings_from, closings_of, is_closing_of, is_continue, with_closing}
+use Rattle.tcap_search.specs.ClosedByTie.{KeepsEnded, KeepsDelivered, end_delivery_gap, KeepsListed, both_of, shown_by}
 use Rattle.tcap_search.proofs.LineLaws.{count_taken, lines_more, count_lines, entry_line, transaction_below, transaction_is}
 use Rattle.tcap_search.proofs.NotedLaws.{any_push, below_lesser, same_tests, shares, test_noted, turned_tests, within_lesser, eqb_turned}
 use Rattle.tcap_search.proofs.TestLaws.{of_peer, one_end, and_false, or_false}
@@ -104,11 +104,11 @@ fated_push (y ∷ lines) (f ∷ fates) x fate same =
 
 pub record Told (entries : List Entry) (fates : List Fate) (count : ℕ) (told : Leasts) : Type 0 where
   pub room : HasRoom (length entries) told
-  pub kept : KeepsTold (length entries) (fated (lines_of (take count entries)) (take count fates)) told
+  pub kept : KeepsDelivered (length entries) (fated (lines_of (take count entries)) (take count fates)) told
 
 pub told_all : (entries : List Entry) (fates : List Fate) (count : ℕ) (told : Leasts)
     → length fates ≡ length entries → length entries ≤ count → Told entries fates count told
-    → KeepsTold (length entries) (fated (lines_of entries) fates) told
+    → KeepsDelivered (length entries) (fated (lines_of entries) fates) told
 told_all entries fates count told counted all so_far =
     rw (take_all count entries all, take_all count fates (omega arith)) at so_far.kept
 
@@ -127,17 +127,17 @@ module _ (entries : List Entry) (fates : List Fate) (i : ℕ) (old : Leasts) (e 
       && is_delivered_by limit fate
 
   told_next : (x : Line) (limit : ℕ)
-      → was_told (fated (lines_of (take (i + 1) entries)) (take (i + 1) fates)) x limit
-      ≡ (was_told fated_so_far x limit || tells_it x limit)
+      → was_end_delivered (fated (lines_of (take (i + 1) entries)) (take (i + 1) fates)) x limit
+      ≡ (was_end_delivered fated_so_far x limit || tells_it x limit)
   told_next x limit =
       let within : i < length fates = omega arith in
       let fates_more : take (i + 1) fates ≡ take i fates ++ fate ∷ [] =
       take_more fates i other_fate within ∙ ap (λ (f : Fate). take i fates ++ f ∷ []) (sym is_fate) in
       let counts : length (take i fates) ≡ length (lines_of (take i entries)) =
       length-take-le i fates (omega arith) ∙ sym (count_taken entries i (omega arith)) in
-      ap (λ (lines : List Line). was_told (fated lines (take (i + 1) fates)) x limit) (lines_more entries i e below is)
-      ∙ (ap (λ (fs : List Fate). was_told (fated (lines_of (take i entries) ++ next_line ∷ []) fs) x limit) fates_more
-      ∙ (ap (λ (all : List Fated). was_told all x limit)
+      ap (λ (lines : List Line). was_end_delivered (fated lines (take (i + 1) fates)) x limit) (lines_more entries i e below is)
+      ∙ (ap (λ (fs : List Fate). was_end_delivered (fated (lines_of (take i entries) ++ next_line ∷ []) fs) x limit) fates_more
+      ∙ (ap (λ (all : List Fated). was_end_delivered all x limit)
       (fated_push (lines_of (take i entries)) (take i fates) next_line fate counts)
       ∙ any_push (λ y. are_of_one_end x.entry y.line.entry && share_transaction x y.line
       && is_end_or_abort (message_of y.line.entry) && is_delivered_by limit y.fate) fated_so_far
@@ -149,18 +149,18 @@ module _ (entries : List Entry) (fates : List Fate) (i : ℕ) (old : Leasts) (e 
     kept = λ x side transaction limit sent has within.
         so_far.kept x side transaction limit sent has within
         ∙ sym (told_next x limit
-        ∙ (ap (λ (b : Bool). was_told fated_so_far x limit || b) (fails x limit)
-        ∙ or_false (was_told fated_so_far x limit)));
+        ∙ (ap (λ (b : Bool). was_end_delivered fated_so_far x limit || b) (fails x limit)
+        ∙ or_false (was_end_delivered fated_so_far x limit)));
   }
 
-  pub told_other : gap_told (message_of e) fate ≡ None → Told entries fates (i + 1) old
+  pub told_other : end_delivery_gap (message_of e) fate ≡ None → Told entries fates (i + 1) old
   told_other none = told_same (λ x limit. by x limit fate none)
     where
       so : (b : Bool) (gap : ℕ) → cond b (Some gap) None ≡ None → b ≡ false
       so true gap none = cc
       so false gap none = refl
 
-      by : (x : Line) (limit : ℕ) (f : Fate) → gap_told (message_of e) f ≡ None
+      by : (x : Line) (limit : ℕ) (f : Fate) → end_delivery_gap (message_of e) f ≡ None
           → (are_of_one_end x.entry e && share_transaction x next_line && is_end_or_abort (message_of e)
           && is_delivered_by limit f)
           ≡ false
@@ -175,14 +175,14 @@ module _ (entries : List Entry) (fates : List Fate) (i : ℕ) (old : Leasts) (e 
       by x limit (By reply) none =
           and_false (are_of_one_end x.entry e && share_transaction x next_line && is_end_or_abort (message_of e))
 
-  told_gap : (gap : ℕ) (f : Fate) → gap_told (message_of e) f ≡ Some gap
+  told_gap : (gap : ℕ) (f : Fate) → end_delivery_gap (message_of e) f ≡ Some gap
       → (is_end_or_abort (message_of e) ≡ true) × (f ≡ Gap gap)
   told_gap gap (Gap g) is = let parts = cond_some (is_end_or_abort (message_of e)) g gap is in (parts.0, ap Gap parts.1)
   told_gap gap Lost is = cc
   told_gap gap (By reply) is = cc
 
   pub told_more : (new : Leasts) (transaction : Option ℕ) (gap : ℕ) → transaction ≡ next_line.transaction
-      → gap_told (message_of e) fate ≡ Some gap → HasRoom (length entries) new
+      → end_delivery_gap (message_of e) fate ≡ Some gap → HasRoom (length entries) new
       → ((side : Side) (t : ℕ) → t < length entries → least_at side t new
       ≡ cond (is_entry_of side e.side && is_transaction t transaction) (lesser gap (least_at side t old))
       (least_at side t old))
@@ -204,7 +204,7 @@ module _ (entries : List Entry) (fates : List Fate) (i : ℕ) (old : Leasts) (e 
         (within_lesser limit gap (least_at side t old)) (noted side t within)
         ∙ (ap (λ (b : Bool). b || (nat_le gap limit && is_entry_of side e.side && is_transaction t transaction))
         (so_far.kept x side t limit sent belongs within)
-        ∙ sym (told_next x limit ∙ ap (λ (b : Bool). was_told fated_so_far x limit || b) here));
+        ∙ sym (told_next x limit ∙ ap (λ (b : Bool). was_end_delivered fated_so_far x limit || b) here));
   }
 
 -- ---- the half that a tie shows to have closed
@@ -234,12 +234,12 @@ module _ (entries : List Entry) (transactions : List (Option ℕ)) (all : List F
   has : get_or transactions k None ≡ line.transaction
   has = transaction_is entries transactions k e are below read
 
-  abbrev is_unseen : Bool
-  is_unseen =
-      is_continue (message_of e) && not (was_ended (lines_of entries) line reply) && not (was_told all line reply)
+  abbrev shows_closing : Bool
+  shows_closing =
+      is_continue (message_of e) && not (was_ended (lines_of entries) line reply) && not (was_end_delivered all line reply)
 
   abbrev half_of : Option Side → Option ℕ → Option (Side × ℕ)
-  half_of side transaction = cond is_unseen (both_of (option_map other side) transaction) None
+  half_of side transaction = cond shows_closing (both_of (option_map other side) transaction) None
 
   half_is : half_of e.side line.transaction ≡ half_shown entries all k reply
   half_is = sym (ap (shown_by all (lines_of entries) reply) there)
@@ -247,26 +247,26 @@ module _ (entries : List Entry) (transactions : List (Option ℕ)) (all : List F
   -- The entry has no end, or no transaction.
   pub no_side : e.side ≡ None → None ≡ half_shown entries all k reply
   no_side none =
-      sym (ap (λ (s : Option Side). half_of s line.transaction) none ∙ both_same is_unseen None) ∙ half_is
+      sym (ap (λ (s : Option Side). half_of s line.transaction) none ∙ both_same shows_closing None) ∙ half_is
 
   pub no_transaction : (side : Side) → e.side ≡ Some side → get_or transactions k None ≡ None
       → None ≡ half_shown entries all k reply
   no_transaction side sent none =
       sym (ap (λ (s : Option Side). half_of s line.transaction) sent
-      ∙ (ap (half_of (Some side)) (sym has ∙ none) ∙ both_same is_unseen None))
+      ∙ (ap (half_of (Some side)) (sym has ∙ none) ∙ both_same shows_closing None))
       ∙ half_is
 
   -- The entry has both, and the numbers kept decide whether the half had closed.
   pub shown_is : (ended told : Leasts) (side : Side) (transaction : ℕ) (unseen : Bool) → e.side ≡ Some side
       → get_or transactions k None ≡ Some transaction → KeepsEnded (length entries) (lines_of entries) ended
-      → KeepsTold (length entries) all told
+      → KeepsDelivered (length entries) all told
       → unseen ≡ (is_continue (message_of e) && not (is_below reply (least_at (other side) transaction ended))
       && not (is_within reply (least_at side transaction told)))
       → cond unseen (Some (other side, transaction)) None ≡ half_shown entries all k reply
   shown_is ended told side transaction unseen sent belongs ended_is told_is is =
       let belongs_line : line.transaction ≡ Some transaction = sym has ∙ belongs in
       let below = transaction_below entries k line transaction there belongs_line in
-      let so : unseen ≡ is_unseen =
+      let so : unseen ≡ shows_closing =
       is
       ∙ (ap (λ (b : Bool). is_continue (message_of e) && not b
       && not (is_within reply (least_at side transaction told)))
@@ -289,7 +289,7 @@ shown_below entries all k reply side transaction is = by (slice_get (lines_of en
     by (Some x) found is =
         transaction_below entries k x transaction found
         (of_both (is_continue (message_of x.entry) && not (was_ended (lines_of entries) x reply)
-        && not (was_told all x reply))
+        && not (was_end_delivered all x reply))
         (option_map other x.entry.side) x.transaction is)
       where
         of_both : (b : Bool) (s : Option Side) (t : Option ℕ) → cond b (both_of s t) None ≡ Some (side, transaction)
@@ -313,7 +313,7 @@ closing_is : (all : List Fated) (lines : List Line) (listed : List Closing) (rep
 closing_is all lines listed reply None = refl
 closing_is all lines listed reply (Some x) =
     by (is_continue (message_of x.entry) && not (was_ended lines x reply)
-    && not (was_told all x reply)) x.entry.side x.transaction
+    && not (was_end_delivered all x reply)) x.entry.side x.transaction
   where
     by : (b : Bool) (s : Option Side) (t : Option ℕ)
         → cond b (with_closing listed (option_map other s) reply t) listed
@@ -324,7 +324,7 @@ closing_is all lines listed reply (Some x) =
     by false s t = refl
 
 -- The list so far, to which the rest of the ties add the rest.
-pub record Listed (all : List Fated) (lines : List Line) (ties : List Tie) (count i : ℕ) (listed : List Closing)
+pub record ExpiryList (all : List Fated) (lines : List Line) (ties : List Tie) (count i : ℕ) (listed : List Closing)
     (l : Leasts) : Type 0 where
   pub room : HasRoom count l
   pub kept : KeepsListed count listed l
@@ -332,7 +332,7 @@ pub record Listed (all : List Fated) (lines : List Line) (ties : List Tie) (coun
 
 module _ (all : List Fated) (lines : List Line) (ties : List Tie) (count i : ℕ) (listed : List Closing) (old : Leasts)
     (other_tie t : Tie) (below : i < length ties) (is : t ≡ get_or ties i other_tie)
-    (so_far : Listed all lines ties count i listed old) where
+    (so_far : ExpiryList all lines ties count i listed old) where
   abbrev shown : Option (Side × ℕ)
   shown = shown_by all lines t.reply (slice_get lines t.entry)
 
@@ -347,7 +347,7 @@ module _ (all : List Fated) (lines : List Line) (ties : List Tie) (count i : ℕ
       (with_shown listed t.reply s)) is_shown))
       ∙ so_far.left
 
-  pub listed_same : shown ≡ None → Listed all lines ties count (i + 1) listed old
+  pub listed_same : shown ≡ None → ExpiryList all lines ties count (i + 1) listed old
   listed_same is_shown = record { room = so_far.room; kept = so_far.kept; left = one_more None is_shown }
 
   module _ (side : Side) (transaction : ℕ) (is_shown : shown ≡ Some (side, transaction))
@@ -362,13 +362,13 @@ module _ (all : List Fated) (lines : List Line) (ties : List Tie) (count i : ℕ
         (sym known_is ∙ so_far.kept side transaction within)
         ∙ one_more (Some (side, transaction)) is_shown
 
-    pub listed_again : is_some (least_at side transaction old) ≡ true → Listed all lines ties count (i + 1) listed old
+    pub listed_again : is_some (least_at side transaction old) ≡ true → ExpiryList all lines ties count (i + 1) listed old
     listed_again known_is = record { room = so_far.room; kept = so_far.kept; left = known true known_is }
 
     pub listed_more : (new : Leasts) → is_some (least_at side transaction old) ≡ false → HasRoom count new
         → ((at : Side) (u : ℕ) → u < count → least_at at u new
         ≡ cond (is_side at side && (u == transaction)) (lesser t.reply (least_at at u old)) (least_at at u old))
-        → Listed all lines ties count (i + 1)
+        → ExpiryList all lines ties count (i + 1)
         (listed ++ record { gap = t.reply; side = side; entry = transaction } ∷ []) new
     listed_more new new_is room noted = record {
       room = room;

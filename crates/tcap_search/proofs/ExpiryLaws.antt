@@ -10,7 +10,7 @@ use Rattle.tcap_parts.specs.declared.component.Component.{Component}
 use Rattle.tcap_record.specs.declared.entry.End.{End as Side}
 use Rattle.tcap_record.specs.declared.entry.Entry.{Entry}
 use Rattle.tcap_record.specs.Ends.{other}
-use Rattle.tcap_model.specs.Run.{then_so, where_so}
+use Rattle.tcap_model.specs.Run.{option_then, only_if}
 use Rattle.tcap_certificate.specs.declared.certificate.Expiry.{Expiry}
 use Rattle.tcap_certificate.specs.declared.certificate.Fate.{Fate}
 use Rattle.tcap_certificate.specs.declared.certificate.Fate.TheVariants.{Gap, Lost, By}
@@ -42,12 +42,12 @@ invocation_is : (lines : List Line) (x : Line) (side : Side) (t : ℕ) (id : ℤ
     → x.entry.side ≡ Some side → x.transaction ≡ Some t
     → last_invocation lines x id gap ≡ invoked_in (take gap lines) t side id
 invocation_is lines x side t id gap are at_side at_t =
-    ap (λ (o : Option Line). then_so o (invocation_at id))
+    ap (λ (o : Option Line). option_then o (invocation_at id))
     (last_same original (λ y. nat_lt y.number gap && passes y) same lines
     ∙ last_earlier gap lines passes are)
     ∙ given_is passes (invocation_at id) gives (take gap lines)
-    ∙ given_same (λ y. where_so (passes y) (invocation_at id y))
-    (λ y. where_so (is_line_of side t y) (invocation_at id y))
+    ∙ given_same (λ y. only_if (passes y) (invocation_at id y))
+    (λ y. only_if (is_line_of side t y) (invocation_at id y))
     (λ y. once (is_line_of side t y) (invocation_at id y)) (take gap lines)
   where
     original : Line → Bool
@@ -71,7 +71,7 @@ invocation_is lines x side t id gap are at_side at_t =
     gives : (y : Line) → passes y ≡ true → is_some (invocation_at id y) ≡ true
     gives y is = (and_parts (is_line_of side t y) (is_some (invocation_at id y)) is).1
 
-    once : {A : Type 0} (b : Bool) (o : Option A) → where_so (b && is_some o) o ≡ where_so b o
+    once : {A : Type 0} (b : Bool) (o : Option A) → only_if (b && is_some o) o ≡ only_if b o
     once true None = refl
     once true (Some a) = refl
     once false o = refl
@@ -155,19 +155,19 @@ module _ (lines : List Line) (all : List Fated) (x : Line) (side : Side) (t : �
       same_line : rejected_line all x (is_result, id) ≡ last (came is_result id) all
       same_line = last_same (rejects_it lines all x is_result id) (came is_result id) (rejects_is is_result id) all
 
-      found : then_so (last (came is_result id) all) (λ y. answer_with lines t side id y.fate)
+      found : option_then (last (came is_result id) all) (λ y. answer_with lines t side id y.fate)
           ≡ answered_in lines all (x.number + 1) is_result t side id
       found = given_is (came is_result id) (λ y. answer_with lines t side id y.fate) (gives is_result id) all
 
       by : (o : Option Fated) → rejected_line all x (is_result, id) ≡ o
           → ((y : Fated) → last (came is_result id) all ≡ Some y → came is_result id y ≡ true)
-          → then_so (last (came is_result id) all) (λ y. answer_with lines t side id y.fate)
+          → option_then (last (came is_result id) all) (λ y. answer_with lines t side id y.fate)
           ≡ answered_in lines all (x.number + 1) is_result t side id
           → expiry_by all lines x listed (Some (is_result, id))
           ≡ with_answer side listed (answered_in lines all (x.number + 1) is_result t side id)
       by None at passes is =
           let none : answered_in lines all (x.number + 1) is_result t side id ≡ None =
-          sym is ∙ ap (λ (o : Option Fated). then_so o (λ y. answer_with lines t side id y.fate))
+          sym is ∙ ap (λ (o : Option Fated). option_then o (λ y. answer_with lines t side id y.fate))
           (sym same_line ∙ at) in
           rw (at, none) refl
       by (Some y) at passes is = of_fate y.fate refl
@@ -177,7 +177,7 @@ module _ (lines : List Line) (all : List Fated) (x : Line) (side : Side) (t : �
           here = sym same_line ∙ at
 
           some : answered_in lines all (x.number + 1) is_result t side id ≡ answer_with lines t side id y.fate
-          some = sym is ∙ ap (λ (o : Option Fated). then_so o (λ y. answer_with lines t side id y.fate)) here
+          some = sym is ∙ ap (λ (o : Option Fated). option_then o (λ y. answer_with lines t side id y.fate)) here
 
           of_fate : (f : Fate) → y.fate ≡ f → is_in_gap_below (x.number + 1) f ≡ true
               → expiry_by all lines x listed (Some (is_result, id))
@@ -273,7 +273,7 @@ answered_none : (lines : List Line) (all : List Fated) (is_result : Bool) (t : �
 answered_none lines [] is_result t s id = refl
 answered_none lines (y ∷ all) is_result t s id = rw (answered_none lines all is_result t s id) (by y.fate)
   where
-    by : (f : Fate) → where_so (is_in_gap_below 0 f && is_answering is_result t s id y) (answer_with lines t s id f)
+    by : (f : Fate) → only_if (is_in_gap_below 0 f && is_answering is_result t s id y) (answer_with lines t s id f)
         ≡ None
     by (Gap g) = let none : nat_lt g 0 ≡ false = le-ltb g 0 (omega arith) in rw none refl
     by Lost = refl
@@ -341,10 +341,10 @@ module _ (entries : List Entry) (transactions : List (Option ℕ)) (fates : List
     -- the Invokes after the entry
     pub invokes_step : (before behind : Option (ℕ × ℕ)) (t : ℕ) (s : Side) (id : ℤ)
         → before ≡ invoked_in (take i lines) t s id
-        → behind ≡ option_or (where_so (is_of s t e (get_or transactions i None)) (invoked_by i e id)) before
+        → behind ≡ option_or (only_if (is_of s t e (get_or transactions i None)) (invoked_by i e id)) before
         → behind ≡ invoked_in (take (i + 1) lines) t s id
     invokes_step before behind t s id was noted = noted
-        ∙ ap (option_or (where_so (is_of s t e (get_or transactions i None)) (invoked_by i e id))) was
+        ∙ ap (option_or (only_if (is_of s t e (get_or transactions i None)) (invoked_by i e id))) was
         ∙ sym (invoked_more (take i lines) here t s id)
         ∙ ap (λ (ls : List Line). invoked_in ls t s id) (sym (lines_more entries transactions are i within e is_entry))
 

@@ -9,7 +9,7 @@ use Rattle.tcap_msg.specs.declared.message.Message.{Message}
 use Rattle.tcap_msg.specs.declared.message.Message.TheVariants.{Unidirectional, Begin, Continue, End, Abort}
 use Rattle.tcap_record.specs.declared.entry.End.{End as Side}
 use Rattle.tcap_record.specs.Ends.{other, is_entry_of}
-use Rattle.tcap_model.specs.Run.{where_so}
+use Rattle.tcap_model.specs.Run.{only_if}
 use Rattle.tcap_certificate.specs.declared.certificate.Fate.TheVariants.{Gap}
 use Rattle.tcap_search.specs.declared.tie.Tie.{Tie}
 use Rattle.tcap_search.specs.SegmentEntries.{Line, is_of_peer, last, message_of, share_transaction}
@@ -44,7 +44,7 @@ last_number n [] passes x are is = absurd (none-some x is)
 last_number n (y ∷ lines) passes x are is =
     by (last passes lines) (last_number (n + 1) lines passes x are.1) (passes y) is
   where
-    by : (o : Option Line) → (o ≡ Some x → n + 1 ≤ x.number) → (b : Bool) → option_or o (where_so b (Some y)) ≡ Some x
+    by : (o : Option Line) → (o ≡ Some x → n + 1 ≤ x.number) → (b : Bool) → option_or o (only_if b (Some y)) ≡ Some x
         → n ≤ x.number
     by None later false found = absurd (none-some x found)
     by None later true found = subst (λ (z : Line). n ≤ z.number) (same_Some y x found) (omega (arith, are.0))
@@ -53,7 +53,7 @@ last_number n (y ∷ lines) passes x are is =
 -- the line, if it is later than this number
 abbrev if_later : ℕ → Option Line → Option Line
 if_later k None = None
-if_later k (Some x) = where_so (nat_lt k x.number) (Some x)
+if_later k (Some x) = only_if (nat_lt k x.number) (Some x)
 
 -- The last later line that passes is the last that passes, if it is later.
 last_later : (k n : ℕ) (lines : List Line) (passes : Line → Bool) → AreNumbered n lines
@@ -61,25 +61,25 @@ last_later : (k n : ℕ) (lines : List Line) (passes : Line → Bool) → AreNum
 last_later k n [] passes are = refl
 last_later k n (x ∷ lines) passes are = by (last passes lines) refl (last_later k (n + 1) lines passes are.1)
   where
-    alone : (b : Bool) → where_so (nat_lt k x.number && b) (Some x) ≡ if_later k (where_so b (Some x))
+    alone : (b : Bool) → only_if (nat_lt k x.number && b) (Some x) ≡ if_later k (only_if b (Some x))
     alone true = by_test (nat_lt k x.number)
       where
-        by_test : (c : Bool) → where_so (c && true) (Some x) ≡ where_so c (Some x)
+        by_test : (c : Bool) → only_if (c && true) (Some x) ≡ only_if c (Some x)
         by_test true = refl
         by_test false = refl
-    alone false = ap (λ (c : Bool). where_so c (Some x)) (and_false (nat_lt k x.number))
+    alone false = ap (λ (c : Bool). only_if c (Some x)) (and_false (nat_lt k x.number))
 
     behind : (z : Line) → n < z.number → (b c : Bool) → nat_lt k z.number ≡ b
-        → option_or (where_so b (Some z)) (where_so (nat_lt k x.number && c) (Some x)) ≡ where_so b (Some z)
+        → option_or (only_if b (Some z)) (only_if (nat_lt k x.number && c) (Some x)) ≡ only_if b (Some z)
     behind z after true c test = refl
     behind z after false c test =
         let none : nat_lt k x.number ≡ false = le-ltb k x.number (omega (arith, are.0, ltb-false k z.number test)) in
-        ap (λ (b : Bool). where_so (b && c) (Some x)) none
+        ap (λ (b : Bool). only_if (b && c) (Some x)) none
 
     by : (o : Option Line) → last passes lines ≡ o
         → last (λ y. nat_lt k y.number && passes y) lines ≡ if_later k o
-        → option_or (last (λ y. nat_lt k y.number && passes y) lines) (where_so (nat_lt k x.number && passes x) (Some x))
-        ≡ if_later k (option_or o (where_so (passes x) (Some x)))
+        → option_or (last (λ y. nat_lt k y.number && passes y) lines) (only_if (nat_lt k x.number && passes x) (Some x))
+        ≡ if_later k (option_or o (only_if (passes x) (Some x)))
     by None at is = rw is (alone (passes x))
     by (Some z) at is =
         let after : n + 1 ≤ z.number = last_number (n + 1) lines passes z are.1 at in
@@ -91,7 +91,7 @@ gap_is x None = omega arith
 gap_is x (Some y) = by (nat_lt x.number y.number) refl
   where
     by : (b : Bool) → nat_lt x.number y.number ≡ b
-        → gap_behind x (where_so b (Some y)) ≡ max (x.number + 1) (y.number + 1)
+        → gap_behind x (only_if b (Some y)) ≡ max (x.number + 1) (y.number + 1)
     by true test = omega (arith, ltb-true x.number y.number test)
     by false test = omega (arith, ltb-false x.number y.number test)
 

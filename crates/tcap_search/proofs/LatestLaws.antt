@@ -3,7 +3,7 @@ use Rattle.std.proofs.Common.{◌≡◌, Bool, true, false, List, [], ◌∷◌,
 use Rattle.std.specs.Option.{option_or}
 use Rattle.std.specs.List.{AllByRecursion}
 use Rattle.std.proofs.lemmas.Option.{none-some, same_Some}
-use Rattle.tcap_model.specs.Run.{where_so, then_so}
+use Rattle.tcap_model.specs.Run.{only_if, option_then}
 use Rattle.tcap_search.specs.SegmentEntries.{last, Line, is_from, line_behind, lines_of, message_of, transaction_by, transaction_from}
 use Rattle.std.specs.Prelude.{◌&&◌, is_some, nat_lt}
 use Rattle.std.proofs.lemmas.Bool.{false≢true, le-ltb, lt-ltb}
@@ -21,8 +21,8 @@ use Rattle.tcap_record.specs.declared.entry.Entry.{Entry}
 use Rattle.tcap_end.specs.Table.{octets_cmp}
 use Rattle.tcap_record.specs.Ends.{other, is_entry_of}
 use Rattle.tcap_model.specs.World.{is_side}
-use Rattle.tcap_search.specs.declared.lines.Latest.{Latest}
-use Rattle.tcap_search.specs.LastEntries.{belongs, belongs_by, latest_asked, latest_at, latest_of}
+use Rattle.tcap_search.specs.declared.transactions.Latest.{Latest}
+use Rattle.tcap_search.specs.LastEntries.{belongs, belongs_by, latest_of_peer, latest_at, latest_of}
 use Rattle.tcap_search.proofs.TestLaws.{same_id}
 
 -- None is a right unit of `option_or`.
@@ -39,8 +39,8 @@ or_or (Some a) p q = refl
 pub last_same : {A : Type 0} (P Q : A → Bool) → ((x : A) → P x ≡ Q x) → (xs : List A) → last P xs ≡ last Q xs
 last_same P Q same [] = refl
 last_same P Q same (x ∷ xs) =
-    ap (λ b. option_or (last P xs) (where_so b (Some x))) (same x)
-    ∙ ap (λ o. option_or o (where_so (Q x) (Some x))) (last_same P Q same xs)
+    ap (λ b. option_or (last P xs) (only_if b (Some x))) (same x)
+    ∙ ap (λ o. option_or o (only_if (Q x) (Some x))) (last_same P Q same xs)
 
 -- A property of all elements holds for the last.
 pub last_among : {A : Type 0} (P : A → Type 0) (passes : A → Bool) (xs : List A) (x : A)
@@ -49,7 +49,7 @@ last_among P passes [] x all found = absurd (none-some x found)
 last_among {A = A} P passes (a ∷ xs) x all found =
     by (last passes xs) (last_among P passes xs x all.1) (passes a) found
   where
-    by : (o : Option A) → (o ≡ Some x → P x) → (b : Bool) → option_or o (where_so b (Some a)) ≡ Some x → P x
+    by : (o : Option A) → (o ≡ Some x → P x) → (b : Bool) → option_or o (only_if b (Some a)) ≡ Some x → P x
     by None more false is = absurd (none-some x is)
     by None more true is = subst P (same_Some a x is) all.0
     by (Some y) more b is = more is
@@ -61,7 +61,7 @@ last_passes {A = A} passes (a ∷ xs) x found =
     by (last passes xs) (last_passes passes xs x) (passes a) refl found
   where
     by : (o : Option A) → (o ≡ Some x → passes x ≡ true) → (b : Bool) → passes a ≡ b
-        → option_or o (where_so b (Some a)) ≡ Some x → passes x ≡ true
+        → option_or o (only_if b (Some a)) ≡ Some x → passes x ≡ true
     by None more false test is = absurd (none-some x is)
     by None more true test is = subst (λ (y : A). passes y ≡ true) (same_Some a x is) test
     by (Some y) more b test is = more is
@@ -94,22 +94,22 @@ or_some (Some b) p q some is = rw (← is) refl
 -- `last` and then a function, if the function gives a value for each element that passes.
 pub given_is : {A B : Type 0} (passes : A → Bool) (f : A → Option B)
     → ((x : A) → passes x ≡ true → is_some (f x) ≡ true)
-    → (xs : List A) → then_so (last passes xs) f ≡ last_given (λ x. where_so (passes x) (f x)) xs
+    → (xs : List A) → option_then (last passes xs) f ≡ last_given (λ x. only_if (passes x) (f x)) xs
 given_is passes f gives [] = refl
 given_is {A = A} {B = B} passes f gives (x ∷ xs) =
     by (last passes xs) (last_passes passes xs) (given_is passes f gives xs)
   where
-    alone : (b : Bool) → then_so (where_so b (Some x)) f ≡ where_so b (f x)
+    alone : (b : Bool) → option_then (only_if b (Some x)) f ≡ only_if b (f x)
     alone true = refl
     alone false = refl
 
     by : (o : Option A) → ((y : A) → o ≡ Some y → passes y ≡ true)
-        → then_so o f ≡ last_given (λ x. where_so (passes x) (f x)) xs
-        → then_so (option_or o (where_so (passes x) (Some x))) f
-        ≡ option_or (last_given (λ x. where_so (passes x) (f x)) xs) (where_so (passes x) (f x))
+        → option_then o f ≡ last_given (λ x. only_if (passes x) (f x)) xs
+        → option_then (option_or o (only_if (passes x) (Some x))) f
+        ≡ option_or (last_given (λ x. only_if (passes x) (f x)) xs) (only_if (passes x) (f x))
     by None test is = rw (← is) (alone (passes x))
     by (Some y) test is =
-        or_some (f y) (last_given (λ x. where_so (passes x) (f x)) xs) (where_so (passes x) (f x))
+        or_some (f y) (last_given (λ x. only_if (passes x) (f x)) xs) (only_if (passes x) (f x))
         (gives y (test y refl)) is
 
 -- ---- earlier lines
@@ -137,9 +137,9 @@ last_earlier k lines passes are = earlier_from k k 0 lines passes are (omega ari
 -- ---- one more entry in a map
 
 put_in : (transaction : Option ℕ) (b c : Bool) (old new : Option (Option ℕ)) → b ≡ c
-    → new ≡ cond b (Some transaction) old → then_so new (λ t. t) ≡ cond c transaction (then_so old (λ t. t))
-put_in transaction true true old new same is = ap (λ (o : Option (Option ℕ)). then_so o (λ t. t)) is
-put_in transaction false false old new same is = ap (λ (o : Option (Option ℕ)). then_so o (λ t. t)) is
+    → new ≡ cond b (Some transaction) old → option_then new (λ t. t) ≡ cond c transaction (option_then old (λ t. t))
+put_in transaction true true old new same is = ap (λ (o : Option (Option ℕ)). option_then o (λ t. t)) is
+put_in transaction false false old new same is = ap (λ (o : Option (Option ℕ)). option_then o (λ t. t)) is
 put_in transaction true false old new same is = cc
 put_in transaction false true old new same is = cc
 
@@ -154,9 +154,9 @@ put_is sides.A id transaction old new put kept sides.A key =
     put_in transaction (is_at (octets_cmp id) key) (bytes_eq key id) (lookup (is_at (octets_cmp key)) old.a.entries)
     (lookup (is_at (octets_cmp key)) new.a.entries) (same_id id key) (put key)
 put_is sides.A id transaction old new put kept sides.B key =
-    ap (λ (es : List (List ℕ × Option ℕ)). then_so (lookup (is_at (octets_cmp key)) es) (λ t. t)) kept
+    ap (λ (es : List (List ℕ × Option ℕ)). option_then (lookup (is_at (octets_cmp key)) es) (λ t. t)) kept
 put_is sides.B id transaction old new put kept sides.A key =
-    ap (λ (es : List (List ℕ × Option ℕ)). then_so (lookup (is_at (octets_cmp key)) es) (λ t. t)) kept
+    ap (λ (es : List (List ℕ × Option ℕ)). option_then (lookup (is_at (octets_cmp key)) es) (λ t. t)) kept
 put_is sides.B id transaction old new put kept sides.B key =
     put_in transaction (is_at (octets_cmp id) key) (bytes_eq key id) (lookup (is_at (octets_cmp key)) old.b.entries)
     (lookup (is_at (octets_cmp key)) new.b.entries) (same_id id key) (put key)
@@ -166,7 +166,7 @@ put_is sides.B id transaction old new put kept sides.B key =
 -- the transaction of the last of these lines that is from this end and ID
 abbrev last_from : List Line → Side → List ℕ → Option ℕ
 last_from lines side id =
-    then_so (last (λ f. is_entry_of side f.entry.side && is_from id f.entry) lines) (λ f. f.transaction)
+    option_then (last (λ f. is_entry_of side f.entry.side && is_from id f.entry) lines) (λ f. f.transaction)
 
 -- The map is that of these lines.
 abbrev pub IsLatest : List Line → Latest → Type 0
@@ -175,14 +175,14 @@ IsLatest lines latest = (side : Side) (id : List ℕ) → latest_at side id late
 -- ---- the transaction of the next entry
 
 asked_is : (lines : List Line) (latest : Latest) → IsLatest lines latest → (e : Entry) (dtid : Option (List ℕ))
-    → latest_asked e.side dtid latest ≡ transaction_from lines e dtid
+    → latest_of_peer e.side dtid latest ≡ transaction_from lines e dtid
 asked_is lines latest is e dtid = by e.side dtid
   where
     by : (side : Option Side) (dtid : Option (List ℕ))
-        → latest_asked side dtid latest ≡ transaction_from lines (record e { side = side }) dtid
+        → latest_of_peer side dtid latest ≡ transaction_from lines (record e { side = side }) dtid
     by None None = refl
     by (Some side) None = refl
-    by None (Some id) = sym (ap (λ (o : Option Line). then_so o (λ f. f.transaction)) (last_none lines))
+    by None (Some id) = sym (ap (λ (o : Option Line). option_then o (λ f. f.transaction)) (last_none lines))
     by (Some side) (Some id) = is (other side) id
 
 pub belongs_is : (lines : List Line) (latest : Latest) (number : ℕ) (e : Entry) → IsLatest lines latest
@@ -200,7 +200,7 @@ belongs_is lines latest number e is counted = by (message_of e)
 -- ---- one more line
 
 chosen : (b : Bool) (x : Line) (o : Option Line)
-    → cond b x.transaction (then_so o (λ f. f.transaction)) ≡ then_so (cond b (Some x) o) (λ f. f.transaction)
+    → cond b x.transaction (option_then o (λ f. f.transaction)) ≡ option_then (cond b (Some x) o) (λ f. f.transaction)
 chosen true x o = refl
 chosen false x o = refl
 
@@ -216,7 +216,7 @@ latest_more lines old new e transaction is has noted side id =
     ∙ (ap (λ (t : Option ℕ). cond (passes x) t (latest_at side id old)) has
     ∙ (ap (λ (t : Option ℕ). cond (passes x) x.transaction t) (is side id)
     ∙ (chosen (passes x) x (last passes lines)
-    ∙ sym (ap (λ (o : Option Line). then_so o (λ f. f.transaction)) (last_push passes lines x)))))
+    ∙ sym (ap (λ (o : Option Line). option_then o (λ f. f.transaction)) (last_push passes lines x)))))
 
 -- ---- the transactions so far
 

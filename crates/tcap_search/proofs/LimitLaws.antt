@@ -10,7 +10,7 @@ use Rattle.tcap_msg.specs.declared.message.Message.TheVariants.{Unidirectional, 
 use Rattle.tcap_record.specs.declared.entry.End.{End as Side}
 use Rattle.tcap_record.specs.declared.entry.Entry.{Entry}
 use Rattle.tcap_record.specs.Ends.{other, is_entry_of}
-use Rattle.tcap_model.specs.Run.{then_so, where_so}
+use Rattle.tcap_model.specs.Run.{option_then, only_if}
 use Rattle.tcap_certificate.specs.declared.certificate.Closing.{Closing}
 use Rattle.tcap_certificate.specs.declared.certificate.Expiry.{Expiry}
 use Rattle.tcap_certificate.specs.declared.certificate.Fate.{Fate}
@@ -20,7 +20,7 @@ use Rattle.tcap_model.proofs.ListLaws.{all_more, all_weaker}
 use Rattle.tcap_model.proofs.RunLaws.{map_some, then_some}
 use Rattle.tcap_search.specs.declared.tie.Tie.{Tie}
 use Rattle.tcap_search.specs.SegmentEntries.{Line, are_of_one_end, lines_of, message_of}
-use Rattle.tcap_search.specs.ProposedCertificate.{Fated, all_fated, closing_behind, closing_by, closings_from, expiries_by, expiries_from, expiry_behind, expiry_by, expiry_in, fate_before, fate_behind, fate_by, fate_of, fated, first_fates, first_gap, first_gap_by, gap_behind, gap_behind_reply, gap_in, invocation_at, is_closing_of, is_continue, is_expiry_of, is_gap, is_invoke_of, is_overtaken, is_unanswered, last_invocation, last_invoke, last_of_receiver, may_invoke, components_at, number_limit, of_stretch, raised, rejected_line, reply_of, ties_of, unrecognized, was_ended, was_told, with_closing, with_expiry, with_losses, without_unanswered}
+use Rattle.tcap_search.specs.ProposedCertificate.{Fated, all_fated, closing_behind, closing_by, closings_from, expiries_by, expiries_from, expiry_behind, expiry_by, expiry_in, fate_before, fate_behind, fate_by, fate_of, fated, first_fates, first_gap, first_gap_by, gap_behind, gap_behind_reply, gap_in, invocation_at, is_closing_of, is_continue, is_expiry_of, is_gap, is_invoke_of, is_overtaken, is_unanswered, last_invocation, last_invoke, last_of_receiver, may_invoke, components_at, number_limit, of_segment, raised, rejected_line, reply_of, ties_of, unrecognized, was_ended, was_end_delivered, with_closing, with_expiry, with_losses, without_unanswered}
 use Rattle.tcap_search.specs.SegmentLists.{AreFates}
 use Rattle.tcap_search.proofs.LatestLaws.{last_among}
 use Rattle.tcap_search.proofs.LossLaws.{before_losses, count_fates}
@@ -150,11 +150,11 @@ module _ (judged : Option Side) (marked : Bool) (entries : List Entry) where
       (fated_within (length entries) lines (first_fates judged lines (ties_of lines))
       (fates_within judged (length entries) lines numbers (ties_of lines) replies lines numbers)))
 
-  pub fates_of_stretch : AllByRecursion (FateWithin (length entries)) ((of_stretch judged marked entries).fates)
-  fates_of_stretch = all_mapped (FateWithin (length entries)) (λ (x : Fated). x.fate) all_of all_within
+  pub fates_of_segment : AllByRecursion (FateWithin (length entries)) ((of_segment judged marked entries).fates)
+  fates_of_segment = all_mapped (FateWithin (length entries)) (λ (x : Fated). x.fate) all_of all_within
 
-  pub count_of_stretch : length ((of_stretch judged marked entries).fates) ≡ length entries
-  count_of_stretch = count_fates judged marked entries (map (λ x. x.fate) all_of) refl
+  pub count_of_segment : length ((of_segment judged marked entries).fates) ≡ length entries
+  count_of_segment = count_fates judged marked entries (map (λ x. x.fate) all_of) refl
 
   -- ---- expiries
 
@@ -186,13 +186,13 @@ module _ (judged : Option Side) (marked : Bool) (entries : List Entry) where
       by (last_invoke id (place + 1) more) (place_within id (place + 1) more found)
       (sym (first_invoke id place c more) ∙ is)
     where
-      leave : (a b : Bool) → where_so (a && b) (Some place) ≡ Some found → (b ≡ true) × (place ≡ found)
+      leave : (a b : Bool) → only_if (a && b) (Some place) ≡ Some found → (b ≡ true) × (place ≡ found)
       leave true true is = (refl, cc)
       leave true false is = cc
       leave false b is = cc
 
       by : (o : Option ℕ) → (o ≡ Some found → found ≤ number_limit)
-          → option_or o (where_so (is_invoke_of id c && nat_le place number_limit) (Some place)) ≡ Some found
+          → option_or o (only_if (is_invoke_of id c && nat_le place number_limit) (Some place)) ≡ Some found
           → found ≤ number_limit
       by (Some later) on is = on is
       by None on is =
@@ -227,7 +227,7 @@ module _ (judged : Option Side) (marked : Bool) (entries : List Entry) where
       → AllByRecursion (ExpiryWithin (length entries)) (expiry_by all_of lines x listed o)
   rejects_within x listed None all = all
   rejects_within x listed (Some (is_result, id)) all =
-      by (then_so (rejected_line all_of x (is_result, id)) (λ y. gap_in y.fate)) refl
+      by (option_then (rejected_line all_of x (is_result, id)) (λ y. gap_in y.fate)) refl
     where
       gap_within : (y : Fated) (gap : ℕ) (fate : Fate) → y.fate ≡ fate → FateWithin (length entries) y.fate
           → gap_in fate ≡ Some gap → gap ≤ length entries
@@ -237,7 +237,7 @@ module _ (judged : Option Side) (marked : Bool) (entries : List Entry) where
       gap_within y gap (By reply) is within at = cc
       gap_within y gap Lost is within at = cc
 
-      by : (o : Option ℕ) → then_so (rejected_line all_of x (is_result, id)) (λ y. gap_in y.fate) ≡ o
+      by : (o : Option ℕ) → option_then (rejected_line all_of x (is_result, id)) (λ y. gap_in y.fate) ≡ o
           → AllByRecursion (ExpiryWithin (length entries)) (expiry_in lines x listed id o)
       by None is = all
       by (Some gap) is =
@@ -263,8 +263,8 @@ module _ (judged : Option Side) (marked : Bool) (entries : List Entry) where
       listing_within some (expiries_by all_of lines x listed (components_at x))
       (rejecting_within x (components_at x) listed all)
 
-  pub expiries_of_stretch : AllByRecursion (ExpiryWithin (length entries)) ((of_stretch judged marked entries).expire)
-  expiries_of_stretch = listing_within lines [] tt
+  pub expiries_of_segment : AllByRecursion (ExpiryWithin (length entries)) ((of_segment judged marked entries).expire)
+  expiries_of_segment = listing_within lines [] tt
 
   -- ---- closings
 
@@ -290,7 +290,7 @@ module _ (judged : Option Side) (marked : Bool) (entries : List Entry) where
       → AllByRecursion (ClosingWithin (length entries)) (closing_by all_of lines listed reply o)
   tie_within listed entry reply None within is all = all
   tie_within listed entry reply (Some x) within is all =
-      by (is_continue (message_of x.entry) && not (was_ended lines x reply) && not (was_told all_of x reply))
+      by (is_continue (message_of x.entry) && not (was_ended lines x reply) && not (was_end_delivered all_of x reply))
     where
       by : (b : Bool) → AllByRecursion (ClosingWithin (length entries))
           (cond b (with_closing listed (option_map other x.entry.side) reply x.transaction) listed)
@@ -308,8 +308,8 @@ module _ (judged : Option Side) (marked : Bool) (entries : List Entry) where
       (tie_within listed t.entry t.reply (slice_get lines t.entry)
       (let within : t.reply < length entries = below.0 in omega (arith, within)) refl all)
 
-  pub closings_of_stretch : AllByRecursion (ClosingWithin (length entries)) ((of_stretch judged marked entries).close)
-  closings_of_stretch = closing_within (ties_of lines) [] replies tt
+  pub closings_of_segment : AllByRecursion (ClosingWithin (length entries)) ((of_segment judged marked entries).close)
+  closings_of_segment = closing_within (ties_of lines) [] replies tt
 
 -- ---- the limits of a certificate
 
@@ -329,25 +329,25 @@ module _ (judged : Option Side) (marked : Bool) (first : ℕ) (entries : List En
       (all_weaker (FateWithin (length entries)) (λ fate. FateFits (fate_behind first fate)) fates
       (λ fate within. fate_fits first (length entries) fate few within)
       (subst (λ (x : List Fate). AllByRecursion (FateWithin (length entries)) x) (sym are)
-      (fates_of_stretch judged marked entries)))
+      (fates_of_segment judged marked entries)))
 
-  pub expiries_fit : (listed : List Expiry) → listed ≡ (of_stretch judged marked entries).expire
+  pub expiries_fit : (listed : List Expiry) → listed ≡ (of_segment judged marked entries).expire
       → AllByRecursion ExpiryFits (map (expiry_behind first) listed)
   expiries_fit listed are =
       all_mapped ExpiryFits (expiry_behind first) listed
       (all_weaker (ExpiryWithin (length entries)) (λ x. ExpiryFits (expiry_behind first x)) listed
       (λ x within. (omega (arith, few, within.0), within.1, omega (arith, few, within.2)))
       (subst (λ (xs : List Expiry). AllByRecursion (ExpiryWithin (length entries)) xs) (sym are)
-      (expiries_of_stretch judged marked entries)))
+      (expiries_of_segment judged marked entries)))
 
-  pub closings_fit : (listed : List Closing) → listed ≡ (of_stretch judged marked entries).close
+  pub closings_fit : (listed : List Closing) → listed ≡ (of_segment judged marked entries).close
       → AllByRecursion ClosingFits (map (closing_behind first) listed)
   closings_fit listed are =
       all_mapped ClosingFits (closing_behind first) listed
       (all_weaker (ClosingWithin (length entries)) (λ x. ClosingFits (closing_behind first x)) listed
       (λ x within. (omega (arith, few, within.0), omega (arith, few, within.1)))
       (subst (λ (xs : List Closing). AllByRecursion (ClosingWithin (length entries)) xs) (sym are)
-      (closings_of_stretch judged marked entries)))
+      (closings_of_segment judged marked entries)))
 
 fate_small : (n : ℕ) (fate : Fate) → n ≤ number_limit → FateWithin n fate → FateFits fate
 fate_small n (Gap gap) few within = omega (arith, few, within)
@@ -361,20 +361,20 @@ module _ (judged : Option Side) (marked : Bool) (entries : List Entry) (few : le
       all_weaker (FateWithin (length entries)) FateFits fates
       (λ fate within. fate_small (length entries) fate few within)
       (subst (λ (x : List Fate). AllByRecursion (FateWithin (length entries)) x) (sym are)
-      (fates_of_stretch judged marked entries))
+      (fates_of_segment judged marked entries))
 
-  pub expiries_small : (listed : List Expiry) → listed ≡ (of_stretch judged marked entries).expire
+  pub expiries_small : (listed : List Expiry) → listed ≡ (of_segment judged marked entries).expire
       → AllByRecursion ExpiryFits listed
   expiries_small listed are =
       all_weaker (ExpiryWithin (length entries)) ExpiryFits listed
       (λ x within. (omega (arith, few, within.0), within.1, omega (arith, few, within.2)))
       (subst (λ (xs : List Expiry). AllByRecursion (ExpiryWithin (length entries)) xs) (sym are)
-      (expiries_of_stretch judged marked entries))
+      (expiries_of_segment judged marked entries))
 
-  pub closings_small : (listed : List Closing) → listed ≡ (of_stretch judged marked entries).close
+  pub closings_small : (listed : List Closing) → listed ≡ (of_segment judged marked entries).close
       → AllByRecursion ClosingFits listed
   closings_small listed are =
       all_weaker (ClosingWithin (length entries)) ClosingFits listed
       (λ x within. (omega (arith, few, within.0), omega (arith, few, within.1)))
       (subst (λ (xs : List Closing). AllByRecursion (ClosingWithin (length entries)) xs) (sym are)
-      (closings_of_stretch judged marked entries))
+      (closings_of_segment judged marked entries))

@@ -7,9 +7,9 @@ use Rattle.std.proofs.lemmas.List.{length-take-le, length_push, reverse-append, 
 use Rattle.tcap_msg.specs.declared.message.Message.{Message}
 use Rattle.tcap_msg.specs.declared.message.Message.TheVariants.{Unidirectional, Begin, Continue, End as EndMessage, Abort}
 use Rattle.tcap_record.specs.declared.entry.Entry.{Entry}
-use Rattle.tcap_model.specs.Run.{where_so}
+use Rattle.tcap_model.specs.Run.{only_if}
 use Rattle.tcap_model.proofs.ListLaws.{all_more}
-use Rattle.tcap_search.specs.SegmentEntries.{Line, is_asked_from, last, line_behind, lines_behind, lines_of, message_of, transaction_by, transaction_from}
+use Rattle.tcap_search.specs.SegmentEntries.{Line, is_peer_message_from, last, line_behind, lines_behind, lines_of, message_of, transaction_by, transaction_from}
 use Rattle.tcap_search.specs.SegmentLists.{AreTransactions}
 use Rattle.std.proofs.lemmas.Option.{get_or_from_slice_get, slice_get-map, slice_get_read, none-some, same_Some}
 
@@ -96,11 +96,11 @@ pub last_push : {A : Type 0} (passes : A → Bool) (xs : List A) (x : A)
     → last passes (xs ++ x ∷ []) ≡ cond (passes x) (Some x) (last passes xs)
 last_push passes [] x = refl
 last_push {A} passes (y ∷ xs) x =
-    ap (λ (o : Option A). option_or o (where_so (passes y) (Some y))) (last_push passes xs x)
+    ap (λ (o : Option A). option_or o (only_if (passes y) (Some y))) (last_push passes xs x)
     ∙ by (passes x)
   where
-    by : (b : Bool) → option_or (cond b (Some x) (last passes xs)) (where_so (passes y) (Some y))
-        ≡ cond b (Some x) (option_or (last passes xs) (where_so (passes y) (Some y)))
+    by : (b : Bool) → option_or (cond b (Some x) (last passes xs)) (only_if (passes y) (Some y))
+        ≡ cond b (Some x) (option_or (last passes xs) (only_if (passes y) (Some y)))
     by true = refl
     by false = refl
 
@@ -114,11 +114,11 @@ last_holds : {A : Type 0} (P : A → Type 0) (passes : A → Bool) (xs : List A)
 last_holds P passes [] all = tt
 last_holds {A} P passes (x ∷ xs) all = by (last passes xs) (last_holds P passes xs all.1)
   where
-    here : (b : Bool) → IfSome (where_so b (Some x)) P
+    here : (b : Bool) → IfSome (only_if b (Some x)) P
     here true = all.0
     here false = tt
 
-    by : (o : Option A) → IfSome o P → IfSome (option_or o (where_so (passes x) (Some x))) P
+    by : (o : Option A) → IfSome o P → IfSome (option_or o (only_if (passes x) (Some x))) P
     by None later = here (passes x)
     by (Some y) later = later
 
@@ -146,8 +146,8 @@ number_behind count earlier e message room all = by message
     from : (dtid : Option (List ℕ)) → IsNumber count (transaction_from earlier e dtid)
     from None = tt
     from (Some id) =
-        found (last (λ f. is_asked_from e id f.entry) earlier)
-        (last_holds (λ (x : Line). IsNumber count x.transaction) (λ f. is_asked_from e id f.entry) earlier all)
+        found (last (λ f. is_peer_message_from e id f.entry) earlier)
+        (last_holds (λ (x : Line). IsNumber count x.transaction) (λ f. is_peer_message_from e id f.entry) earlier all)
 
     by : (message : Option Message) → IsNumber count (transaction_by earlier e message)
     by None = tt

@@ -8,46 +8,46 @@ use Rattle.std.proofs.Math.Seq.{drop-nil, take-length}
 use Rattle.tcap_record.specs.declared.entry.End.{End as Side}
 use Rattle.tcap_record.specs.declared.entry.Entry.{Entry}
 use Rattle.tcap_certificate.specs.Certificate.{Certificate}
-use Rattle.tcap_search.specs.ProposedCertificate.{behind, fate_behind, is_mark, of_mark, of_stretch, of_stretches, stretches, then_certificate, with_entry, proposed_by}
-use Rattle.tcap_search.proofs.LimitLaws.{count_of_stretch}
+use Rattle.tcap_search.specs.ProposedCertificate.{behind, fate_behind, is_mark, of_mark, of_segment, of_segments, segments, then_certificate, with_entry, proposed_by}
+use Rattle.tcap_search.proofs.LimitLaws.{count_of_segment}
 
 abbrev pub has_mark : List Entry → Bool
 has_mark entries = list_any (λ e. is_mark e.body) entries
 
 -- There is a first segment.
-pub first_stretch : (entries : List Entry)
-    → (stretch : List Entry) × (more : List (List Entry)) × (stretches entries ≡ stretch ∷ more)
-first_stretch [] = ([], [], refl)
-first_stretch (e ∷ entries) = by (is_mark e.body) refl (first_stretch entries)
+pub first_segment : (entries : List Entry)
+    → (segment : List Entry) × (more : List (List Entry)) × (segments entries ≡ segment ∷ more)
+first_segment [] = ([], [], refl)
+first_segment (e ∷ entries) = by (is_mark e.body) refl (first_segment entries)
   where
     by : (b : Bool) → is_mark e.body ≡ b
-        → (stretch : List Entry) × (more : List (List Entry)) × (stretches entries ≡ stretch ∷ more)
-        → (stretch : List Entry) × (more : List (List Entry))
-        × (cond b ([] ∷ stretches entries) (with_entry e (stretches entries)) ≡ stretch ∷ more)
-    by true so rest = ([], stretches entries, refl)
-    by false so (stretch, more, is) = (e ∷ stretch, more, rw is refl)
+        → (segment : List Entry) × (more : List (List Entry)) × (segments entries ≡ segment ∷ more)
+        → (segment : List Entry) × (more : List (List Entry))
+        × (cond b ([] ∷ segments entries) (with_entry e (segments entries)) ≡ segment ∷ more)
+    by true so rest = ([], segments entries, refl)
+    by false so (segment, more, is) = (e ∷ segment, more, rw is refl)
 
 -- Entries without a mark are one segment.
-pub one_stretch : (entries : List Entry) → has_mark entries ≡ false → stretches entries ≡ entries ∷ []
-one_stretch [] none = refl
-one_stretch (e ∷ entries) none = by (is_mark e.body) none (one_stretch entries)
+pub one_segment : (entries : List Entry) → has_mark entries ≡ false → segments entries ≡ entries ∷ []
+one_segment [] none = refl
+one_segment (e ∷ entries) none = by (is_mark e.body) none (one_segment entries)
   where
-    by : (b : Bool) → (b || has_mark entries) ≡ false → (has_mark entries ≡ false → stretches entries ≡ entries ∷ [])
-        → cond b ([] ∷ stretches entries) (with_entry e (stretches entries)) ≡ (e ∷ entries) ∷ []
+    by : (b : Bool) → (b || has_mark entries) ≡ false → (has_mark entries ≡ false → segments entries ≡ entries ∷ [])
+        → cond b ([] ∷ segments entries) (with_entry e (segments entries)) ≡ (e ∷ entries) ∷ []
     by true none on = cc
     by false none on = rw (on none) refl
 
 -- Entries before a mark are the first segment.
-pub stretch_before : (front : List Entry) (mark : Entry) (more : List Entry) → has_mark front ≡ false
-    → is_mark mark.body ≡ true → stretches (front ++ mark ∷ more) ≡ front ∷ stretches more
-stretch_before [] mark more none is = rw is refl
-stretch_before (e ∷ front) mark more none is =
-    by (is_mark e.body) none (λ rest. stretch_before front mark more rest is)
+pub segment_before : (front : List Entry) (mark : Entry) (more : List Entry) → has_mark front ≡ false
+    → is_mark mark.body ≡ true → segments (front ++ mark ∷ more) ≡ front ∷ segments more
+segment_before [] mark more none is = rw is refl
+segment_before (e ∷ front) mark more none is =
+    by (is_mark e.body) none (λ rest. segment_before front mark more rest is)
   where
     by : (b : Bool) → (b || has_mark front) ≡ false
-        → (has_mark front ≡ false → stretches (front ++ mark ∷ more) ≡ front ∷ stretches more)
-        → cond b ([] ∷ stretches (front ++ mark ∷ more)) (with_entry e (stretches (front ++ mark ∷ more)))
-        ≡ (e ∷ front) ∷ stretches more
+        → (has_mark front ≡ false → segments (front ++ mark ∷ more) ≡ front ∷ segments more)
+        → cond b ([] ∷ segments (front ++ mark ∷ more)) (with_entry e (segments (front ++ mark ∷ more)))
+        ≡ (e ∷ front) ∷ segments more
     by true none on = cc
     by false none on = rw (on none) refl
 
@@ -64,20 +64,20 @@ then_assoc c d f =
 
 -- the certificate of entries without a mark
 pub of_one : (judged : Option Side) (first : ℕ) (entries : List Entry) → has_mark entries ≡ false
-    → of_stretches judged first (stretches entries) ≡ behind first (of_stretch judged false entries)
-of_one judged first entries none = rw (one_stretch entries none) refl
+    → of_segments judged first (segments entries) ≡ behind first (of_segment judged false entries)
+of_one judged first entries none = rw (one_segment entries none) refl
 
 -- the certificates of entries before a mark, of the mark, and of the entries after it
 pub of_more : (judged : Option Side) (first : ℕ) (front : List Entry) (mark : Entry) (more : List Entry)
     → has_mark front ≡ false
     → is_mark mark.body ≡ true
-    → of_stretches judged first (stretches (front ++ mark ∷ more))
-    ≡ then_certificate (behind first (of_stretch judged true front))
+    → of_segments judged first (segments (front ++ mark ∷ more))
+    ≡ then_certificate (behind first (of_segment judged true front))
     (then_certificate (of_mark (first + length front))
-    (of_stretches judged (first + length front + 1) (stretches more)))
+    (of_segments judged (first + length front + 1) (segments more)))
 of_more judged first front mark more none is =
-    let (stretch, others, split) = first_stretch more in
-    rw (stretch_before front mark more none is, split) refl
+    let (segment, others, split) = first_segment more in
+    rw (segment_before front mark more none is, split) refl
 
 -- ---- along the entries
 
@@ -116,29 +116,29 @@ module _ (entries : List Entry) (first k : ℕ) (e : Entry) (within : first + k 
 
   -- The entry is a mark, and the next segment begins.
   pub begins : (judged : Option Side) (found : Certificate) → is_mark e.body ≡ true → has_mark (take k under) ≡ false
-      → then_certificate found (of_stretches judged first (stretches under))
+      → then_certificate found (of_segments judged first (segments under))
       ≡ then_certificate
-      (then_certificate (then_certificate found (behind first (of_stretch judged true (take k under))))
+      (then_certificate (then_certificate found (behind first (of_segment judged true (take k under))))
       (of_mark (first + k)))
-      (of_stretches judged (first + k + 1) (stretches (drop (first + k + 1) entries)))
+      (of_segments judged (first + k + 1) (segments (drop (first + k + 1) entries)))
   begins judged found mark none =
       let count : length (take k under) ≡ k = length-take-le k under (omega (arith, k_within)) in
-      ap (λ x. then_certificate found (of_stretches judged first (stretches x))) split
+      ap (λ x. then_certificate found (of_segments judged first (segments x))) split
       ∙ ap (then_certificate found) (of_more judged first (take k under) e (drop (first + k + 1) entries) none mark)
       ∙ rw count
-      (sym (then_assoc found (behind first (of_stretch judged true (take k under)))
+      (sym (then_assoc found (behind first (of_segment judged true (take k under)))
       (then_certificate (of_mark (first + k))
-      (of_stretches judged (first + k + 1) (stretches (drop (first + k + 1) entries)))))
-      ∙ sym (then_assoc (then_certificate found (behind first (of_stretch judged true (take k under))))
+      (of_segments judged (first + k + 1) (segments (drop (first + k + 1) entries)))))
+      ∙ sym (then_assoc (then_certificate found (behind first (of_segment judged true (take k under))))
       (of_mark (first + k))
-      (of_stretches judged (first + k + 1) (stretches (drop (first + k + 1) entries)))))
+      (of_segments judged (first + k + 1) (segments (drop (first + k + 1) entries)))))
 
 -- The entries after the last mark are the last segment.
 pub ends : (judged : Option Side) (entries : List Entry) (found : Certificate) (first k : ℕ)
     → first + k ≡ length entries
     → has_mark (take k (drop first entries)) ≡ false
-    → then_certificate found (of_stretches judged first (stretches (drop first entries)))
-    ≡ then_certificate found (behind first (of_stretch judged false (drop first entries)))
+    → then_certificate found (of_segments judged first (segments (drop first entries)))
+    ≡ then_certificate found (behind first (of_segment judged false (drop first entries)))
 ends judged entries found first k all none =
     let count : length (drop first entries) ≡ k = length-drop first entries ∙ omega (arith, all) in
     let whole : take k (drop first entries) ≡ drop first entries =
@@ -163,48 +163,48 @@ module _ (entries : List Entry) (first i : ℕ) (begun : first ≤ i) where
   pub begins_at : (judged : Option Side) (e : Entry) (found : Certificate) → i < length entries → e ≡ get_or entries i e
       → is_mark e.body ≡ true
       → has_mark (take (i - first) (drop first entries)) ≡ false
-      → then_certificate found (of_stretches judged first (stretches (drop first entries)))
+      → then_certificate found (of_segments judged first (segments (drop first entries)))
       ≡ then_certificate
       (then_certificate (then_certificate found (behind first
-      (of_stretch judged true (take (i - first) (drop first entries)))))
+      (of_segment judged true (take (i - first) (drop first entries)))))
       (of_mark i))
-      (of_stretches judged (i + 1) (stretches (drop (i + 1) entries)))
+      (of_segments judged (i + 1) (segments (drop (i + 1) entries)))
   begins_at judged e found within is mark none =
       subst
-      (λ n. then_certificate found (of_stretches judged first (stretches (drop first entries)))
+      (λ n. then_certificate found (of_segments judged first (segments (drop first entries)))
       ≡ then_certificate
       (then_certificate (then_certificate found (behind first
-      (of_stretch judged true (take (i - first) (drop first entries)))))
+      (of_segment judged true (take (i - first) (drop first entries)))))
       (of_mark n))
-      (of_stretches judged (n + 1) (stretches (drop (n + 1) entries))))
+      (of_segments judged (n + 1) (segments (drop (n + 1) entries))))
       at (begins entries first (i - first) e (rw at within) (rw at is) judged found mark none)
 
   pub ends_at : (judged : Option Side) (found : Certificate) → i ≡ length entries
       → has_mark (take (i - first) (drop first entries)) ≡ false
-      → then_certificate found (of_stretches judged first (stretches (drop first entries)))
+      → then_certificate found (of_segments judged first (segments (drop first entries)))
       ≡ then_certificate found (behind first
-      (of_stretch judged false (take (length entries - first) (drop first entries))))
+      (of_segment judged false (take (length entries - first) (drop first entries))))
   ends_at judged found all none =
       ends judged entries found first (i - first) (at ∙ all) none
-      ∙ ap (λ x. then_certificate found (behind first (of_stretch judged false x)))
+      ∙ ap (λ x. then_certificate found (behind first (of_segment judged false x)))
       (sym (subst (λ n. take n (drop first entries) ≡ drop first entries) (length-drop first entries)
       (take-length (drop first entries))))
 
 -- ---- the number of fates
 
 module _ (judged : Option Side) where
-  with_count : (marked : Bool) (found : Certificate) (first : ℕ) (stretch : List Entry)
-      → length ((then_certificate found (behind first (of_stretch judged marked stretch))).fates)
-      ≡ length found.fates + length stretch
-  with_count marked found first stretch =
-      length-append found.fates (map (fate_behind first) ((of_stretch judged marked stretch).fates))
+  with_count : (marked : Bool) (found : Certificate) (first : ℕ) (segment : List Entry)
+      → length ((then_certificate found (behind first (of_segment judged marked segment))).fates)
+      ≡ length found.fates + length segment
+  with_count marked found first segment =
+      length-append found.fates (map (fate_behind first) ((of_segment judged marked segment).fates))
       ∙ ap (λ n. length found.fates + n)
-      (length-map ((of_stretch judged marked stretch).fates) (fate_behind first)
-      ∙ count_of_stretch judged marked stretch)
+      (length-map ((of_segment judged marked segment).fates) (fate_behind first)
+      ∙ count_of_segment judged marked segment)
 
   pub count_ends : (entries : List Entry) (found : Certificate) (first : ℕ) → first ≤ length entries
       → length found.fates ≡ first
-      → length ((then_certificate found (behind first (of_stretch judged false
+      → length ((then_certificate found (behind first (of_segment judged false
       (take (length entries - first) (drop first entries))))).fates)
       ≡ length entries
   count_ends entries found first within count =
@@ -218,7 +218,7 @@ module _ (judged : Option Side) where
   pub count_begins : (entries : List Entry) (found : Certificate) (first i : ℕ) → first ≤ i → i < length entries
       → length found.fates ≡ first
       → length ((then_certificate (then_certificate found (behind first
-      (of_stretch judged true (take (i - first) (drop first entries)))))
+      (of_segment judged true (take (i - first) (drop first entries)))))
       (of_mark i)).fates)
       ≡ i + 1
   count_begins entries found first i begun within count =
@@ -226,11 +226,11 @@ module _ (judged : Option Side) where
       length-take-le (i - first) (drop first entries)
       (let left : length (drop first entries) ≡ length entries - first = length-drop first entries in
       omega (arith, left, within)) in
-      let front : length ((then_certificate found (behind first (of_stretch judged true
+      let front : length ((then_certificate found (behind first (of_segment judged true
       (take (i - first) (drop first entries))))).fates)
       ≡ length found.fates + length (take (i - first) (drop first entries)) =
       with_count true found first (take (i - first) (drop first entries)) in
-      length-append ((then_certificate found (behind first (of_stretch judged true
+      length-append ((then_certificate found (behind first (of_segment judged true
       (take (i - first) (drop first entries))))).fates) _
       ∙ omega (arith, front, some, count, begun)
 
@@ -245,7 +245,7 @@ answers_so P Q (Err e) so is = is
 -- this segment on, it is the whole.
 pub record IsBefore (judged : Option Side) (entries : List Entry) (first : ℕ) (found : Certificate) : Type 0 where
   pub count : length found.fates ≡ first
-  pub is : then_certificate found (of_stretches judged first (stretches (drop first entries)))
+  pub is : then_certificate found (of_segments judged first (segments (drop first entries)))
       ≡ proposed_by judged entries
 
 -- The present segment begins at `first`, and has no mark up to `i`.
@@ -275,21 +275,21 @@ module _ (judged : Option Side) (entries : List Entry) (first i : ℕ) (so : IsS
     (before : IsBefore judged entries first found) where
   -- This holds after another segment and its mark.
   pub mark_is_before : (e : Entry) → i < length entries → e ≡ get_or entries i e → is_mark e.body ≡ true
-      → (stretch new : Certificate)
-      → stretch ≡ then_certificate found (behind first (of_stretch judged true (take (i - first) (drop first entries))))
-      → new ≡ then_certificate stretch (of_mark i)
+      → (segment new : Certificate)
+      → segment ≡ then_certificate found (behind first (of_segment judged true (take (i - first) (drop first entries))))
+      → new ≡ then_certificate segment (of_mark i)
       → IsBefore judged entries (i + 1) new
-  mark_is_before e within is mark stretch new stretch_is new_is = record {
-    count = rw (new_is, stretch_is) (count_begins judged entries found first i so.begun within before.count);
+  mark_is_before e within is mark segment new segment_is new_is = record {
+    count = rw (new_is, segment_is) (count_begins judged entries found first i so.begun within before.count);
     is =
-        rw (new_is, stretch_is)
+        rw (new_is, segment_is)
         (sym (begins_at entries first i so.begun judged e found within is mark so.none) ∙ before.is);
   }
 
   -- After the last segment, the certificate is the whole.
   pub all_found : length entries ≤ i → (new : Certificate)
       → new ≡ then_certificate found (behind first
-      (of_stretch judged false (take (length entries - first) (drop first entries))))
+      (of_segment judged false (take (length entries - first) (drop first entries))))
       → (new ≡ proposed_by judged entries) × (length new.fates ≡ length entries)
   all_found past new is = let all : i ≡ length entries = omega (arith, so.within, past) in (
     is ∙ sym (ends_at entries first i so.begun judged found all so.none) ∙ before.is,

@@ -7,7 +7,7 @@ use Rattle.tcap_parts.specs.declared.component.Component.{Component}
 use Rattle.tcap_record.specs.declared.entry.End.{End as Side}
 use Rattle.tcap_record.specs.declared.entry.Entry.{Entry}
 use Rattle.tcap_model.specs.World.{is_side}
-use Rattle.tcap_model.specs.Run.{where_so}
+use Rattle.tcap_model.specs.Run.{only_if}
 use Rattle.tcap_search.specs.SegmentEntries.{message_of, Line, are_of_one_end}
 use Rattle.tcap_search.specs.ProposedCertificate.{is_invoke_of, last_invoke, may_invoke, number_limit, Fated, components_at, invocation_at, is_answer_of, is_expiry_of, with_expiry}
 use Rattle.tcap_search.specs.Fates.{is_of, is_line_of}
@@ -36,18 +36,18 @@ use Rattle.tcap_search.specs.ListedExpiries.{pair_cmp}
 -- The last Invoke is that after the first component, or else the first.
 pub first_invoke : (id : ℤ) (place : ℕ) (c : Component) (more : List Component)
     → last_invoke id place (c ∷ more)
-    ≡ option_or (last_invoke id (place + 1) more) (where_so (is_invoke_of id c && nat_le place number_limit) (Some place))
+    ≡ option_or (last_invoke id (place + 1) more) (only_if (is_invoke_of id c && nat_le place number_limit) (Some place))
 first_invoke id place c more = by (last_invoke id (place + 1) more) refl
   where
     by : (o : Option ℕ) → last_invoke id (place + 1) more ≡ o
         → last_invoke id place (c ∷ more)
-        ≡ option_or o (where_so (is_invoke_of id c && nat_le place number_limit) (Some place))
+        ≡ option_or o (only_if (is_invoke_of id c && nat_le place number_limit) (Some place))
     by None at = rw at refl
     by (Some later) at = rw at refl
 
 -- the Invoke kept after these components
 abbrev pub kept_behind : Bool → ℕ → Option ℕ → Option (ℕ × ℕ) → Option (ℕ × ℕ)
-kept_behind here number invoked kept = option_or (where_so here (option_map (λ place. (number, place)) invoked)) kept
+kept_behind here number invoked kept = option_or (only_if here (option_map (λ place. (number, place)) invoked)) kept
 
 -- one more component
 pub invoke_step : (here : Bool) (number : ℕ) (id : ℤ) (components : List Component) (place : ℕ) (d : Component)
@@ -61,13 +61,13 @@ invoke_step here number id components place d kept within is =
   where
     first : last_invoke id place (drop place components)
         ≡ option_or (last_invoke id (place + 1) (drop (place + 1) components))
-        (where_so (is_invoke_of id d && nat_le place number_limit) (Some place))
+        (only_if (is_invoke_of id d && nat_le place number_limit) (Some place))
     first = at_drop_more (last_invoke id place) components place d within
         ∙ ap (λ (c : Component). last_invoke id place (c ∷ drop (place + 1) components)) (sym is)
         ∙ first_invoke id place d (drop (place + 1) components)
 
     by : (b : Bool) (o : Option ℕ) (c : Bool) → kept_behind b number o (cond (b && c) (Some (number, place)) kept)
-        ≡ kept_behind b number (option_or o (where_so c (Some place))) kept
+        ≡ kept_behind b number (option_or o (only_if c (Some place))) kept
     by false o c = refl
     by true (Some later) c = refl
     by true None true = refl
@@ -88,7 +88,7 @@ invoke_end here number id components place kept past =
 pub entry_step : (e : Entry) (number : ℕ) (side s : Side) (transaction t : ℕ) (id : ℤ) (kept : Option (ℕ × ℕ))
     → e.side ≡ Some side → may_invoke (message_of e) ≡ true
     → kept_behind (t == transaction && is_side s side) number (last_invoke id 0 (components_of e)) kept
-    ≡ option_or (where_so (is_of s t e (Some transaction)) (invoked_by number e id)) kept
+    ≡ option_or (only_if (is_of s t e (Some transaction)) (invoked_by number e id)) kept
 entry_step e number side s transaction t id kept is may =
     rw (is, may) (ap (λ (b : Bool). kept_behind b number (last_invoke id 0 (components_of e)) kept)
     (and_swap (t == transaction) (is_side s side)))
@@ -109,10 +109,10 @@ invocation_is id x = rw (components_are x) refl
 
 pub invoked_more : (lines : List Line) (x : Line) (t : ℕ) (s : Side) (id : ℤ)
     → invoked_in (lines ++ x ∷ []) t s id
-    ≡ option_or (where_so (is_line_of s t x) (invoked_by x.number x.entry id)) (invoked_in lines t s id)
+    ≡ option_or (only_if (is_line_of s t x) (invoked_by x.number x.entry id)) (invoked_in lines t s id)
 invoked_more lines x t s id =
-    given_more (λ y. where_so (is_line_of s t y) (invocation_at id y)) lines x
-    ∙ ap (λ (o : Option (ℕ × ℕ)). option_or (where_so (is_line_of s t x) o) (invoked_in lines t s id))
+    given_more (λ y. only_if (is_line_of s t y) (invocation_at id y)) lines x
+    ∙ ap (λ (o : Option (ℕ × ℕ)). option_or (only_if (is_line_of s t x) o) (invoked_in lines t s id))
     (invocation_is id x)
 
 -- ---- answers, with one more gap
@@ -132,7 +132,7 @@ is_answering is_result t s id y = answers is_result t s id y.line.entry y.line.t
 -- the last answer delivered in a gap below a limit
 abbrev pub answered_in : List Line → List Fated → ℕ → Bool → ℕ → Side → ℤ → Option Answer
 answered_in lines all limit is_result t s id =
-    last_given (λ y. where_so (is_in_gap_below limit y.fate && is_answering is_result t s id y)
+    last_given (λ y. only_if (is_in_gap_below limit y.fate && is_answering is_result t s id y)
     (answer_with lines t s id y.fate)) all
 
 -- An answer is a component of a message, and all answers to an end are from its peer.
@@ -164,7 +164,7 @@ is_of_end s t e (Some u) is = (and_parts (is_entry_of s e.side) (t == u) is).0
 module _ (lines : List Line) (gap : ℕ) (is_result : Bool) (t : ℕ) (s : Side) (id : ℤ) where
   -- the answer delivered in a gap below this limit
   below : ℕ → Fated → Option Answer
-  below limit y = where_so (is_in_gap_below limit y.fate && is_answering is_result t s id y)
+  below limit y = only_if (is_in_gap_below limit y.fate && is_answering is_result t s id y)
       (answer_with lines t s id y.fate)
 
   -- whether y is an answer delivered in this gap
@@ -174,7 +174,7 @@ module _ (lines : List Line) (gap : ℕ) (is_result : Bool) (t : ℕ) (s : Side)
   answer : Answer
   answer = answer_at gap (invoked_in (take gap lines) t s id)
 
-  where_false : (b : Bool) (o : Option Answer) → b ≡ false → where_so b o ≡ None
+  where_false : (b : Bool) (o : Option Answer) → b ≡ false → only_if b o ≡ None
   where_false b o is = rw is refl
 
   -- After an answer in this gap, no answer of its end is delivered in an earlier gap.
@@ -194,7 +194,7 @@ module _ (lines : List Line) (gap : ℕ) (is_result : Bool) (t : ℕ) (s : Side)
           (list_any (is_answer_of is_result id) (components_of z.line.entry)) is).0)
 
       by : (f : Fate) → y.fate ≡ f → (b : Bool) → is_answering is_result t s id y ≡ b
-          → where_so (is_in_gap_below gap f && b) (answer_with lines t s id f) ≡ None
+          → only_if (is_in_gap_below gap f && b) (answer_with lines t s id f) ≡ None
       by Lost at b answers_y = refl
       by (By reply) at b answers_y = refl
       by (Gap h) at false answers_y = where_false (nat_lt h gap && false) (answer_with lines t s id (Gap h))
@@ -220,8 +220,8 @@ module _ (lines : List Line) (gap : ℕ) (is_result : Bool) (t : ℕ) (s : Side)
   not_here x is = by x.fate (is_answering is_result t s id x) is
     where
       by : (f : Fate) (b : Bool) → (is_gap gap f && b) ≡ false
-          → where_so (is_in_gap_below (gap + 1) f && b) (answer_with lines t s id f)
-          ≡ where_so (is_in_gap_below gap f && b) (answer_with lines t s id f)
+          → only_if (is_in_gap_below (gap + 1) f && b) (answer_with lines t s id f)
+          ≡ only_if (is_in_gap_below gap f && b) (answer_with lines t s id f)
       by Lost b is = refl
       by (By reply) b is = refl
       by (Gap h) false is = rw (and_false (nat_lt h (gap + 1)), and_false (nat_lt h gap)) refl

@@ -17,10 +17,10 @@ use Rattle.tcap_end.specs.Table.{octets_cmp}
 use Rattle.tcap_record.specs.Ends.{other, is_entry_of}
 use Rattle.tcap_certificate.specs.declared.certificate.Fate.{Fate}
 use Rattle.tcap_certificate.specs.declared.certificate.Fate.TheVariants.{Gap, Lost}
-use Rattle.tcap_search.specs.declared.unanswered.Spoken.{Spoken}
+use Rattle.tcap_search.specs.declared.unanswered.UsedIds.{UsedIds}
 use Rattle.tcap_search.specs.SegmentEntries.{Line, lines_of, message_of}
-use Rattle.tcap_search.specs.ProposedCertificate.{Fated, fate_unanswered, fated, goes_on_from, is_gap, is_unanswered, speaks_to, without_unanswered}
-use Rattle.tcap_search.specs.UnansweredIds.{IsSpoken, fate_heard, unanswered_by}
+use Rattle.tcap_search.specs.ProposedCertificate.{Fated, fate_unanswered, fated, goes_on_from, is_gap, is_unanswered, is_sent_to_id, without_unanswered}
+use Rattle.tcap_search.specs.UnansweredIds.{AreUsedIds, fate_unless_unanswered, unanswered_by}
 use Rattle.tcap_search.proofs.FateSteps.{entry_here, fate_here}
 use Rattle.tcap_search.proofs.TestLaws.{same_id}
 use Rattle.tcap_search.proofs.LineLaws.{count_lines, entries_of_lines, line_at}
@@ -44,15 +44,15 @@ set_more id old new puts key =
     by false false = refl
 
 -- the IDs of entries, with one more
-pub spoken_more : (side : Side) (entries : List Entry) (i : ℕ) (old new : Spoken) (e : Entry) → i < length entries
-    → e ≡ get_or entries i e → IsSpoken side (take i entries) old
+pub spoken_more : (side : Side) (entries : List Entry) (i : ℕ) (old new : UsedIds) (e : Entry) → i < length entries
+    → e ≡ get_or entries i e → AreUsedIds side (take i entries) old
     → ((id : List ℕ) → set.contains octets_cmp new.to id
-    ≡ (set.contains octets_cmp old.to id || speaks_to side id e))
+    ≡ (set.contains octets_cmp old.to id || is_sent_to_id side id e))
     → ((id : List ℕ) → set.contains octets_cmp new.from id
     ≡ (set.contains octets_cmp old.from id || goes_on_from side id e))
-    → IsSpoken side (take (i + 1) entries) new
+    → AreUsedIds side (take (i + 1) entries) new
 spoken_more side entries i old new e within is so_far to from = record {
-  to = λ id. to id ∙ ap (λ (b : Bool). b || speaks_to side id e) (so_far.to id) ∙ one_more (speaks_to side id);
+  to = λ id. to id ∙ ap (λ (b : Bool). b || is_sent_to_id side id e) (so_far.to id) ∙ one_more (is_sent_to_id side id);
   from = λ id. from id ∙ ap (λ (b : Bool). b || goes_on_from side id e) (so_far.from id)
       ∙ one_more (goes_on_from side id);
 }
@@ -72,9 +72,9 @@ pub any_line : (test : Entry → Bool) (entries : List Entry)
     → list_any (λ y. test y.entry) (lines_of entries) ≡ list_any test entries
 any_line test entries = any_entry test (lines_of entries) ∙ ap (list_any test) (entries_of_lines entries)
 
-module _ (side : Side) (entries : List Entry) (s : Spoken) (is : IsSpoken side entries s) where
-  to_is : (id : List ℕ) → set.contains octets_cmp s.to id ≡ list_any (λ y. speaks_to side id y.entry) (lines_of entries)
-  to_is id = is.to id ∙ sym (any_line (speaks_to side id) entries)
+module _ (side : Side) (entries : List Entry) (s : UsedIds) (is : AreUsedIds side entries s) where
+  to_is : (id : List ℕ) → set.contains octets_cmp s.to id ≡ list_any (λ y. is_sent_to_id side id y.entry) (lines_of entries)
+  to_is id = is.to id ∙ sym (any_line (is_sent_to_id side id) entries)
 
   from_is : (id : List ℕ)
       → set.contains octets_cmp s.from id ≡ list_any (λ y. goes_on_from side id y.entry) (lines_of entries)
@@ -90,7 +90,7 @@ module _ (side : Side) (entries : List Entry) (s : Spoken) (is : IsSpoken side e
   unanswered_is (Some (Abort dtid reason)) = refl
 
   -- The fate found is that of the line.
-  heard_is : (x : Fated) → fate_heard s side x.line.entry x.fate ≡ fate_unanswered side (lines_of entries) x
+  heard_is : (x : Fated) → fate_unless_unanswered s side x.line.entry x.fate ≡ fate_unanswered side (lines_of entries) x
   heard_is x =
       ap (λ (b : Bool). cond (is_gap x.fate && is_entry_of (other side) x.line.entry.side && b) Lost x.fate)
       (unanswered_is (message_of x.line.entry))
@@ -111,12 +111,12 @@ module _ (side : Side) (entries : List Entry) (s : Spoken) (is : IsSpoken side e
     -- one more entry
     pub heard_step : (i : ℕ) (e : Entry) (heard : List Fate) → i < length entries → e ≡ get_or entries i e
         → heard ≡ map fate_so (take i all)
-        → heard ++ fate_heard s side e (get_or fates i (Gap 0)) ∷ [] ≡ map fate_so (take (i + 1) all)
+        → heard ++ fate_unless_unanswered s side e (get_or fates i (Gap 0)) ∷ [] ≡ map fate_so (take (i + 1) all)
     heard_step i e heard within is_entry so_far =
         let d : Fated = record { line = line_at i e None; fate = Gap 0 } in
         let here : Fated = get_or all i d in
-        let heard_here : fate_heard s side e (get_or fates i (Gap 0)) ≡ fate_so here =
-        ap₂ (fate_heard s side) (sym (entry_here entries fates counted i (i + 1) refl within e is_entry))
+        let heard_here : fate_unless_unanswered s side e (get_or fates i (Gap 0)) ≡ fate_so here =
+        ap₂ (fate_unless_unanswered s side) (sym (entry_here entries fates counted i (i + 1) refl within e is_entry))
         (sym (fate_here entries fates counted i (i + 1) refl within e is_entry))
         ∙ heard_is here in
         ap₂ (λ (fs : List Fate) (f : Fate). fs ++ f ∷ []) so_far heard_here

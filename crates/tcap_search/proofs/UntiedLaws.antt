@@ -21,7 +21,7 @@ use Rattle.std.proofs.lemmas.List.Folds.{list_any-append}
 use Rattle.tcap_msg.specs.declared.message.AbortReason.TheVariants as reasons
 use Rattle.tcap_msg.specs.declared.message.Message.{Message}
 use Rattle.tcap_msg.specs.declared.message.Message.TheVariants.{Unidirectional, Begin, Continue, End, Abort}
-use Rattle.tcap_search.specs.Aborts.{aborts_by_provider}
+use Rattle.tcap_search.specs.ProviderAborts.{aborts_by_provider}
 use Rattle.tcap_search.specs.SegmentLists.{AreTies}
 use Rattle.tcap_search.proofs.UnansweredLaws.{any_line}
 

@@ -10,7 +10,7 @@ use Rattle.tcap_certificate.specs.declared.certificate.Fate.TheVariants.{Gap}
 use Rattle.tcap_search.specs.declared.leasts.Leasts.{Leasts}
 use Rattle.tcap_search.specs.LeastNumbers.{is_below, is_within, least_at}
 use Rattle.tcap_search.specs.SegmentEntries.{Line, message_of}
-use Rattle.tcap_search.specs.ProposedCertificate.{Fated, is_closing_of, is_continue, is_end_or_abort, was_ended, was_told}
+use Rattle.tcap_search.specs.ProposedCertificate.{Fated, is_closing_of, is_continue, is_end_or_abort, was_ended, was_end_delivered}
 
 -- both values, if there are both
 abbrev pub both_of : {A B : Type 0} → Option A → Option B → Option (A × B)
@@ -21,13 +21,13 @@ both_of _ _ = None
 abbrev pub shown_by : List Fated → List Line → ℕ → Option Line → Option (Side × ℕ)
 shown_by all lines reply None = None
 shown_by all lines reply (Some x) =
-    cond (is_continue (message_of x.entry) && not (was_ended lines x reply) && not (was_told all x reply))
+    cond (is_continue (message_of x.entry) && not (was_ended lines x reply) && not (was_end_delivered all x reply))
     (both_of (option_map other x.entry.side) x.transaction) None
 
 -- the gap in which an End or an Abort with this fate is delivered
-abbrev pub gap_told : Option Message → Fate → Option ℕ
-gap_told message (Gap gap) = cond (is_end_or_abort message) (Some gap) None
-gap_told message _ = None
+abbrev pub end_delivery_gap : Option Message → Fate → Option ℕ
+end_delivery_gap message (Gap gap) = cond (is_end_or_abort message) (Some gap) None
+end_delivery_gap message _ = None
 
 -- For each end and transaction below `count`, the first entry among these lines that ends it is kept.
 abbrev pub KeepsEnded : ℕ → List Line → Leasts → Type 0
@@ -36,10 +36,10 @@ KeepsEnded count lines ended =
     → transaction < count → is_below limit (least_at (other side) transaction ended) ≡ was_ended lines x limit
 
 -- For each end and transaction below `count`, the first gap in which its End or Abort is delivered is kept.
-abbrev pub KeepsTold : ℕ → List Fated → Leasts → Type 0
-KeepsTold count all told =
+abbrev pub KeepsDelivered : ℕ → List Fated → Leasts → Type 0
+KeepsDelivered count all told =
     (x : Line) (side : Side) (transaction limit : ℕ) → x.entry.side ≡ Some side → x.transaction ≡ Some transaction
-    → transaction < count → is_within limit (least_at side transaction told) ≡ was_told all x limit
+    → transaction < count → is_within limit (least_at side transaction told) ≡ was_end_delivered all x limit
 
 -- For each end and transaction below `count`, a number is kept if and only if its closing is listed.
 abbrev pub KeepsListed : ℕ → List Closing → Leasts → Type 0

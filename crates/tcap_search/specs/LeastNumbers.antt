@@ -2,13 +2,13 @@
 use Rattle.std.specs.Prelude.{◌≡◌, ℕ, Bool, false, length, slice_get, Option, Some, None, ◌==◌, nat_lt, nat_le, min}
 use Rattle.tcap_record.specs.declared.entry.End.{End as Side}
 use Rattle.tcap_record.specs.declared.entry.End.TheVariants as sides
-use Rattle.tcap_model.specs.Run.{then_so}
+use Rattle.tcap_model.specs.Run.{option_then}
 use Rattle.tcap_search.specs.declared.leasts.Leasts.{Leasts}
 
 -- the least number noted, if there is one
 abbrev pub least_at : Side → ℕ → Leasts → Option ℕ
-least_at sides.A transaction l = then_so (slice_get l.a.items transaction) (λ least. least)
-least_at sides.B transaction l = then_so (slice_get l.b.items transaction) (λ least. least)
+least_at sides.A transaction l = option_then (slice_get l.a.items transaction) (λ least. least)
+least_at sides.B transaction l = option_then (slice_get l.b.items transaction) (λ least. least)
 
 -- There is room for this many transactions.
 abbrev pub HasRoom : ℕ → Leasts → Type 0

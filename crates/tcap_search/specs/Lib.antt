@@ -1,4 +1,4 @@
-pub mod Aborts
+pub mod ProviderAborts
 pub mod InvocationMap
 pub mod Candidates
 pub mod GapDeliveries

@@ -8,7 +8,7 @@ use Rattle.tcap_parts.specs.declared.component.Component.{Component}
 use Rattle.tcap_record.specs.declared.entry.End.{End as Side}
 use Rattle.tcap_record.specs.declared.entry.Entry.{Entry}
 use Rattle.tcap_certificate.specs.declared.certificate.Expiry.{Expiry}
-use Rattle.tcap_search.specs.declared.expiries.Listed.{Listed}
+use Rattle.tcap_search.specs.declared.expiries.ExpiryList.{ExpiryList}
 use Rattle.tcap_search.specs.declared.sweep.Answer.{Answer}
 use Rattle.tcap_search.specs.ProposedCertificate.{is_expiry_of, unrecognized, with_expiry}
 use Rattle.tcap_search.specs.Sweep.{components_of}
@@ -18,7 +18,7 @@ abbrev pub pair_cmp : ℕ × ℕ → ℕ × ℕ → Ordering
 pair_cmp k l = ordering_then (nat_cmp k.0 l.0) (nat_cmp k.1 l.1)
 
 -- The invocations kept as named are those of the listed expiries.
-abbrev pub IsListed : Listed → Type 0
+abbrev pub IsListed : ExpiryList → Type 0
 IsListed l = (entry component : ℕ)
     → contains pair_cmp l.named (entry, component) ≡ list_any (is_expiry_of (entry, component)) l.expiries.items
 

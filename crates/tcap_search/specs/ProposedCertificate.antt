@@ -22,7 +22,7 @@ use Rattle.tcap_record.specs.declared.entry.Entry.{Entry}
 use Rattle.tcap_end.specs.End.{is_id}
 use Rattle.tcap_record.specs.Ends.{other, is_entry_of}
 use Rattle.tcap_model.specs.World.{is_side}
-use Rattle.tcap_model.specs.Run.{then_so, where_so}
+use Rattle.tcap_model.specs.Run.{option_then, only_if}
 use Rattle.tcap_certificate.specs.Certificate.{Certificate}
 use Rattle.tcap_certificate.specs.declared.certificate.Closing.{Closing}
 use Rattle.tcap_certificate.specs.declared.certificate.Expiry.{Expiry}
@@ -30,7 +30,7 @@ use Rattle.tcap_certificate.specs.declared.certificate.Fate.{Fate}
 use Rattle.tcap_certificate.specs.declared.certificate.Fate.TheVariants.{Gap, Lost, By}
 use Rattle.tcap_certificate.specs.Replay.{is_later, time_of}
 use Rattle.tcap_search.specs.declared.tie.Tie.{Tie}
-use Rattle.tcap_search.specs.SegmentEntries.{Line, are_of_one_end, is_asked_from, is_from, is_of_peer, last, lines_of, message_of, share_transaction}
+use Rattle.tcap_search.specs.SegmentEntries.{Line, are_of_one_end, is_peer_message_from, is_from, is_of_peer, last, lines_of, message_of, share_transaction}
 
 -- ---- 1. Ties: the messages that providers' Aborts answer (Q.774 3.3)
 
@@ -47,7 +47,8 @@ is_tied ties x = list_any (λ t. t.entry == x.number) ties
 -- the last earlier untied entry of the peer from this ID that an Abort of this cause answers
 abbrev pub answered_line : List Line → List Tie → Entry → List ℕ → ℕ → Option Line
 answered_line earlier ties abort id cause =
-    last (λ x. is_asked_from abort id x.entry && is_answered_by cause (message_of x.entry) && not (is_tied ties x))
+    last (λ x. is_peer_message_from abort id x.entry && is_answered_by cause (message_of x.entry)
+    && not (is_tied ties x))
     earlier
 
 -- the ties with that of this Abort, if it has a cause and answers an entry
@@ -173,8 +174,8 @@ is_to id e = by (message_of e)
     by (Some message) = is_id id (dtid_in message)
 
 -- whether the entry is a message of this end to this ID
-abbrev pub speaks_to : Side → List ℕ → Entry → Bool
-speaks_to side id e = is_entry_of side e.side && is_to id e
+abbrev pub is_sent_to_id : Side → List ℕ → Entry → Bool
+is_sent_to_id side id e = is_entry_of side e.side && is_to id e
 
 -- whether the entry is a Continue of this end from this ID
 abbrev pub goes_on_from : Side → List ℕ → Entry → Bool
@@ -185,9 +186,10 @@ goes_on_from side id e = is_entry_of side e.side && is_continue (message_of e) &
 -- be open at the mark.
 abbrev pub is_unanswered : Side → List Line → Option Message → Bool
 is_unanswered side lines (Some (Begin otid dialogue components)) =
-    not (list_any (λ y. speaks_to side otid y.entry) lines)
+    not (list_any (λ y. is_sent_to_id side otid y.entry) lines)
 is_unanswered side lines (Some (Continue otid dtid dialogue components)) =
-    not (list_any (λ y. speaks_to side otid y.entry) lines) && not (list_any (λ y. goes_on_from side dtid y.entry) lines)
+    not (list_any (λ y. is_sent_to_id side otid y.entry) lines)
+    && not (list_any (λ y. goes_on_from side dtid y.entry) lines)
 is_unanswered side lines _ = false
 
 -- Such a message of the peer is lost, unless an Abort takes it.
@@ -237,8 +239,8 @@ is_invoke_of id _ = false
 
 -- the invoke ID that a Reject with problem unrecognizedInvokeID (0) names, and whether it rejects a Return Result
 abbrev pub unrecognized : Component → Option (Bool × ℤ)
-unrecognized (Reject (Some id) (problems.ReturnResult n)) = where_so (n == 0) (Some (true, id))
-unrecognized (Reject (Some id) (problems.ReturnError n)) = where_so (n == 0) (Some (false, id))
+unrecognized (Reject (Some id) (problems.ReturnResult n)) = only_if (n == 0) (Some (true, id))
+unrecognized (Reject (Some id) (problems.ReturnError n)) = only_if (n == 0) (Some (false, id))
 unrecognized _ = None
 
 -- the components of a line's message
@@ -284,7 +286,7 @@ last_invoke id place (c ∷ more) = by (last_invoke id (place + 1) more)
   where
     by : Option ℕ → Option ℕ
     by (Some later) = Some later
-    by None = where_so (is_invoke_of id c && nat_le place number_limit) (Some place)
+    by None = only_if (is_invoke_of id c && nat_le place number_limit) (Some place)
 
 -- the invocation of an ID by a line: the line's number, and the place of its last Invoke of the ID
 abbrev pub invocation_at : ℤ → Line → Option (ℕ × ℕ)
@@ -294,7 +296,7 @@ invocation_at id x = cond (may_invoke (message_of x.entry))
 -- the last Invoke of the ID in a Begin or a Continue of the same end in the transaction, before this number
 abbrev pub last_invocation : List Line → Line → ℤ → ℕ → Option (ℕ × ℕ)
 last_invocation lines x id number =
-    then_so
+    option_then
     (last
     (λ y. nat_lt y.number number && are_of_one_end x.entry y.entry && share_transaction x y
     && is_some (invocation_at id y))
@@ -322,7 +324,7 @@ expiry_in lines x listed id (Some gap) = with_expiry listed x.entry.side gap (la
 abbrev pub expiry_by : List Fated → List Line → Line → List Expiry → Option (Bool × ℤ) → List Expiry
 expiry_by all lines x listed None = listed
 expiry_by all lines x listed (Some (is_result, id)) =
-    expiry_in lines x listed id (then_so (rejected_line all x (is_result, id)) (λ y. gap_in y.fate))
+    expiry_in lines x listed id (option_then (rejected_line all x (is_result, id)) (λ y. gap_in y.fate))
 
 -- the list after these components of a line, in order
 abbrev pub expiries_by : List Fated → List Line → Line → List Expiry → List Component → List Expiry
@@ -362,8 +364,8 @@ was_ended lines x reply =
     lines
 
 -- whether an End or an Abort from the sender of the Continue was delivered before
-abbrev pub was_told : List Fated → Line → ℕ → Bool
-was_told all x reply =
+abbrev pub was_end_delivered : List Fated → Line → ℕ → Bool
+was_end_delivered all x reply =
     list_any
     (λ y. are_of_one_end x.entry y.line.entry && share_transaction x y.line && is_end_or_abort (message_of y.line.entry)
     && is_delivered_by reply y.fate)
@@ -385,7 +387,7 @@ with_closing listed _ gap _ = listed
 abbrev pub closing_by : List Fated → List Line → List Closing → ℕ → Option Line → List Closing
 closing_by all lines listed reply None = listed
 closing_by all lines listed reply (Some x) =
-    cond (is_continue (message_of x.entry) && not (was_ended lines x reply) && not (was_told all x reply))
+    cond (is_continue (message_of x.entry) && not (was_ended lines x reply) && not (was_end_delivered all x reply))
     (with_closing listed (option_map other x.entry.side) reply x.transaction)
     listed
 
@@ -415,8 +417,8 @@ of_lines judged marked lines = record {
 }
 
 -- the certificate of the entries of a segment alone
-abbrev pub of_stretch : Option Side → Bool → List Entry → Certificate
-of_stretch judged marked entries = of_lines judged marked (lines_of entries)
+abbrev pub of_segment : Option Side → Bool → List Entry → Certificate
+of_segment judged marked entries = of_lines judged marked (lines_of entries)
 
 -- the same parts if `first` entries come before the segment
 abbrev pub fate_behind : ℕ → Fate → Fate
@@ -456,25 +458,25 @@ is_mark _ = false
 -- the segments with this entry at the front of the first
 abbrev pub with_entry : Entry → List (List Entry) → List (List Entry)
 with_entry e [] = (e ∷ []) ∷ []
-with_entry e (stretch ∷ more) = (e ∷ stretch) ∷ more
+with_entry e (segment ∷ more) = (e ∷ segment) ∷ more
 
 -- the segments before, between and after the quiet marks
-abbrev pub stretches : List Entry → List (List Entry)
-stretches [] = [] ∷ []
-stretches (e ∷ entries) = cond (is_mark e.body) ([] ∷ stretches entries) (with_entry e (stretches entries))
+abbrev pub segments : List Entry → List (List Entry)
+segments [] = [] ∷ []
+segments (e ∷ entries) = cond (is_mark e.body) ([] ∷ segments entries) (with_entry e (segments entries))
 
 -- The certificate of these segments, after `first` entries. A quiet mark follows each segment but the last.
-abbrev pub of_stretches : Option Side → ℕ → List (List Entry) → Certificate
-of_stretches judged first [] = record { fates = []; expire = []; close = [] }
-of_stretches judged first (stretch ∷ []) = behind first (of_stretch judged false stretch)
-of_stretches judged first (stretch ∷ next ∷ more) =
-    then_certificate (behind first (of_stretch judged true stretch))
-    (then_certificate (of_mark (first + length stretch))
-    (of_stretches judged (first + length stretch + 1) (next ∷ more)))
+abbrev pub of_segments : Option Side → ℕ → List (List Entry) → Certificate
+of_segments judged first [] = record { fates = []; expire = []; close = [] }
+of_segments judged first (segment ∷ []) = behind first (of_segment judged false segment)
+of_segments judged first (segment ∷ next ∷ more) =
+    then_certificate (behind first (of_segment judged true segment))
+    (then_certificate (of_mark (first + length segment))
+    (of_segments judged (first + length segment + 1) (next ∷ more)))
 
 -- the certificate proposed for both ends, or for one alone
 abbrev pub proposed_by : Option Side → List Entry → Certificate
-proposed_by judged entries = of_stretches judged 0 (stretches entries)
+proposed_by judged entries = of_segments judged 0 (segments entries)
 
 -- the certificate proposed for both ends
 abbrev pub proposed : List Entry → Certificate

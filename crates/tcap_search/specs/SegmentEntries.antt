@@ -11,12 +11,12 @@ use Rattle.tcap_record.specs.declared.entry.End.{End as Side}
 use Rattle.tcap_record.specs.declared.entry.Entry.{Entry}
 use Rattle.tcap_end.specs.End.{is_id}
 use Rattle.tcap_record.specs.Ends.{is_entry_of, other}
-use Rattle.tcap_model.specs.Run.{then_so, where_so}
+use Rattle.tcap_model.specs.Run.{option_then, only_if}
 
 -- the last element that passes a test
 abbrev pub last : {A : Type 0} → (A → Bool) → List A → Option A
 last passes [] = None
-last passes (a ∷ more) = option_or (last passes more) (where_so (passes a) (Some a))
+last passes (a ∷ more) = option_or (last passes more) (only_if (passes a) (Some a))
 
 -- ---- entries
 
@@ -54,8 +54,8 @@ is_from id e = by (message_of e)
     by (Some message) = is_id id (otid_in message)
 
 -- whether entry f is a message from the peer of e's sender, from this originating ID
-abbrev pub is_asked_from : Entry → List ℕ → Entry → Bool
-is_asked_from e id f = is_of_peer e f && is_from id f
+abbrev pub is_peer_message_from : Entry → List ℕ → Entry → Bool
+is_peer_message_from e id f = is_of_peer e f && is_from id f
 
 -- ---- transactions
 
@@ -68,7 +68,8 @@ pub record Line : Type 0 where
 -- the transaction of the last earlier entry of the peer from this ID
 abbrev pub transaction_from : List Line → Entry → Option (List ℕ) → Option ℕ
 transaction_from earlier e None = None
-transaction_from earlier e (Some id) = then_so (last (λ f. is_asked_from e id f.entry) earlier) (λ f. f.transaction)
+transaction_from earlier e (Some id) =
+    option_then (last (λ f. is_peer_message_from e id f.entry) earlier) (λ f. f.transaction)
 
 -- The transaction of a Begin is its number. A message with a destination ID has the transaction of the last earlier
 -- entry of the peer from this ID. Other entries have none.

@@ -9,7 +9,7 @@ use Rattle.tcap_msg.specs.Parts.{components_in}
 use Rattle.tcap_record.specs.declared.entry.End.{End as Side}
 use Rattle.tcap_record.specs.declared.entry.Entry.{Entry}
 use Rattle.tcap_record.specs.Ends.{other}
-use Rattle.tcap_model.specs.Run.{where_so}
+use Rattle.tcap_model.specs.Run.{only_if}
 use Rattle.tcap_search.specs.declared.sweep.Answer.{Answer}
 use Rattle.tcap_search.specs.declared.sweep.Sweep.{Sweep}
 use Rattle.tcap_search.specs.SegmentEntries.{Line, message_of}
@@ -41,7 +41,7 @@ invoked_by number e id = cond (may_invoke (message_of e))
 -- the last Invoke of the ID in those of these lines that are from this end and in this transaction
 abbrev pub invoked_in : List Line → ℕ → Side → ℤ → Option (ℕ × ℕ)
 invoked_in lines transaction side id =
-    last_given (λ y. where_so (is_line_of side transaction y) (invocation_at id y)) lines
+    last_given (λ y. only_if (is_line_of side transaction y) (invocation_at id y)) lines
 
 -- ---- answers
 

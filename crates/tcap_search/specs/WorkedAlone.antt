@@ -24,16 +24,17 @@ pub data Verdict : Type 0 where
   AtFault : Verdict
 
 -- The certificate proposed for this end gives this result.
-abbrev Says : Table → Side → List Entry → Verdict → Type 0
-Says table side entries (Heard count) =
+abbrev HasVerdict : Table → Side → List Entry → Verdict → Type 0
+HasVerdict table side entries (Heard count) =
     map_ok (unheard_of side) (replayed_by (Some side) table (proposed_for side entries) entries) ≡ Ok count
-Says table side entries (Unheard entry reason) =
+HasVerdict table side entries (Unheard entry reason) =
     replayed_by (Some side) table (proposed_for side entries) entries ≡ refused reason entry
-Says table side entries AtFault = Unit {0}
+HasVerdict table side entries AtFault = Unit {0}
 
 -- the results for A and for B
 abbrev pub IsAlone : Table → List Item → Verdict → Verdict → Type 0
-IsAlone table items of_a of_b = Says table A (map entry_of items) of_a × Says table B (map entry_of items) of_b
+IsAlone table items of_a of_b =
+    HasVerdict table A (map entry_of items) of_a × HasVerdict table B (map entry_of items) of_b
 
 -- A sends a Continue in a half that it began before the peer's Continue arrived. B did not hear A's last message.
 pub first_is_at_fault : IsAlone all_expire

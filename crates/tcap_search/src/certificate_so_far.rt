@@ -5,16 +5,16 @@ ghost use Rattle.std.specs.List.{AllByRecursion};
 ghost use Rattle.tcap_record.specs.declared.entry.End.{End as Side};
 ghost use Rattle.tcap_certificate.specs.Certificate.{ClosingFits, ExpiryFits, FateFits};
 ghost use Rattle.tcap_search.specs.SegmentEntries.{lines_of};
-ghost use Rattle.tcap_search.specs.ProposedCertificate.{behind, closing_behind, expiry_behind, fate_behind, of_mark, of_stretch, then_certificate};
+ghost use Rattle.tcap_search.specs.ProposedCertificate.{behind, closing_behind, expiry_behind, fate_behind, of_mark, of_segment, then_certificate};
 ghost use Rattle.tcap_search.specs.CertificateSoFar.{FitsBehind, nothing_found, or_both};
 ghost use Rattle.tcap_search.specs.SegmentLists.{AreFates, AreTies, AreTransactions};
 
 use crate::closings::closings_of;
 use crate::expiries::expiries_of;
 use crate::fates::fates_of;
-use crate::lines::transactions_of;
 use crate::tie::Tie;
 use crate::ties::ties_of;
+use crate::transactions::transactions_of;
 use std::alloc::{AllocError, Global};
 use std::marker::Model;
 use tcap_certificate::{Certificate, Closing, Expiry, Fate};
@@ -22,13 +22,13 @@ use tcap_record::{End, Entry};
 
 /// A certificate for the segments so far, whose numbers are within the limits of a certificate.
 #[derive(Drop)]
-pub(crate) struct Found {
+pub(crate) struct PartialCertificate {
     fates: Vec<Fate>,
     expire: Vec<Expiry>,
     close: Vec<Closing>,
 }
 
-impl Model for Found {
+impl Model for PartialCertificate {
     ghost use Rattle.std.specs.List.{AllByRecursion};
     ghost use Rattle.tcap_certificate.specs.Certificate.{Certificate as Meant};
     ghost use Rattle.tcap_certificate.specs.Certificate.{ClosingFits, ExpiryFits, FateFits};
@@ -117,12 +117,12 @@ fn add_closings(close: &mut Vec<Closing>, first: u32, more: &[Closing]) -> Resul
     Ok(())
 }
 
-impl Found {
+impl PartialCertificate {
     /// Creates an empty certificate.
-    pub(crate) fn new(alloc: Global) -> Found
+    pub(crate) fn new(alloc: Global) -> PartialCertificate
         ensures { result ≡ nothing_found }
     {
-        Found {
+        PartialCertificate {
             fates: Vec::new(alloc),
             expire: Vec::new(alloc),
             close: Vec::new(alloc),
@@ -136,17 +136,17 @@ impl Found {
         transactions: &[Option<u32>],
         ties: &[Tie],
         fates: Vec<Fate>,
-    ) -> Result<Found, AllocError>
+    ) -> Result<PartialCertificate, AllocError>
         requires few { length entries.now ≤ 100000 }
         requires transactions { AreTransactions entries.now transactions.now }
         requires ties { AreTies entries.now ties.now }
         requires fates { (judged : Option Side) × (marked : Bool) × AreFates judged marked entries.now fates.items }
         ensures { IfOk result (λ found. (judged : Option Side) (marked : Bool)
-            → AreFates judged marked entries.now fates.items → found ≡ of_stretch judged marked entries.now) }
+            → AreFates judged marked entries.now fates.items → found ≡ of_segment judged marked entries.now) }
     {
         let expire = expiries_of(alloc, entries, transactions, &fates)?;
         let close = closings_of(alloc, entries, transactions, ties, &fates)?;
-        Ok(Found {
+        Ok(PartialCertificate {
             fates,
             expire,
             close,
@@ -155,21 +155,21 @@ impl Found {
 
     /// Finds the certificate of a segment with these transactions and ties, for the judged end alone or for both;
     /// `marked` says whether a mark follows the segment. Fails if memory runs out.
-    pub(crate) fn of_stretch(
+    pub(crate) fn of_segment(
         alloc: Global,
         judged: Option<End>,
         marked: bool,
         entries: &[Entry],
         transactions: &[Option<u32>],
         ties: &[Tie],
-    ) -> Result<Found, AllocError>
+    ) -> Result<PartialCertificate, AllocError>
         requires few { length entries.now ≤ 100000 }
         requires transactions { AreTransactions entries.now transactions.now }
         requires ties { AreTies entries.now ties.now }
-        ensures { IfOk result (λ found. found ≡ of_stretch judged marked entries.now) }
+        ensures { IfOk result (λ found. found ≡ of_segment judged marked entries.now) }
     {
         let fates = fates_of(alloc, judged, marked, entries, transactions, ties)?;
-        Found::of_fates(alloc, entries, transactions, ties, fates)
+        PartialCertificate::of_fates(alloc, entries, transactions, ties, fates)
     }
 
     /// Finds the certificate of a segment for one end alone, or returns `None` if its fates are those for both ends,
@@ -182,55 +182,66 @@ impl Found {
         entries: &[Entry],
         transactions: &[Option<u32>],
         ties: &[Tie],
-    ) -> Result<Option<Found>, AllocError>
+    ) -> Result<Option<PartialCertificate>, AllocError>
         requires few { length entries.now ≤ 100000 }
         requires transactions { AreTransactions entries.now transactions.now }
         requires ties { AreTies entries.now ties.now }
-        requires both { self.now ≡ of_stretch None marked entries.now }
-        ensures { IfOk result (λ found. or_both self.now found ≡ of_stretch (Some side) marked entries.now) }
+        requires both { self.now ≡ of_segment None marked entries.now }
+        ensures { IfOk result (λ found. or_both self.now found ≡ of_segment (Some side) marked entries.now) }
     {
         let fates = fates_of(alloc, Some(side), marked, entries, transactions, ties)?;
         if fates == self.fates {
             return Ok(None);
         }
-        Ok(Some(Found::of_fates(alloc, entries, transactions, ties, fates)?))
+        Ok(Some(PartialCertificate::of_fates(alloc, entries, transactions, ties, fates)?))
     }
 
     /// Appends the certificate of a segment after `first` entries. Fails if memory runs out.
-    pub(crate) fn with_behind(self, first: usize, stretch: &Found) -> Result<Found, AllocError>
+    pub(crate) fn with_behind(
+        self,
+        first: usize,
+        segment: &PartialCertificate,
+    ) -> Result<PartialCertificate, AllocError>
         requires few { first ≤ 100000 }
-        requires fits { FitsBehind first stretch.now }
-        ensures { IfOk result (λ found. found ≡ then_certificate self (behind first stretch.now)) }
+        requires fits { FitsBehind first segment.now }
+        ensures { IfOk result (λ found. found ≡ then_certificate self (behind first segment.now)) }
     {
         let mut found = self;
-        add_fates(&mut found.fates, first as u32, &stretch.fates)?;
-        add_expiries(&mut found.expire, first as u32, &stretch.expire)?;
-        add_closings(&mut found.close, first as u32, &stretch.close)?;
+        add_fates(&mut found.fates, first as u32, &segment.fates)?;
+        add_expiries(&mut found.expire, first as u32, &segment.expire)?;
+        add_closings(&mut found.close, first as u32, &segment.close)?;
         Ok(found)
     }
 
     /// Finds and appends the certificate of a segment after `first` entries, for the judged end alone or for both;
     /// `marked` says whether a mark follows the segment. Fails if memory runs out.
-    pub(crate) fn with_stretch(
+    pub(crate) fn with_segment(
         self,
         alloc: Global,
         judged: Option<End>,
         marked: bool,
         first: usize,
         entries: &[Entry],
-    ) -> Result<Found, AllocError>
+    ) -> Result<PartialCertificate, AllocError>
         requires few { first + length entries.now ≤ 100000 }
         ensures { IfOk result (λ found. found
-            ≡ then_certificate self (behind first (of_stretch judged marked entries.now))) }
+            ≡ then_certificate self (behind first (of_segment judged marked entries.now))) }
     {
         let transactions = transactions_of(alloc, entries)?;
         let ties = ties_of(alloc, entries)?;
-        let stretch = Found::of_stretch(alloc, judged, marked, entries, &transactions, &ties)?;
-        self.with_behind(first, &stretch)
+        let segment = PartialCertificate::of_segment(
+            alloc,
+            judged,
+            marked,
+            entries,
+            &transactions,
+            &ties,
+        )?;
+        self.with_behind(first, &segment)
     }
 
     /// Appends the fate of a quiet mark with this number. Fails if memory runs out.
-    pub(crate) fn with_mark(self, number: usize) -> Result<Found, AllocError>
+    pub(crate) fn with_mark(self, number: usize) -> Result<PartialCertificate, AllocError>
         requires few { number + 1 ≤ 100000 }
         ensures { IfOk result (λ found. found ≡ then_certificate self (of_mark number)) }
     {
@@ -240,7 +251,7 @@ impl Found {
     }
 
     /// Returns whether both have equal parts.
-    pub(crate) fn is_same(&self, other: &Found) -> bool
+    pub(crate) fn is_same(&self, other: &PartialCertificate) -> bool
         ensures { result ≡ true → self.now ≡ other.now }
     {
         self.fates == other.fates && self.expire == other.expire && self.close == other.close

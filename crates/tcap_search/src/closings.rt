@@ -5,7 +5,7 @@ ghost use Rattle.tcap_record.specs.Ends.{other};
 ghost use Rattle.tcap_search.specs.LeastNumbers.{is_below, is_within, least_at};
 ghost use Rattle.tcap_search.specs.SegmentEntries.{lines_of, message_of};
 ghost use Rattle.tcap_search.specs.ProposedCertificate.{Fated, closings_of, ends, fated, is_continue, ties_of};
-ghost use Rattle.tcap_search.specs.ClosedByTie.{KeepsEnded, KeepsTold, gap_told, shown_by};
+ghost use Rattle.tcap_search.specs.ClosedByTie.{KeepsEnded, KeepsDelivered, end_delivery_gap, shown_by};
 ghost use Rattle.tcap_search.specs.SegmentLists.{AreTies, AreTransactions};
 
 use crate::leasts::Leasts;
@@ -37,8 +37,8 @@ fn ends(entry: &Entry) -> bool
 }
 
 /// Returns the gap in which an End or an Abort is delivered. Returns `None` for other entries, or if it is lost.
-fn gap_told(entry: &Entry, fate: Fate) -> Option<u32>
-    ensures { result ≡ gap_told (message_of entry.now) fate }
+fn end_delivery_gap(entry: &Entry, fate: Fate) -> Option<u32>
+    ensures { result ≡ end_delivery_gap (message_of entry.now) fate }
 {
     match (message_of(entry)?, fate) {
         (Message::End { .. } | Message::Abort { .. }, Fate::Gap(gap)) => Some(gap),
@@ -82,11 +82,11 @@ fn told_of(
 ) -> Result<Leasts, AllocError>
     requires transactions { AreTransactions entries.now transactions.now }
     requires count { length fates.now ≡ length entries.now }
-    ensures { IfOk result (λ told. KeepsTold (length entries.now) (fated (lines_of entries.now) fates.now) told) }
+    ensures { IfOk result (λ told. KeepsDelivered (length entries.now) (fated (lines_of entries.now) fates.now) told) }
 {
     let mut told = Leasts::new(alloc, entries.len())?;
     for (number, entry) in entries.iter().enumerate() {
-        if let Some(gap) = gap_told(entry, fates[number]) {
+        if let Some(gap) = end_delivery_gap(entry, fates[number]) {
             told.note(entry.side, transactions[number], gap);
         }
     }
@@ -95,7 +95,7 @@ fn told_of(
 
 /// Returns whether the Abort that answers an entry shows that a half had closed. The entry is then a Continue, its
 /// receiver had not ended the transaction before the Abort, and no End or Abort of its sender was delivered before.
-fn is_unseen(
+fn shows_closing(
     entry: &Entry,
     side: End,
     transaction: u32,
@@ -122,13 +122,13 @@ fn shown_by(
 ) -> Option<(End, u32)>
     requires transactions { AreTransactions entries.now transactions.now }
     requires ended { KeepsEnded (length entries.now) (lines_of entries.now) ended.now }
-    ensures { (all : List Fated) → KeepsTold (length entries.now) all told.now
+    ensures { (all : List Fated) → KeepsDelivered (length entries.now) all told.now
         → result ≡ shown_by all (lines_of entries.now) tie.now.reply (slice_get (lines_of entries.now) tie.now.entry) }
 {
     let entry = entries.get(tie.entry as usize)?;
     let side = entry.side?;
     let transaction = transactions[tie.entry as usize]?;
-    if is_unseen(entry, side, transaction, ended, told, tie.reply) {
+    if shows_closing(entry, side, transaction, ended, told, tie.reply) {
         Some((side.other(), transaction))
     } else {
         None

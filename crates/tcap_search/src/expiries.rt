@@ -21,18 +21,18 @@ use tcap_record::{End, Entry};
 
 /// The listed expiries, and the invocations that they name: the number of an entry, and the place of its Invoke.
 #[derive(Drop)]
-pub(crate) struct Listed {
+pub(crate) struct ExpiryList {
     expiries: Vec<Expiry>,
     named: BTreeSet<(u32, u32)>,
 }
 
-impl Listed {
+impl ExpiryList {
     /// Creates an empty list.
-    fn new(alloc: Global) -> Listed
+    fn new(alloc: Global) -> ExpiryList
         ensures none { result.expiries.items ≡ [] }
         ensures listed { IsListed result }
     {
-        Listed {
+        ExpiryList {
             expiries: Vec::new(alloc),
             named: BTreeSet::new(alloc),
         }
@@ -193,14 +193,14 @@ fn swept_expiries(
 {
     let due = due_by_gap(alloc, fates)?;
     let mut sweep = Sweep::new(alloc);
-    let mut listed = Listed::new(alloc);
+    let mut listed = ExpiryList::new(alloc);
     for (number, entry) in entries.iter().enumerate() {
         let transaction = transactions[number];
         sweep.deliver_all(number as u32, due_at(&due, number), entries, transactions)?;
         listed.add_entry(&sweep, entry, transaction)?;
         sweep.note_entry(number as u32, entry, transaction)?;
     }
-    let Listed { expiries, .. } = listed;
+    let ExpiryList { expiries, .. } = listed;
     Ok(expiries)
 }
 

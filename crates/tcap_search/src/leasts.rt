@@ -2,7 +2,7 @@
 
 ghost use Rattle.std.specs.Prelude.{◌≡◌, ◌<◌, ◌&&◌, ◌==◌, ℕ, None, cond, length, slice_get, IfOk};
 ghost use Rattle.tcap_record.specs.declared.entry.End.{End as Side};
-ghost use Rattle.tcap_model.specs.Run.{then_so};
+ghost use Rattle.tcap_model.specs.Run.{option_then};
 ghost use Rattle.tcap_search.specs.LeastNumbers.{HasRoom, is_below, is_transaction, is_within, least_at, lesser};
 ghost use Rattle.tcap_record.specs.Ends.{is_entry_of};
 
@@ -18,7 +18,7 @@ pub(crate) struct Leasts {
 
 /// Creates a list for `count` transactions without a number. Fails if memory runs out.
 fn nothing(alloc: Global, count: usize) -> Result<Vec<Option<u32>>, AllocError>
-    ensures nothing { IfOk result (λ made. (at : ℕ) → then_so (slice_get made.items at) (λ least. least) ≡ None) }
+    ensures nothing { IfOk result (λ made. (at : ℕ) → option_then (slice_get made.items at) (λ least. least) ≡ None) }
     ensures room { IfOk result (λ made. length made.items ≡ count) }
 {
     let mut list = Vec::new(alloc);
@@ -29,9 +29,9 @@ fn nothing(alloc: Global, count: usize) -> Result<Vec<Option<u32>>, AllocError>
 /// Notes a number for a transaction, if there is room for the transaction.
 fn note_in(list: &mut Vec<Option<u32>>, transaction: u32, number: u32)
     ensures noted { (at : ℕ) → at < length list.old.items
-        → then_so (slice_get list.new.items at) (λ least. least)
-        ≡ cond (at == transaction) (lesser number (then_so (slice_get list.old.items at) (λ least. least)))
-        (then_so (slice_get list.old.items at) (λ least. least)) }
+        → option_then (slice_get list.new.items at) (λ least. least)
+        ≡ cond (at == transaction) (lesser number (option_then (slice_get list.old.items at) (λ least. least)))
+        (option_then (slice_get list.old.items at) (λ least. least)) }
     ensures room { length list.new.items ≡ length list.old.items }
 {
     if let Some(least) = list.get_mut(transaction as usize) {

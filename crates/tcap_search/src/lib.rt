@@ -10,13 +10,13 @@ mod end_values;
 mod expiries;
 mod fates;
 mod leasts;
-mod lines;
 mod proposals;
 mod searching;
 mod stacks;
 mod sweep;
 mod tie;
 mod ties;
+mod transactions;
 mod unanswered;
 pub mod worked;
 

@@ -3,7 +3,7 @@
 ghost use Rattle.std.specs.Prelude.{◌≡◌, ◌≤◌, ◌+◌, length, IfOk};
 ghost use Rattle.tcap_search.specs.ProposedCertificate.{is_mark, proposed, proposed_by, proposed_for};
 
-use crate::certificate_so_far::Found;
+use crate::certificate_so_far::PartialCertificate;
 use std::alloc::{AllocError, Global};
 use tcap_certificate::Certificate;
 use tcap_record::{Body, End, Entry, Record};
@@ -18,22 +18,26 @@ pub(crate) fn is_mark(entry: &Entry) -> bool
 
 /// Finds the certificate of these entries, segment by segment, for the judged end alone or for both. Fails if memory
 /// runs out.
-fn found_in(alloc: Global, judged: Option<End>, entries: &[Entry]) -> Result<Found, AllocError>
+fn found_in(
+    alloc: Global,
+    judged: Option<End>,
+    entries: &[Entry],
+) -> Result<PartialCertificate, AllocError>
     requires few { length entries.now ≤ 100000 }
     ensures { IfOk result (λ found.
         (found ≡ proposed_by judged entries.now) × (length found.fates ≡ length entries.now)) }
 {
-    let mut found = Found::new(alloc);
+    let mut found = PartialCertificate::new(alloc);
     let mut first = 0;
     for (number, entry) in entries.iter().enumerate() {
         if is_mark(entry) {
             found = found
-                .with_stretch(alloc, judged, true, first, &entries[first..number])?
+                .with_segment(alloc, judged, true, first, &entries[first..number])?
                 .with_mark(number)?;
             first = number + 1;
         }
     }
-    found.with_stretch(alloc, judged, false, first, &entries[first..])
+    found.with_segment(alloc, judged, false, first, &entries[first..])
 }
 
 /// Proposes a certificate for these entries, for the judged end alone or for both. Fails if memory runs out.

@@ -6,7 +6,7 @@ ghost use Rattle.std.specs.List.{list_any};
 ghost use Rattle.tcap_record.specs.declared.entry.End.{End as Side};
 ghost use Rattle.tcap_msg.specs.Parts.{items_of};
 ghost use Rattle.tcap_model.specs.World.{is_side};
-ghost use Rattle.tcap_model.specs.Run.{where_so};
+ghost use Rattle.tcap_model.specs.Run.{only_if};
 ghost use Rattle.tcap_search.specs.SegmentEntries.{message_of};
 ghost use Rattle.tcap_search.specs.ProposedCertificate.{is_answer_of, is_invoke_of, last_invoke, may_invoke, number_limit, unrecognized};
 ghost use Rattle.tcap_search.specs.InvocationMap.{kept_at};
@@ -252,7 +252,7 @@ impl Sweep {
         components: &[Component],
     ) -> Result<(), AllocError>
         ensures noted { OnOk result ((t : ℕ) (s : Side) (id : ℤ) → kept_at t s id self.new.invokes
-            ≡ option_or (where_so (t == transaction && is_side s side)
+            ≡ option_or (only_if (t == transaction && is_side s side)
             (option_map (λ place. (number, place)) (last_invoke id 0 components.now)))
             (kept_at t s id self.old.invokes)) }
         ensures results { self.new.results ≡ self.old.results }
@@ -272,7 +272,7 @@ impl Sweep {
         transaction: Option<u32>,
     ) -> Result<(), AllocError>
         ensures noted { OnOk result ((t : ℕ) (s : Side) (id : ℤ) → kept_at t s id self.new.invokes
-            ≡ option_or (where_so (is_of s t entry.now transaction) (invoked_by number entry.now id))
+            ≡ option_or (only_if (is_of s t entry.now transaction) (invoked_by number entry.now id))
             (kept_at t s id self.old.invokes)) }
         ensures results { self.new.results ≡ self.old.results }
         ensures errors { self.new.errors ≡ self.old.errors }

@@ -3,7 +3,7 @@
 ghost use Rattle.std.specs.Prelude.{◌≡◌, ◌≤◌, [], length, reverse, IfOk};
 ghost use Rattle.std.specs.List.{list_any};
 ghost use Rattle.tcap_search.specs.Candidates.{AreUntied};
-ghost use Rattle.tcap_search.specs.Aborts.{aborts_by_provider};
+ghost use Rattle.tcap_search.specs.ProviderAborts.{aborts_by_provider};
 ghost use Rattle.tcap_search.specs.SegmentEntries.{lines_of};
 ghost use Rattle.tcap_search.specs.SegmentLists.{AreTies};
 

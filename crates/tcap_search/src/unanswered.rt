@@ -8,8 +8,8 @@ ghost use Rattle.tcap_end.specs.End.{is_id};
 ghost use Rattle.tcap_end.specs.Table.{octets_cmp};
 ghost use Rattle.tcap_search.specs.SegmentEntries.{lines_of, message_of};
 ghost use Rattle.tcap_record.specs.Ends.{is_entry_of};
-ghost use Rattle.tcap_search.specs.ProposedCertificate.{fated, goes_on_from, speaks_to, without_unanswered};
-ghost use Rattle.tcap_search.specs.UnansweredIds.{IsSpoken, continued_from, fate_heard, unanswered_by};
+ghost use Rattle.tcap_search.specs.ProposedCertificate.{fated, goes_on_from, is_sent_to_id, without_unanswered};
+ghost use Rattle.tcap_search.specs.UnansweredIds.{AreUsedIds, continued_from, fate_unless_unanswered, unanswered_by};
 
 use std::alloc::{AllocError, Global};
 use std::collections::BTreeSet;
@@ -19,7 +19,7 @@ use tcap_record::{Body, End, Entry};
 
 /// The IDs to which an end sent messages, and those from which it sent Continues.
 #[derive(Drop)]
-pub(crate) struct Spoken {
+pub(crate) struct UsedIds {
     pub(crate) to: BTreeSet<TransactionId>,
     pub(crate) from: BTreeSet<TransactionId>,
 }
@@ -58,12 +58,12 @@ fn is_entry_of(side: End, sender: Option<End>) -> bool
     }
 }
 
-impl Spoken {
+impl UsedIds {
     /// Creates empty sets, before the first entry.
-    fn new(alloc: Global) -> Spoken
-        ensures { (side : Side) → IsSpoken side [] result }
+    fn new(alloc: Global) -> UsedIds
+        ensures { (side : Side) → AreUsedIds side [] result }
     {
-        Spoken {
+        UsedIds {
             to: BTreeSet::new(alloc),
             from: BTreeSet::new(alloc),
         }
@@ -72,7 +72,7 @@ impl Spoken {
     /// Notes the IDs of an entry, if this end sent it. Fails if memory runs out.
     fn note(&mut self, side: End, entry: &Entry) -> Result<(), AllocError>
         ensures to { OnOk result ((id : List ℕ) → set.contains octets_cmp self.new.to id
-            ≡ set.contains octets_cmp self.old.to id || speaks_to side id entry.now) }
+            ≡ set.contains octets_cmp self.old.to id || is_sent_to_id side id entry.now) }
         ensures from { OnOk result ((id : List ℕ) → set.contains octets_cmp self.new.from id
             ≡ set.contains octets_cmp self.old.from id || goes_on_from side id entry.now) }
     {
@@ -87,10 +87,10 @@ impl Spoken {
     }
 
     /// Collects the IDs of the messages that an end sent. Fails if memory runs out.
-    fn of(alloc: Global, side: End, entries: &[Entry]) -> Result<Spoken, AllocError>
-        ensures { IfOk result (λ spoken. IsSpoken side entries.now spoken) }
+    fn of(alloc: Global, side: End, entries: &[Entry]) -> Result<UsedIds, AllocError>
+        ensures { IfOk result (λ spoken. AreUsedIds side entries.now spoken) }
     {
-        let mut spoken = Spoken::new(alloc);
+        let mut spoken = UsedIds::new(alloc);
         for entry in entries {
             spoken.note(side, entry)?;
         }
@@ -112,7 +112,7 @@ impl Spoken {
 
     /// Returns the fate of an entry, by these IDs of the judged end.
     fn fate_heard(&self, side: End, entry: &Entry, fate: Fate) -> Fate
-        ensures { result ≡ fate_heard self.now side entry.now fate }
+        ensures { result ≡ fate_unless_unanswered self.now side entry.now fate }
     {
         match fate {
             Fate::Gap(_) if is_entry_of(side.other(), entry.side) && self.is_unanswered(entry) => {
@@ -134,7 +134,7 @@ fn heard_by(
     ensures { IfOk result (λ heard. heard.items ≡ map (λ x. x.fate)
         (without_unanswered (Some side) true (lines_of entries.now) (fated (lines_of entries.now) fates.now))) }
 {
-    let spoken = Spoken::of(alloc, side, entries)?;
+    let spoken = UsedIds::of(alloc, side, entries)?;
     let mut heard = Vec::new(alloc);
     for (number, entry) in entries.iter().enumerate() {
         heard.push(spoken.fate_heard(side, entry, fates[number]))?;

@@ -6,18 +6,18 @@ use tcap_ber::Counted;
 use tcap_books::Book;
 use tcap_dialogues::Reuse;
 use tcap_end::Table;
-use tcap_explain::{Asked, run_explain};
+use tcap_explain::{ExplainOptions, run_explain};
 use tcap_judge::{blame_record, blame_status, run_blame, run_check, run_judge};
 use tcap_lines::{Status, WriteFailed, run_pack, run_show};
 use tcap_record::{End, read_record};
-use tcap_report::{Asked as AskedOfTrace, Sinks, Stop, Sum, Watch, run_trace};
+use tcap_report::{Sinks, Stop, Sum, TraceOptions, Watch, run_trace};
 use tcap_traces::Verdict;
 
 /// An observer that ignores all progress.
 #[derive(Drop)]
-struct Nobody;
+struct NoWatch;
 
-impl Watch for Nobody {
+impl Watch for NoWatch {
     fn look(&mut self, _sum: &Sum) {}
 }
 
@@ -56,8 +56,8 @@ fn blame_of(alloc: Global, octets: &[u8], table: &Table) -> Option<Status> {
 }
 
 /// Returns the options for judging both ends of a trace with this table set.
-fn asked_by(book: &Book) -> AskedOfTrace<'_> {
-    AskedOfTrace {
+fn asked_by(book: &Book) -> TraceOptions<'_> {
+    TraceOptions {
         name: "trace",
         of: None,
         reuse: Reuse::Again(10_000),
@@ -68,8 +68,8 @@ fn asked_by(book: &Book) -> AskedOfTrace<'_> {
 }
 
 /// Judges a trace of lines. Returns the verdict and the printed text.
-fn said_of(alloc: Global, lines: &[u8], asked: AskedOfTrace) -> Result<(Verdict, Vec<u8>), Stop> {
-    let (mut text, mut watch, mut sum) = (Counted::new(Vec::new(alloc)), Nobody, Sum::new());
+fn said_of(alloc: Global, lines: &[u8], asked: TraceOptions) -> Result<(Verdict, Vec<u8>), Stop> {
+    let (mut text, mut watch, mut sum) = (Counted::new(Vec::new(alloc)), NoWatch, Sum::new());
     let mut nowhere: Option<Counted<Vec<u8>>> = None;
     let json = nowhere.as_mut();
     let mut sinks = Sinks {
@@ -161,7 +161,7 @@ impl Answers {
         let mut writer = Counted::new(Vec::new(alloc));
         let mut table = Counted::new(TABLE.as_bytes());
         let mut chart = String::new(alloc);
-        let asked = Asked {
+        let asked = ExplainOptions {
             judged: None,
             with_chart: false,
         };

@@ -13,8 +13,8 @@ use Rattle.tcap_judge.specs.declared.outcome.Outcome.TheVariants as outcomes
 use Rattle.tcap_judge.specs.BlameOutcome.{finding, finding_by, items_before}
 use Rattle.tcap_judge.specs.Verdict.{verdict_for}
 use Rattle.tcap_traces.specs.declared.end_result.Circumstances.{Circumstances}
-use Rattle.tcap_traces.specs.declared.end_result.Said.{Said}
-use Rattle.tcap_traces.specs.Verdict.{found_before, no_message_at, said_by, said_of}
+use Rattle.tcap_traces.specs.declared.end_result.EndResult.{EndResult}
+use Rattle.tcap_traces.specs.Verdict.{found_before, no_message_at, result_by, result_of}
 
 -- ---- an end that is not blamed: the number of entries before the first that is no message
 
@@ -64,8 +64,8 @@ module _ (n all : ℕ) where
 -- ---- results
 
 module _ (table : Table) (c : Circumstances) (entries : List Entry) (side : Side) where
-  abbrev with_number : Finding → Option ℕ → Said
-  with_number found number = said_by table c side entries found (found_before table entries side number)
+  abbrev with_number : Finding → Option ℕ → EndResult
+  with_number found number = result_by table c side entries found (found_before table entries side number)
 
   with_behind : (count all : ℕ) (a b : Finding) → number_in count a ≡ count → number_in count b ≡ count
       → with_number a (option_or (no_message_at a all) (no_message_at b all)) ≡ with_number a (no_message_at a all)
@@ -86,7 +86,7 @@ module _ (table : Table) (c : Circumstances) (entries now : List Entry) (a b : F
   pub says_of_a : now ≡ entries → a ≡ finding table entries sides.A → b ≡ finding table entries sides.B
       → number ≡ option_or (no_message_at a (length entries)) (no_message_at b (length entries))
       → (earlier : Option Finding) → earlier ≡ found_before table entries sides.A number
-      → said_by table c sides.A now a earlier ≡ said_of table c entries sides.A
+      → result_by table c sides.A now a earlier ≡ result_of table c entries sides.A
   says_of_a stays of_a of_b is earlier is_earlier =
       rw (is_earlier, is, stays, of_a, of_b)
       (with_behind table c entries sides.A (items_before (map item_of entries)) (length entries)
@@ -97,7 +97,7 @@ module _ (table : Table) (c : Circumstances) (entries now : List Entry) (a b : F
   pub says_of_b : now ≡ entries → a ≡ finding table entries sides.A → b ≡ finding table entries sides.B
       → number ≡ option_or (no_message_at a (length entries)) (no_message_at b (length entries))
       → (earlier : Option Finding) → earlier ≡ found_before table entries sides.B number
-      → said_by table c sides.B now b earlier ≡ said_of table c entries sides.B
+      → result_by table c sides.B now b earlier ≡ result_of table c entries sides.B
   says_of_b stays of_a of_b is earlier is_earlier =
       rw (is_earlier, is, stays, of_a, of_b)
       (with_before table c entries sides.B (items_before (map item_of entries)) (length entries)

@@ -20,10 +20,10 @@ use Rattle.tcap_judge.specs.Verdict.{proposed_by, verdict_by}
 use Rattle.tcap_judge.proofs.BlamedLaws.{are_lawful}
 use Rattle.tcap_traces.specs.declared.end_result.Circumstances.{Circumstances}
 use Rattle.tcap_traces.specs.declared.end_result.Doubt.{Doubt}
-use Rattle.tcap_traces.specs.declared.end_result.Said.{Said}
-use Rattle.tcap_traces.specs.declared.end_result.Said.TheVariants as saids
-use Rattle.tcap_traces.specs.ResultMeaning.{IsFoundBefore, IsSo, MayHaveSentUnheard}
-use Rattle.tcap_traces.specs.Verdict.{doubt_of, fails, found_before, is_of, no_message_at, passes, said_before, said_by}
+use Rattle.tcap_traces.specs.declared.end_result.EndResult.{EndResult}
+use Rattle.tcap_traces.specs.declared.end_result.EndResult.TheVariants as end_results
+use Rattle.tcap_traces.specs.ResultMeaning.{IsFoundBefore, IsTrueResult, MayHaveSentUnheard}
+use Rattle.tcap_traces.specs.Verdict.{doubt_of, fails, found_before, is_of, no_message_at, passes, result_before, result_by}
 use Rattle.tcap_traces.proofs.JudgingLaws.{counted, number_in, or_before, or_behind}
 
 -- ---- blame
@@ -49,10 +49,10 @@ named_is table entries side =
 module _ (table : Table) (c : Circumstances) (entries : List Entry) (side : Side) where
   passes_so : (under_way early_mark cut unsure over : Bool) (unheard : ℕ)
       → MayHaveSentUnheard side table entries unheard
-      → IsSo side table entries
-      (cond under_way saids.UnderWay
-      (cond early_mark saids.EarlyMark
-      (cond cut saids.TooLong (cond unsure saids.UnsureTable (cond over saids.Open (saids.Pass unheard))))))
+      → IsTrueResult side table entries
+      (cond under_way end_results.UnderWay
+      (cond early_mark end_results.EarlyMark
+      (cond cut end_results.TooLong (cond unsure end_results.UnsureTable (cond over end_results.Open (end_results.Pass unheard))))))
   passes_so true early_mark cut unsure over unheard may = (unheard, may)
   passes_so false true cut unsure over unheard may = (unheard, may)
   passes_so false false true unsure over unheard may = (unheard, may)
@@ -61,18 +61,18 @@ module _ (table : Table) (c : Circumstances) (entries : List Entry) (side : Side
   passes_so false false false false false unheard may = may
 
   fails_so : (r : Refutation) (doubt : Option Doubt) → IsAtFaultOf table side entries r
-      → IsSo side table entries (fails r doubt)
+      → IsTrueResult side table entries (fails r doubt)
   fails_so r None at_fault = at_fault
   fails_so r (Some doubt) at_fault = at_fault
 
   behind_so : (number unheard : ℕ) (own : Bool) → list_any (is_of side) (drop number entries) ≡ own
       → AreLawfulUnheard (Some side) table (take number entries) unheard
-      → IsSo side table entries (cond own (saids.Behind number) (passes c unheard))
+      → IsTrueResult side table entries (cond own (end_results.AfterBadEntry number) (passes c unheard))
   behind_so number unheard true is lawful = are_lawful (Some side) table (take number entries) unheard lawful
   behind_so number unheard false is lawful = passes_so c.under_way c.early_mark c.cut c.unsure c.open unheard (inr (number, lawful, is))
 
   before_so : (number : ℕ) (earlier : Option Finding) → IsFoundBefore side table entries (Some number) earlier
-      → IsSo side table entries (said_before c side entries number earlier)
+      → IsTrueResult side table entries (result_before c side entries number earlier)
   before_so number None so = tt
   before_so number (Some (Blamed r)) so = tt
   before_so number (Some (NotBlamed n)) so = tt
@@ -84,7 +84,7 @@ module _ (table : Table) (c : Circumstances) (entries : List Entry) (side : Side
       → (found : Finding) → found ≡ finding table entries side → IsFound side table entries found
       → (earlier : Option Finding)
       → ((n : ℕ) → found ≡ NotBlamed n → IsFoundBefore side table entries (Some n) earlier)
-      → IsSo side table entries (said_by table c side entries found earlier)
+      → IsTrueResult side table entries (result_by table c side entries found earlier)
   said_so at_fault (Blamed r) is so earlier are =
       fails_so r (doubt_of table c side entries r)
       (at_fault r (sym (named_is table entries side) ∙ sym (ap named_in is)))
@@ -132,10 +132,10 @@ module _ (at_fault : (table : Table) (side : Side) (entries : List Entry) (r : R
       → number ≡ option_or (no_message_at a (length entries)) (no_message_at b (length entries))
       → (earlier : Option Finding) → earlier ≡ found_before table entries sides.A number
       → IsFoundBefore sides.A table entries number earlier
-      → (said : Said) → said ≡ said_by table c sides.A now a earlier → IsSo sides.A table entries said
+      → (said : EndResult) → said ≡ result_by table c sides.A now a earlier → IsTrueResult sides.A table entries said
   so_of_a stays of_a of_b so is earlier is_earlier earlier_so said said_is =
-      subst (IsSo sides.A table entries)
-      (sym (said_is ∙ ap (λ es. said_by table c sides.A es a earlier) stays))
+      subst (IsTrueResult sides.A table entries)
+      (sym (said_is ∙ ap (λ es. result_by table c sides.A es a earlier) stays))
       (said_so table c entries sides.A (at_fault table sides.A entries) a of_a so earlier
       (first_so table entries sides.A earlier (items_before (map item_of entries)) (length entries) a b
       (ap (number_in (items_before (map item_of entries))) of_a ∙ counted table entries sides.A)
@@ -149,10 +149,10 @@ module _ (at_fault : (table : Table) (side : Side) (entries : List Entry) (r : R
       → number ≡ option_or (no_message_at a (length entries)) (no_message_at b (length entries))
       → (earlier : Option Finding) → earlier ≡ found_before table entries sides.B number
       → IsFoundBefore sides.B table entries number earlier
-      → (said : Said) → said ≡ said_by table c sides.B now b earlier → IsSo sides.B table entries said
+      → (said : EndResult) → said ≡ result_by table c sides.B now b earlier → IsTrueResult sides.B table entries said
   so_of_b stays of_a of_b so is earlier is_earlier earlier_so said said_is =
-      subst (IsSo sides.B table entries)
-      (sym (said_is ∙ ap (λ es. said_by table c sides.B es b earlier) stays))
+      subst (IsTrueResult sides.B table entries)
+      (sym (said_is ∙ ap (λ es. result_by table c sides.B es b earlier) stays))
       (said_so table c entries sides.B (at_fault table sides.B entries) b of_b so earlier
       (second_so table entries sides.B earlier (items_before (map item_of entries)) (length entries) a b
       (ap (number_in (items_before (map item_of entries))) of_a ∙ counted table entries sides.A)

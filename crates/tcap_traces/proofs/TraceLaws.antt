@@ -15,7 +15,7 @@ use Rattle.tcap_dialogues.specs.Course.{Course, Heading, bare, courses_of, has_e
 use Rattle.tcap_dialogues.specs.declared.reuse.Reuse.{Reuse}
 use Rattle.tcap_dialogues.specs.Part.{part_of}
 use Rattle.tcap_dialogues.proofs.CourseEnds.{course_keeps}
-use Rattle.tcap_dialogues.proofs.StretchLaws.{stretch_keeps}
+use Rattle.tcap_dialogues.proofs.StretchLaws.{segment_keeps}
 use Rattle.tcap_refute.specs.declared.kind.Refutation.{Refutation}
 use Rattle.tcap_refute.proofs.RefutedLaws.{are_oks, oks}
 use Rattle.tcap_faults.specs.BlameMeaning.{IsAtFaultOf}
@@ -85,4 +85,4 @@ fault_of_trace table side reuse items headings d n entries r unmarked bares has 
     let none : IsLawfulFor side (take (n + 1) items) table → ⊥ = λ lawful. not_sent table side entries
     (part_of (has_entry d) 0 (take (n + 1) items)) r up_to_it fault
     (course_keeps side reuse items headings table d n unmarked bares has anew of_it lawful) in
-    (none, λ earlier lawful. none (stretch_keeps table side earlier (take (n + 1) items) lawful))
+    (none, λ earlier lawful. none (segment_keeps table side earlier (take (n + 1) items) lawful))

@@ -1,17 +1,17 @@
 -- Which dialogue does a case describe, and what is asked of it?
 use Rattle.std.specs.Prelude.{ℕ, Bool, List, ◌||◌, Option, is_some, option_copied, option_map, slice_get}
 use Rattle.std.specs.BTreeSet.{BTreeSet}
-use Rattle.tcap_dialogues.specs.declared.complete_dialogue.Gathered.{Gathered}
+use Rattle.tcap_dialogues.specs.declared.complete_dialogue.CompleteDialogue.{CompleteDialogue}
 use Rattle.tcap_traces.specs.Pieces.{TraceEntry}
-use Rattle.tcap_traces.specs.declared.case.Behind.{Behind}
-use Rattle.tcap_traces.specs.declared.case.Behind.TheVariants as behinds
+use Rattle.tcap_traces.specs.declared.case.NextItem.{NextItem}
+use Rattle.tcap_traces.specs.declared.case.NextItem.TheVariants as behinds
 use Rattle.tcap_traces.specs.declared.case.Case.{Case}
-use Rattle.tcap_traces.specs.declared.table_choice.Chosen.{Chosen}
+use Rattle.tcap_traces.specs.declared.table_choice.ChosenTable.{ChosenTable}
 use Rattle.tcap_traces.specs.Dialogue.{After, Dialogue, EndAfter, FaultAfter, MarkAfter, More, Question}
 use Rattle.tcap_traces.specs.TableChoice.{Choice}
 
 -- what comes after the entries of a case
-abbrev pub after_of : Behind → After
+abbrev pub after_of : NextItem → After
 after_of behinds.More = More
 after_of (behinds.Mark line number) = MarkAfter
 after_of behinds.End = EndAfter
@@ -22,7 +22,7 @@ abbrev pub has_some : BTreeSet (List ℕ) → Bool
 has_some ids = is_some (slice_get ids.keys 0)
 
 -- a gathered dialogue with these entries, and with what the trace says of it
-abbrev pub gathered_as : Gathered → List TraceEntry → After → Option ℕ → Bool → Option ℕ → Dialogue
+abbrev pub gathered_as : CompleteDialogue → List TraceEntry → After → Option ℕ → Bool → Option ℕ → Dialogue
 gathered_as g entries after under_way in_use unread = record {
   entries = entries;
   numbers = g.numbers.items;
@@ -46,7 +46,7 @@ abbrev pub question_in : Case → Question
 question_in case = record { of = case.rules.of; settled = case.rules.settled; complete = case.rules.complete }
 
 -- the choice of a table
-abbrev pub chosen_as : Chosen → Choice
+abbrev pub chosen_as : ChosenTable → Choice
 chosen_as chosen = record {
   table = option_copied chosen.table;
   context = option_map (λ octets. octets.items) chosen.context;

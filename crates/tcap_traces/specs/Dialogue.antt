@@ -21,7 +21,7 @@ use Rattle.tcap_traces.specs.declared.verdict.Verdict.{Verdict}
 use Rattle.tcap_traces.specs.declared.verdict.Verdict.TheVariants as verdicts
 use Rattle.tcap_traces.specs.Pieces.{TraceEntry}
 use Rattle.tcap_traces.specs.TableChoice.{Choice, choice}
-use Rattle.tcap_traces.specs.Verdict.{said_of, verdict_asked}
+use Rattle.tcap_traces.specs.Verdict.{result_of, verdict_asked}
 
 -- What comes after the entries of a dialogue: it is over, so that what follows does not matter; a quiet mark; the end of
 -- the trace; or a fault of the trace's form, which ends the trace.
@@ -166,7 +166,7 @@ circumstances q c d = record {
 -- the result for each end, judged by the table; None if the dialogue has no table
 abbrev pub ends_by : Option Table → Circumstances → List Entry → Option Ends
 ends_by None c entries = None
-ends_by (Some table) c entries = Some (record { a = said_of table c entries sides.A; b = said_of table c entries sides.B })
+ends_by (Some table) c entries = Some (record { a = result_of table c entries sides.A; b = result_of table c entries sides.B })
 
 -- the worse verdict of the ends that are asked; an error if there was no table
 abbrev pub verdict_by : Option Side → Option Ends → Verdict

@@ -8,9 +8,9 @@ use Rattle.tcap_record.specs.declared.entry.End.{End as Side}
 use Rattle.tcap_record.specs.Ends.{other}
 use Rattle.tcap_end.specs.Table.{octets_cmp}
 use Rattle.tcap_dialogues.specs.Course.{Heading, own_ids}
-use Rattle.tcap_dialogues.specs.Cut.{IdOf, is_among}
+use Rattle.tcap_dialogues.specs.DialoguesOfList.{IdOf, is_among}
 use Rattle.tcap_dialogues.specs.CutDialogues.{by_end}
-use Rattle.tcap_dialogues.specs.declared.complete_dialogue.Gathered.{Gathered}
+use Rattle.tcap_dialogues.specs.declared.complete_dialogue.CompleteDialogue.{CompleteDialogue}
 use Rattle.tcap_traces.specs.declared.before_marks.Before.{Before}
 use Rattle.tcap_traces.specs.declared.before_marks.BeforeMarks.{BeforeMarks}
 use Rattle.tcap_traces.specs.declared.before_marks.Change.{Change}
@@ -106,10 +106,10 @@ abbrev pub is_sent_to : BeforeMarks → Heading → Bool
 is_sent_to marks h = is_sent_from (by_end (other h.sender) marks.a marks.b) h.dtid
 
 -- The IDs of a dialogue are noted for both ends.
-abbrev pub Notes : Bool → Gathered → BeforeMarks → BeforeMarks → Type 0
+abbrev pub Notes : Bool → CompleteDialogue → BeforeMarks → BeforeMarks → Type 0
 Notes goes_on g old new = Changes goes_on g.a old.a new.a × Changes goes_on g.b old.b new.b
 
 -- Whether a dialogue seems to continue one from before the quiet mark, by the heading of its first entry and by its
 -- IDs.
-abbrev pub is_in_use : BeforeMarks → Heading → Gathered → Bool
+abbrev pub is_in_use : BeforeMarks → Heading → CompleteDialogue → Bool
 is_in_use marks first g = is_sent_to marks first || (has_open marks.a g.a || has_open marks.b g.b)

@@ -22,13 +22,13 @@ pub record Asked : Type 0 where
 
 -- A judged dialogue: the number of its first entry in the trace, counted from 0, quiet marks included; what the trace
 -- says of it; and the result for each end, or None if it has no table.
-pub record Judged : Type 0 where
+pub record JudgedDialogue : Type 0 where
   pub number : ℕ
   pub dialogue : Dialogue
   pub ends : Option Ends
 
 -- the verdict on it
-abbrev pub verdict_on : Asked → Judged → Verdict
+abbrev pub verdict_on : Asked → JudgedDialogue → Verdict
 verdict_on asked j = verdict_by asked.question.of j.ends
 
 -- ---- the dialogues that are judged
@@ -39,7 +39,7 @@ first_number [] = 0
 first_number (number ∷ numbers) = number
 
 -- a dialogue, judged; `count` entries and quiet marks come before its segment
-abbrev pub judged : Asked → ℕ → Dialogue → Judged
+abbrev pub judged : Asked → ℕ → Dialogue → JudgedDialogue
 judged asked count d = record {
   number = count + first_number d.numbers;
   dialogue = d;
@@ -57,7 +57,7 @@ is_fail verdict = false
 
 -- Whether a judged dialogue is reported and counted. One that is not over at a fault of the trace's form may lack
 -- entries, so it counts only if it fails by those that it has.
-abbrev pub is_reported : Asked → Judged → Bool
+abbrev pub is_reported : Asked → JudgedDialogue → Bool
 is_reported asked j = not (is_broken j.dialogue.after) || is_fail (verdict_on asked j)
 
 -- all dialogues of a segment
@@ -65,13 +65,13 @@ abbrev pub all_in : Courses → List Course
 all_in s = s.done ++ s.live
 
 -- the judged dialogues of a segment that are reported
-abbrev pub reported_in : Asked → Before → ℕ → Segment → List Judged
+abbrev pub reported_in : Asked → Before → ℕ → Segment → List JudgedDialogue
 reported_in asked before count s =
     filter (is_reported asked)
     (map (λ d. judged asked count (dialogue_of before s d)) (all_in (courses_in asked.reuse before s)))
 
 -- the judged dialogues of these segments that are reported
-abbrev pub reported_from : Asked → Before → ℕ → List Segment → List Judged
+abbrev pub reported_from : Asked → Before → ℕ → List Segment → List JudgedDialogue
 reported_from asked before count [] = []
 reported_from asked before count (s ∷ segments) =
     reported_in asked before count s
@@ -107,12 +107,12 @@ worst (verdict ∷ more) = worse verdict (worst more)
 -- What `test` says of a trace: the verdict, the dialogues that are reported, and the number of entries.
 pub record JudgedTrace : Type 0 where
   pub verdict : Verdict
-  pub dialogues : List Judged
+  pub dialogues : List JudgedDialogue
   pub messages : ℕ
 
 -- The verdict is the worst of the dialogues. It is an error if the form of the trace has a fault, if the trace says that
 -- it was broken off, or if no entry has a kind that can be read.
-abbrev pub judged_by : Asked → Pieces → List Segment → List Judged → JudgedTrace
+abbrev pub judged_by : Asked → Pieces → List Segment → List JudgedDialogue → JudgedTrace
 judged_by asked p segments dialogues = record {
   verdict = trace_verdict (is_some p.fault || list_any breaks_off p.pieces) (readable_in segments)
       (worst (map (verdict_on asked) dialogues));

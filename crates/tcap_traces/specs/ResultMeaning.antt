@@ -11,8 +11,8 @@ use Rattle.tcap_faults.specs.BlameMeaning.{IsAtFaultOf}
 use Rattle.tcap_judge.specs.declared.findings.Finding.{Finding}
 use Rattle.tcap_judge.specs.BlameOutcome.{IsFound}
 use Rattle.tcap_judge.specs.LawfulOutcome.{AreLawful, AreLawfulUnheard}
-use Rattle.tcap_traces.specs.declared.end_result.Said.{Said}
-use Rattle.tcap_traces.specs.declared.end_result.Said.TheVariants as saids
+use Rattle.tcap_traces.specs.declared.end_result.EndResult.{EndResult}
+use Rattle.tcap_traces.specs.declared.end_result.EndResult.TheVariants as end_results
 use Rattle.tcap_traces.specs.Verdict.{is_of}
 
 -- In some run the end keeps the rules, and this many messages of its peer are unheard. The run sends the entries, or
@@ -29,17 +29,17 @@ MayHaveSent side table entries = (unheard : ℕ) × MayHaveSentUnheard side tabl
 -- What the result says of the end holds. If it fails or is doubtful, the entry is at fault, no matter what its peer
 -- sends or what follows. If it passes, it may have sent its part with this many unheard messages. If only the
 -- circumstances keep it from passing, it may have sent its part with some number of unheard messages.
-abbrev pub IsSo : Side → Table → List Entry → Said → Type 0
-IsSo side table entries (saids.Pass unheard) = MayHaveSentUnheard side table entries unheard
-IsSo side table entries (saids.Fail r) = IsAtFaultOf table side entries r
-IsSo side table entries (saids.Doubtful r doubt) = IsAtFaultOf table side entries r
-IsSo side table entries saids.Undecided = Unit {0}
-IsSo side table entries (saids.Behind number) = AreLawful (Some side) table (take number entries)
-IsSo side table entries saids.UnderWay = MayHaveSent side table entries
-IsSo side table entries saids.EarlyMark = MayHaveSent side table entries
-IsSo side table entries saids.TooLong = MayHaveSent side table entries
-IsSo side table entries saids.UnsureTable = MayHaveSent side table entries
-IsSo side table entries saids.Open = MayHaveSent side table entries
+abbrev pub IsTrueResult : Side → Table → List Entry → EndResult → Type 0
+IsTrueResult side table entries (end_results.Pass unheard) = MayHaveSentUnheard side table entries unheard
+IsTrueResult side table entries (end_results.Fail r) = IsAtFaultOf table side entries r
+IsTrueResult side table entries (end_results.Doubtful r doubt) = IsAtFaultOf table side entries r
+IsTrueResult side table entries end_results.Undecided = Unit {0}
+IsTrueResult side table entries (end_results.AfterBadEntry number) = AreLawful (Some side) table (take number entries)
+IsTrueResult side table entries end_results.UnderWay = MayHaveSent side table entries
+IsTrueResult side table entries end_results.EarlyMark = MayHaveSent side table entries
+IsTrueResult side table entries end_results.TooLong = MayHaveSent side table entries
+IsTrueResult side table entries end_results.UnsureTable = MayHaveSent side table entries
+IsTrueResult side table entries end_results.Open = MayHaveSent side table entries
 
 -- the finding on the entries before this one, if there is one, holds
 abbrev pub IsFoundBefore : Side → Table → List Entry → Option ℕ → Option Finding → Type 0

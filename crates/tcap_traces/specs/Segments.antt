@@ -9,7 +9,7 @@ use Rattle.tcap_model.specs.World.{is_side}
 use Rattle.tcap_msg.specs.declared.kind.Kind.{Kind}
 use Rattle.tcap_msg.specs.declared.kind.Kind.TheVariants as kinds
 use Rattle.tcap_dialogues.specs.declared.reuse.Reuse.{Reuse}
-use Rattle.tcap_dialogues.specs.Cut.{IdOf, is_among}
+use Rattle.tcap_dialogues.specs.DialoguesOfList.{IdOf, is_among}
 use Rattle.tcap_dialogues.specs.Course.{Course, Courses, Heading, courses_so_far, has_entry, is_alone, is_begin, is_continue, own_ids, peer_ids}
 use Rattle.tcap_dialogues.specs.HeadingReading.{heading_at}
 use Rattle.tcap_traces.specs.Directive.{UnderWay}

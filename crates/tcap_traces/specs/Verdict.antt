@@ -22,7 +22,7 @@ use Rattle.tcap_refute.specs.declared.kind.Kind.TheVariants as kinds
 use Rattle.tcap_refute.specs.declared.kind.Refutation.{Refutation}
 use Rattle.tcap_refute.specs.EarlierMessages.{is_a}
 use Rattle.tcap_refute.specs.Kind.{is_unknown_operation}
-use Rattle.tcap_faults.specs.Counts.{invokes_so}
+use Rattle.tcap_faults.specs.Counts.{invokes_where}
 use Rattle.tcap_faults.specs.FaultSubject.{subject_of}
 use Rattle.tcap_evidence.specs.Evidence.{component_at}
 use Rattle.tcap_judge.specs.declared.findings.Finding.{Finding}
@@ -32,8 +32,8 @@ use Rattle.tcap_traces.specs.declared.verdict.Verdict.{Verdict}
 use Rattle.tcap_traces.specs.declared.verdict.Verdict.TheVariants as verdicts
 use Rattle.tcap_traces.specs.declared.end_result.Doubt.{Doubt}
 use Rattle.tcap_traces.specs.declared.end_result.Doubt.TheVariants as doubts
-use Rattle.tcap_traces.specs.declared.end_result.Said.{Said}
-use Rattle.tcap_traces.specs.declared.end_result.Said.TheVariants as saids
+use Rattle.tcap_traces.specs.declared.end_result.EndResult.{EndResult}
+use Rattle.tcap_traces.specs.declared.end_result.EndResult.TheVariants as end_results
 use Rattle.tcap_traces.specs.declared.end_result.Circumstances.{Circumstances}
 
 -- ---- what a blame may depend on besides the end
@@ -65,16 +65,16 @@ faulty_component table side entries r =
     component_in (subject_of true table side entries r).component (message_at entries r.entry)
 
 -- the ID of an Invoke of the peer that the component answers, rejects or wrongly links to
-abbrev pub heard_id : Kind → Component → Option ℤ
-heard_id kinds.BadLink (Invoke id linked code parameter) = linked
-heard_id kind (ReturnResult last id body) = Some id
-heard_id kind (ReturnError id code parameter) = Some id
-heard_id kind (Reject id (problems.Invoke n)) = id
-heard_id kind c = None
+abbrev pub peer_invoke_id : Kind → Component → Option ℤ
+peer_invoke_id kinds.BadLink (Invoke id linked code parameter) = linked
+peer_invoke_id kind (ReturnResult last id body) = Some id
+peer_invoke_id kind (ReturnError id code parameter) = Some id
+peer_invoke_id kind (Reject id (problems.Invoke n)) = id
+peer_invoke_id kind c = None
 
 -- whether the component is an Invoke with this ID of an operation that is not in the table
 abbrev pub invokes_lacking : Table → ℤ → Component → Bool
-invokes_lacking table id c = invokes_so id (λ code. is_none (operation_of table code)) c
+invokes_lacking table id c = invokes_where id (λ code. is_none (operation_of table code)) c
 
 -- whether the end sent such an Invoke in this entry
 abbrev pub sends_lacking : Table → Side → ℤ → Result Item Reason → Bool
@@ -83,35 +83,36 @@ sends_lacking table side id (Ok (Sent sender m)) =
 sends_lacking table side id item = false
 
 -- whether the peer sent such an Invoke in these entries
-abbrev pub lacks_heard : Table → Side → Option ℤ → List (Result Item Reason) → Bool
-lacks_heard table side None items = false
-lacks_heard table side (Some id) items = list_any (sends_lacking table (other side) id) items
+abbrev pub peer_sent_lacking : Table → Side → Option ℤ → List (Result Item Reason) → Bool
+peer_sent_lacking table side None items = false
+peer_sent_lacking table side (Some id) items = list_any (sends_lacking table (other side) id) items
 
 -- whether the blame depends on an operation that is not in the table: the component at fault invokes it, or answers an
 -- earlier Invoke of it
-abbrev pub rests_by : Table → Side → List (Result Item Reason) → Kind → Option Component → Bool
-rests_by table side items kind None = false
-rests_by table side items kind (Some c) = is_unknown_operation table c || lacks_heard table side (heard_id kind c) items
+abbrev pub depends_by : Table → Side → List (Result Item Reason) → Kind → Option Component → Bool
+depends_by table side items kind None = false
+depends_by table side items kind (Some c) =
+    is_unknown_operation table c || peer_sent_lacking table side (peer_invoke_id kind c) items
 
-abbrev pub rests_on_lack : Table → Side → List Entry → Refutation → Bool
-rests_on_lack table side entries r =
-    rests_by table side (read_before entries r.entry) r.kind (faulty_component table side entries r)
+abbrev pub depends_on_lack : Table → Side → List Entry → Refutation → Bool
+depends_on_lack table side entries r =
+    depends_by table side (read_before entries r.entry) r.kind (faulty_component table side entries r)
 
 -- Whether the peer has sent a message to this ID since the end's last Begin from it, or at all if there was none. The
 -- first function gives this after one more entry, the second after all these entries.
-abbrev pub is_heard_with : Side → List ℕ → Bool → Result Item Reason → Bool
-is_heard_with side id so (Ok (Sent sender m)) =
+abbrev pub is_addressed_with : Side → List ℕ → Bool → Result Item Reason → Bool
+is_addressed_with side id so (Ok (Sent sender m)) =
     cond (is_side side sender) (so && not (is_a forms.Begin m && is_id id (otid_in m))) (so || is_id id (dtid_in m))
-is_heard_with side id so item = so
+is_addressed_with side id so item = so
 
-abbrev pub is_heard : Side → List ℕ → Bool → List (Result Item Reason) → Bool
-is_heard side id so [] = so
-is_heard side id so (item ∷ items) = is_heard side id (is_heard_with side id so item) items
+abbrev pub is_addressed : Side → List ℕ → Bool → List (Result Item Reason) → Bool
+is_addressed side id so [] = so
+is_addressed side id so (item ∷ items) = is_addressed side id (is_addressed_with side id so item) items
 
 -- whether there is an ID to which the peer sent no message
 abbrev pub is_silent : Side → Option (List ℕ) → List (Result Item Reason) → Bool
 is_silent side None items = false
-is_silent side (Some id) items = not (is_heard side id false items)
+is_silent side (Some id) items = not (is_addressed side id false items)
 
 -- whether a Begin reuses an ID (F3) whose transaction may be over without a message: the peer sent nothing to it, or
 -- the table has prearranged end
@@ -132,13 +133,13 @@ is_of_mark kind = false
 
 -- whether a blame of this kind depends on what the table says of an operation: its class, whether it expires, or its
 -- linked operations
-abbrev pub rests_on_table : Kind → Bool
-rests_on_table kinds.WrongOperation = true
-rests_on_table kinds.InvokeIdBusy = true
-rests_on_table kinds.BadLink = true
-rests_on_table kinds.AnsweredAlready = true
-rests_on_table kinds.RejectNotAllowed = true
-rests_on_table kind = false
+abbrev pub depends_on_table : Kind → Bool
+depends_on_table kinds.WrongOperation = true
+depends_on_table kinds.InvokeIdBusy = true
+depends_on_table kinds.BadLink = true
+depends_on_table kinds.AnsweredAlready = true
+depends_on_table kinds.RejectNotAllowed = true
+depends_on_table kind = false
 
 -- whether an entry is the first of these or a later one
 abbrev pub is_from : Option ℕ → ℕ → Bool
@@ -159,10 +160,10 @@ doubt_of table c side entries r =
     (cond c.early_mark (Some doubts.EarlyMark)
     -- The blame is about a quiet mark, an operation that is not in the table, or an ID whose transaction may be over.
     (cond (is_of_mark r.kind) (Some doubts.AtMark)
-    (cond (rests_on_lack table side entries r) (Some doubts.LackingOperation)
+    (cond (depends_on_lack table side entries r) (Some doubts.LackingOperation)
     (cond (may_be_over table side entries r) (Some doubts.MaybeOver)
     -- The blame depends on the table, which may not be the dialogue's.
-    (cond (c.unsure && rests_on_table r.kind) (Some doubts.UnsureTable)
+    (cond (c.unsure && depends_on_table r.kind) (Some doubts.UnsureTable)
     -- An earlier dialogue had an ID of this one; or the peer began this dialogue, and may have used its ID just before
     -- the trace.
     (cond c.again (Some doubts.CameAgain)
@@ -177,31 +178,31 @@ abbrev pub is_of : Side → Entry → Bool
 is_of side entry = is_entry_of side entry.side
 
 -- the result for an end that may have sent its part: it passes, or is inconclusive for the first of these circumstances
-abbrev pub passes : Circumstances → ℕ → Said
+abbrev pub passes : Circumstances → ℕ → EndResult
 passes c unheard =
-    cond c.under_way saids.UnderWay
-    (cond c.early_mark saids.EarlyMark
-    (cond c.cut saids.TooLong
-    (cond c.unsure saids.UnsureTable
-    (cond c.open saids.Open (saids.Pass unheard)))))
+    cond c.under_way end_results.UnderWay
+    (cond c.early_mark end_results.EarlyMark
+    (cond c.cut end_results.TooLong
+    (cond c.unsure end_results.UnsureTable
+    (cond c.open end_results.Open (end_results.Pass unheard)))))
 
 -- the result for an end that is blamed: it fails, or is doubtful
-abbrev pub fails : Refutation → Option Doubt → Said
-fails r None = saids.Fail r
-fails r (Some doubt) = saids.Doubtful r doubt
+abbrev pub fails : Refutation → Option Doubt → EndResult
+fails r None = end_results.Fail r
+fails r (Some doubt) = end_results.Doubtful r doubt
 
 -- The result for an end on which nothing is blamed, by the finding on the entries before the first that is no message.
 -- The end passes only if it sent no entry from that one on.
-abbrev pub said_before : Circumstances → Side → List Entry → ℕ → Option Finding → Said
-said_before c side entries number (Some (findings.Lawful count unheard)) =
-    cond (list_any (is_of side) (drop number entries)) (saids.Behind number) (passes c unheard)
-said_before c side entries number found = saids.Undecided
+abbrev pub result_before : Circumstances → Side → List Entry → ℕ → Option Finding → EndResult
+result_before c side entries number (Some (findings.Lawful count unheard)) =
+    cond (list_any (is_of side) (drop number entries)) (end_results.AfterBadEntry number) (passes c unheard)
+result_before c side entries number found = end_results.Undecided
 
 -- the result by the finding on all entries, and by that on the entries before the first that is no message
-abbrev pub said_by : Table → Circumstances → Side → List Entry → Finding → Option Finding → Said
-said_by table c side entries (findings.Blamed r) earlier = fails r (doubt_of table c side entries r)
-said_by table c side entries (findings.Lawful count unheard) earlier = passes c unheard
-said_by table c side entries (findings.NotBlamed count) earlier = said_before c side entries count earlier
+abbrev pub result_by : Table → Circumstances → Side → List Entry → Finding → Option Finding → EndResult
+result_by table c side entries (findings.Blamed r) earlier = fails r (doubt_of table c side entries r)
+result_by table c side entries (findings.Lawful count unheard) earlier = passes c unheard
+result_by table c side entries (findings.NotBlamed count) earlier = result_before c side entries count earlier
 
 -- the number of the first entry that is no message, if there is one and the end is not blamed
 abbrev pub no_message_at : Finding → ℕ → Option ℕ
@@ -214,17 +215,17 @@ found_before table entries side None = None
 found_before table entries side (Some number) = Some (finding table (take number entries) side)
 
 -- the result for an end of a dialogue, by the finding on its entries
-abbrev pub said_of : Table → Circumstances → List Entry → Side → Said
-said_of table c entries side =
-    said_by table c side entries (finding table entries side)
+abbrev pub result_of : Table → Circumstances → List Entry → Side → EndResult
+result_of table c entries side =
+    result_by table c side entries (finding table entries side)
     (found_before table entries side (no_message_at (finding table entries side) (length entries)))
 
 -- ---- verdicts
 
 -- the verdict on an end: pass, fail, or inconclusive
-abbrev pub verdict_of : Said → Verdict
-verdict_of (saids.Pass unheard) = verdicts.Pass
-verdict_of (saids.Fail r) = verdicts.Fail
+abbrev pub verdict_of : EndResult → Verdict
+verdict_of (end_results.Pass unheard) = verdicts.Pass
+verdict_of (end_results.Fail r) = verdicts.Fail
 verdict_of said = verdicts.Inconclusive
 
 -- the rank of a verdict, from best to worst
@@ -239,7 +240,7 @@ abbrev pub worse : Verdict → Verdict → Verdict
 worse a b = cond (nat_le (rank a) (rank b)) b a
 
 -- the verdict on a dialogue: the worse of its two ends, or that of the judged end
-abbrev pub verdict_asked : Option Side → Said → Said → Verdict
+abbrev pub verdict_asked : Option Side → EndResult → EndResult → Verdict
 verdict_asked None a b = worse (verdict_of a) (verdict_of b)
 verdict_asked (Some sides.A) a b = verdict_of a
 verdict_asked (Some sides.B) a b = verdict_of b

@@ -22,7 +22,7 @@ use Rattle.tcap_traces.specs.declared.pieces.LineRule.TheVariants.{NoLine, After
 use Rattle.tcap_traces.specs.TableChoice.{choice}
 use Rattle.tcap_traces.specs.Dialogue.{Dialogue, EndAfter, Question, circumstances, entry_of, judged_entries}
 use Rattle.tcap_traces.specs.Segments.{Segment, segments_of}
-use Rattle.tcap_traces.specs.JudgedTrace.{Asked, Judged, judged_trace, reported_from}
+use Rattle.tcap_traces.specs.JudgedTrace.{Asked, JudgedDialogue, judged_trace, reported_from}
 use Rattle.tcap_traces.specs.Segments.{nothing_before}
 
 -- ---- texts
@@ -126,7 +126,7 @@ asked = record {
 }
 
 -- the judged dialogues of a trace of these lines
-abbrev dialogues_of : Asked → List (List ℕ) → List Judged
+abbrev dialogues_of : Asked → List (List ℕ) → List JudgedDialogue
 dialogues_of asked lines = reported_from asked nothing_before 0 (segments_of EndAfter (pieces_of (text lines)).pieces)
 
 -- the numbers of the first entry and of all entries of each dialogue

@@ -13,9 +13,9 @@ use Rattle.tcap_refute.specs.declared.kind.Kind.TheVariants as kinds
 use Rattle.tcap_traces.specs.declared.verdict.Verdict.TheVariants.{Pass, Inconclusive, Fail, Error}
 use Rattle.tcap_traces.specs.declared.end_result.Doubt.{Doubt}
 use Rattle.tcap_traces.specs.declared.end_result.Doubt.TheVariants as doubts
-use Rattle.tcap_traces.specs.declared.end_result.Said.TheVariants as saids
+use Rattle.tcap_traces.specs.declared.end_result.EndResult.TheVariants as end_results
 use Rattle.tcap_traces.specs.declared.end_result.Circumstances.{Circumstances}
-use Rattle.tcap_traces.specs.Verdict.{doubt_of, is_heard, passes, trace_verdict, verdict_asked, worse}
+use Rattle.tcap_traces.specs.Verdict.{doubt_of, is_addressed, passes, trace_verdict, verdict_asked, worse}
 
 -- ---- messages sent to an ID
 
@@ -34,7 +34,7 @@ ends_there = Sent sides.A (end_to 2 None)
 
 -- whether B sent a message to A's ID 01 in these entries, since A's last Begin
 abbrev heard : List (Result Item Reason) → Bool
-heard items = is_heard sides.A (id 1) false items
+heard items = is_addressed sides.A (id 1) false items
 
 pub nothing_is_heard : (heard [] ≡ false) × (heard (Ok begins ∷ []) ≡ false)
     × (heard (Ok begins ∷ Err NoItem ∷ Ok ends_there ∷ Ok Item.Quiet ∷ []) ≡ false)
@@ -49,8 +49,8 @@ pub begins_anew : (heard (Ok begins ∷ Ok ends ∷ Ok begins ∷ []) ≡ false)
 begins_anew = (refl, refl)
 
 -- It depends on the ID, and on the end.
-pub of_another : (is_heard sides.A (id 2) false (Ok begins ∷ Ok answers ∷ []) ≡ false)
-    × (is_heard sides.B (id 1) false (Ok begins ∷ Ok answers ∷ []) ≡ false)
+pub of_another : (is_addressed sides.A (id 2) false (Ok begins ∷ Ok answers ∷ []) ≡ false)
+    × (is_addressed sides.B (id 1) false (Ok begins ∷ Ok answers ∷ []) ≡ false)
 of_another = (refl, refl)
 
 -- ---- doubts that make a blame inconclusive
@@ -125,19 +125,19 @@ of_a_dialogue = (refl, refl, refl, refl)
 
 -- ---- verdicts
 
-pub cut_or_open : (passes alone 3 ≡ saids.Pass 3) × (passes (record alone { «open» = true }) 3 ≡ saids.Open)
-    × (passes (record alone { cut = true; «open» = true }) 3 ≡ saids.TooLong)
-    × (passes (record alone { under_way = true; cut = true; unsure = true; «open» = true }) 3 ≡ saids.UnderWay)
-    × (passes (record alone { early_mark = true; cut = true; unsure = true; «open» = true }) 3 ≡ saids.EarlyMark)
+pub cut_or_open : (passes alone 3 ≡ end_results.Pass 3) × (passes (record alone { «open» = true }) 3 ≡ end_results.Open)
+    × (passes (record alone { cut = true; «open» = true }) 3 ≡ end_results.TooLong)
+    × (passes (record alone { under_way = true; cut = true; unsure = true; «open» = true }) 3 ≡ end_results.UnderWay)
+    × (passes (record alone { early_mark = true; cut = true; unsure = true; «open» = true }) 3 ≡ end_results.EarlyMark)
 cut_or_open = (refl, refl, refl, refl, refl)
 
 pub the_worse_one : (worse Pass Pass ≡ Pass) × (worse Pass Inconclusive ≡ Inconclusive) × (worse Fail Inconclusive ≡ Fail)
     × (worse Fail Error ≡ Error)
 the_worse_one = (refl, refl, refl, refl)
 
-pub of_the_ends : (verdict_asked None (saids.Pass 0) saids.Undecided ≡ Inconclusive)
-    × (verdict_asked (Some sides.A) (saids.Pass 0) saids.Undecided ≡ Pass)
-    × (verdict_asked (Some sides.B) (saids.Pass 0) (saids.Behind 1) ≡ Inconclusive)
+pub of_the_ends : (verdict_asked None (end_results.Pass 0) end_results.Undecided ≡ Inconclusive)
+    × (verdict_asked (Some sides.A) (end_results.Pass 0) end_results.Undecided ≡ Pass)
+    × (verdict_asked (Some sides.B) (end_results.Pass 0) (end_results.AfterBadEntry 1) ≡ Inconclusive)
 of_the_ends = (refl, refl, refl)
 
 pub of_a_trace : (trace_verdict false 0 Pass ≡ Error) × (trace_verdict true 4 Pass ≡ Error)

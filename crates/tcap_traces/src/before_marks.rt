@@ -15,7 +15,7 @@ ghost use Rattle.tcap_traces.specs.IdsBeforeMarks.{IsFresh, IsInUse, IsNew, Note
 use std::alloc::{AllocError, Global};
 use std::collections::{BTreeMap, BTreeSet};
 use std::mem;
-use tcap_dialogues::{Cut, Gathered, HeadingView};
+use tcap_dialogues::{CompleteDialogue, Cut, HeadingView};
 use tcap_msg::{TransactionId, TransactionIdView};
 use tcap_record::End;
 
@@ -216,7 +216,7 @@ impl BeforeMarks {
 
     /// Returns an ID that suggests that a dialogue continues one from before the quiet mark. This is the destination ID of
     /// its first entry, if the ID's owner sent from it in an earlier segment; or the first of its IDs that is open.
-    pub fn in_use(&self, first: HeadingView, gathered: &Gathered) -> Option<InUse>
+    pub fn in_use(&self, first: HeadingView, gathered: &CompleteDialogue) -> Option<InUse>
         ensures found { IfSome result (λ it. IsInUse (known_in (by_end it.«end» self.now.a self.now.b) it.id)) }
         ensures none { IfNone result (is_in_use self.now (heading_read first.entry) gathered.now ≡ false) }
     {
@@ -234,7 +234,7 @@ impl BeforeMarks {
     }
 
     /// Notes a dialogue of the segment. `goes_on`: it may continue after the segment.
-    pub fn note(&mut self, gathered: &Gathered, goes_on: bool) -> Result<(), AllocError>
+    pub fn note(&mut self, gathered: &CompleteDialogue, goes_on: bool) -> Result<(), AllocError>
         ensures { OnOk result (Notes goes_on gathered.now self.old self.new) }
     {
         if goes_on {

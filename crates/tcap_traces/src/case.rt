@@ -11,13 +11,13 @@ ghost use Rattle.tcap_traces.specs.Dialogue.{began, begun_by, body_of, circumsta
 use crate::before_marks::InUse;
 use crate::end_result::Circumstances;
 use crate::judging::{Ends, judge_dialogue};
-use crate::table_choice::{Chosen, choose};
+use crate::table_choice::{ChosenTable, choose};
 use crate::verdict::Verdict;
 use std::alloc::{AllocError, Global};
 use std::marker::Model;
 use tcap_ber::{Fault, Reason};
 use tcap_books::{Book, NamedTable};
-use tcap_dialogues::{Gathered, HeadingView, read_heading};
+use tcap_dialogues::{CompleteDialogue, HeadingView, read_heading};
 use tcap_msg::{DecodeFault, Kind as Form, MessageParts, decode};
 use tcap_record::{Body, End, Entry, Record};
 
@@ -82,7 +82,7 @@ fn body_of(alloc: Global, octets: &[u8]) -> Result<Body, AllocError>
 
 /// The item after the entries of a dialogue.
 #[derive(Clone, Copy, PartialEq, Eq)]
-pub enum Behind {
+pub enum NextItem {
     /// Other entries of the segment; or the dialogue is over, and what follows does not matter.
     More,
     /// A quiet mark: its line number or 0, and its number in the trace.
@@ -101,11 +101,11 @@ pub struct Case {
     /// Its entries, in their order.
     pub entries: Vec<TraceEntry>,
     /// Its entry numbers in the segment, and its IDs.
-    pub gathered: Gathered,
+    pub gathered: CompleteDialogue,
     /// The number of entries of the trace before the segment.
     pub before: u64,
     /// The item after its entries.
-    pub behind: Behind,
+    pub behind: NextItem,
     /// The ID that suggests that it continues a dialogue from before the last quiet mark.
     pub in_use: Option<InUse>,
     /// The number in the segment of the first unreadable entry that may belong to it.
@@ -116,7 +116,7 @@ pub struct Case {
 
 /// The verdict on a dialogue, and what it was judged by.
 #[derive(Drop)]
-pub struct Judged<'a> {
+pub struct JudgedDialogue<'a> {
     /// The entries that were judged.
     pub record: Record,
     /// The application context name that chose the table.
@@ -142,12 +142,12 @@ pub struct Rules {
     pub once: bool,
 }
 
-impl Behind {
+impl NextItem {
     /// Returns whether this is a quiet mark.
     fn is_mark(self) -> bool
         ensures { result ≡ is_marked (after_of self) }
     {
-        matches!(self, Behind::Mark { .. })
+        matches!(self, NextItem::Mark { .. })
     }
 }
 
@@ -198,9 +198,9 @@ impl Case {
             return false;
         }
         match (self.behind, table) {
-            (Behind::End, _) => true,
-            (Behind::Mark { .. }, Some(table)) => !table.table().prearranged(),
-            (Behind::Mark { .. }, None) => true,
+            (NextItem::End, _) => true,
+            (NextItem::Mark { .. }, Some(table)) => !table.table().prearranged(),
+            (NextItem::Mark { .. }, None) => true,
             _ => false,
         }
     }
@@ -279,7 +279,7 @@ impl Case {
     }
 
     /// Returns the circumstances of the dialogue, given the entries that are judged and the choice of its table.
-    fn circumstances(&self, entries: &[Entry], chosen: &Chosen) -> Circumstances
+    fn circumstances(&self, entries: &[Entry], chosen: &ChosenTable) -> Circumstances
         requires are { entries.now ≡ judged_entries (dialogue_in self.now) }
         ensures { result ≡ circumstances (question_in self.now) (chosen_as chosen.now) (dialogue_in self.now) }
     {
@@ -379,7 +379,7 @@ pub fn begins(entries: &[TraceEntry]) -> Option<End>
     }
 }
 
-impl Judged<'_> {
+impl JudgedDialogue<'_> {
     /// Returns the name of the table, if it has one.
     pub fn table_name(&self) -> Option<&str> {
         match self.table {
@@ -431,7 +431,11 @@ fn verdict_of(ends: Option<Ends>, of: Option<End>) -> Verdict
 /// # Errors
 ///
 /// `AllocError` if memory runs out.
-pub fn judge<'a>(alloc: Global, case: &Case, book: &'a Book) -> Result<Judged<'a>, AllocError>
+pub fn judge<'a>(
+    alloc: Global,
+    case: &Case,
+    book: &'a Book,
+) -> Result<JudgedDialogue<'a>, AllocError>
     ensures entries { IfOk result (λ judged. judged.record.entries.items ≡ judged_entries (dialogue_in case.now)) }
     ensures table { IfOk result (λ judged. option_copied judged.table ≡ (choice book.now (judged_entries (dialogue_in case.now))).table) }
     ensures context { IfOk result (λ judged. option_map (λ octets. octets.items) judged.context
@@ -443,7 +447,7 @@ pub fn judge<'a>(alloc: Global, case: &Case, book: &'a Book) -> Result<Judged<'a
     let chosen = choose(alloc, book, &record.entries)?;
     let circumstances = case.circumstances(&record.entries, &chosen);
     let ends = ends_of(alloc, &mut record, chosen.table, circumstances)?;
-    Ok(Judged {
+    Ok(JudgedDialogue {
         record,
         context: chosen.context,
         table: chosen.table,

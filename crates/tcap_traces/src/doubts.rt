@@ -11,7 +11,7 @@ ghost use Rattle.tcap_end.specs.Table.{operation_of};
 ghost use Rattle.tcap_model.specs.Entries.{item_of};
 ghost use Rattle.tcap_refute.specs.EarlierMessages.{is_a};
 ghost use Rattle.tcap_refute.specs.Kind.{is_unknown_operation};
-ghost use Rattle.tcap_traces.specs.Verdict.{doubt_of, faulty_component, heard_id, invokes_lacking, is_begun_by_peer, is_from, is_heard, is_heard_with, is_silent, lacks_heard, may_be_over, message_at, rests_on_lack, rests_on_table, sends_lacking};
+ghost use Rattle.tcap_traces.specs.Verdict.{doubt_of, faulty_component, peer_invoke_id, invokes_lacking, is_begun_by_peer, is_from, is_addressed, is_addressed_with, is_silent, peer_sent_lacking, may_be_over, message_at, depends_on_lack, depends_on_table, sends_lacking};
 
 use crate::end_result::{Circumstances, Doubt};
 use std::alloc::{AllocError, Global};
@@ -63,8 +63,8 @@ fn faulty_component<'a>(
 }
 
 /// Returns the ID of an Invoke of the peer that a component answers, rejects or wrongly links to.
-fn heard_id(kind: Kind, component: ComponentView) -> Option<i8>
-    ensures { result ≡ heard_id kind (component_of component.entry) }
+fn peer_invoke_id(kind: Kind, component: ComponentView) -> Option<i8>
+    ensures { result ≡ peer_invoke_id kind (component_of component.entry) }
 {
     match component {
         ComponentView::Invoke { linked, .. } if kind == Kind::BadLink => linked,
@@ -145,8 +145,8 @@ fn some_sends_lacking(table: &Table, end: End, id: i8, before: &[Entry]) -> bool
 
 /// Returns whether the peer sent, in one of these entries, an Invoke with this ID of an operation that is not in the
 /// table.
-fn lacks_heard(table: &Table, end: End, before: &[Entry], id: Option<i8>) -> bool
-    ensures { result ≡ lacks_heard table.now end id (map item_of before.now) }
+fn peer_sent_lacking(table: &Table, end: End, before: &[Entry], id: Option<i8>) -> bool
+    ensures { result ≡ peer_sent_lacking table.now end id (map item_of before.now) }
 {
     match id {
         Some(id) => some_sends_lacking(table, end.other(), id, before),
@@ -156,14 +156,14 @@ fn lacks_heard(table: &Table, end: End, before: &[Entry], id: Option<i8>) -> boo
 
 /// Returns whether the component at fault invokes an operation that is not in the table, or answers one. Fails if
 /// memory runs out.
-fn rests_on_lack(
+fn depends_on_lack(
     alloc: Global,
     read: &Record,
     table: &Table,
     end: End,
     at: Refutation,
 ) -> Result<bool, AllocError>
-    ensures { IfOk result (λ so. so ≡ rests_on_lack table.now end read.now.entries.items at) }
+    ensures { IfOk result (λ so. so ≡ depends_on_lack table.now end read.now.entries.items at) }
 {
     let Some(component) = faulty_component(alloc, read, table, end, at)? else {
         return Ok(false);
@@ -171,7 +171,7 @@ fn rests_on_lack(
     let before = entries_before(read, at.entry);
     Ok(
         is_unknown_operation(table, component)
-            || lacks_heard(table, end, before, heard_id(at.kind, component)),
+            || peer_sent_lacking(table, end, before, peer_invoke_id(at.kind, component)),
     )
 }
 
@@ -194,8 +194,8 @@ fn is_begin(message: &Message) -> bool
 
 /// Returns whether the peer has sent a message to this ID since the end's last Begin from it, after one more entry.
 /// `so` is the result before the entry.
-fn is_heard_with(end: End, id: TransactionIdView, so: bool, entry: &Entry) -> bool
-    ensures { result ≡ is_heard_with end id.entry.octets.now so (item_of entry.now) }
+fn is_addressed_with(end: End, id: TransactionIdView, so: bool, entry: &Entry) -> bool
+    ensures { result ≡ is_addressed_with end id.entry.octets.now so (item_of entry.now) }
 {
     match (entry.side, &entry.body) {
         (Some(sender), Body::Good(message)) => {
@@ -211,12 +211,12 @@ fn is_heard_with(end: End, id: TransactionIdView, so: bool, entry: &Entry) -> bo
 
 /// Returns whether the peer has sent a message to this ID since the end's last Begin from it, or at all if there was
 /// none.
-fn is_heard(end: End, id: TransactionIdView, before: &[Entry]) -> bool
-    ensures { result ≡ is_heard end id.entry.octets.now false (map item_of before.now) }
+fn is_addressed(end: End, id: TransactionIdView, before: &[Entry]) -> bool
+    ensures { result ≡ is_addressed end id.entry.octets.now false (map item_of before.now) }
 {
     let mut so = false;
     for entry in before {
-        so = is_heard_with(end, id, so, entry);
+        so = is_addressed_with(end, id, so, entry);
     }
     so
 }
@@ -226,7 +226,7 @@ fn is_silent(end: End, id: Option<TransactionIdView>, before: &[Entry]) -> bool
     ensures { result ≡ is_silent end (id_of id.entry) (map item_of before.now) }
 {
     match id {
-        Some(id) => !is_heard(end, id, before),
+        Some(id) => !is_addressed(end, id, before),
         None => false,
     }
 }
@@ -269,8 +269,8 @@ fn is_begun_by_peer(began: Option<End>, end: End) -> bool
 
 /// Returns whether a blame of this kind depends on what the table says of an operation: its class, whether it expires,
 /// or its linked operations.
-fn rests_on_table(kind: Kind) -> bool
-    ensures { result ≡ rests_on_table kind }
+fn depends_on_table(kind: Kind) -> bool
+    ensures { result ≡ depends_on_table kind }
 {
     matches!(
         kind,
@@ -302,13 +302,13 @@ pub(crate) fn doubt_of(
     if at.kind == Kind::OpenAtMark {
         return Ok(Some(Doubt::AtMark));
     }
-    if rests_on_lack(alloc, read, table, end, at)? {
+    if depends_on_lack(alloc, read, table, end, at)? {
         return Ok(Some(Doubt::LackingOperation));
     }
     if may_be_over(read, table, end, at) {
         return Ok(Some(Doubt::MaybeOver));
     }
-    if circumstances.unsure && rests_on_table(at.kind) {
+    if circumstances.unsure && depends_on_table(at.kind) {
         return Ok(Some(Doubt::UnsureTable));
     }
     if circumstances.again {

@@ -34,7 +34,7 @@ pub enum Doubt {
 
 /// The result for an end of a dialogue.
 #[derive(Clone, Copy, Debug, PartialEq, Eq)]
-pub enum Said {
+pub enum EndResult {
     /// The end may have sent its part, with this many unheard messages of its peer.
     Pass(u64),
     /// The end broke the rules in this entry.
@@ -44,7 +44,7 @@ pub enum Said {
     /// No run was found in which the end keeps the rules, and none of its entries is blamed.
     Undecided,
     /// The end may have sent its part before this entry. The entry is no message, and the end sent it or a later entry.
-    Behind(u64),
+    AfterBadEntry(u64),
     /// The end may have sent its part of the entries, but the dialogue may have begun before its trace, which then
     /// lacks its Begin.
     UnderWay,
@@ -83,14 +83,14 @@ pub struct Circumstances {
     pub open: bool,
 }
 
-impl Said {
+impl EndResult {
     /// Returns the verdict on the end.
     pub fn verdict(self) -> Verdict
         ensures { result ≡ verdict_of self }
     {
         match self {
-            Said::Pass(_) => Verdict::Pass,
-            Said::Fail(_) => Verdict::Fail,
+            EndResult::Pass(_) => Verdict::Pass,
+            EndResult::Fail(_) => Verdict::Fail,
             _ => Verdict::Inconclusive,
         }
     }

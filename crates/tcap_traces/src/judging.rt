@@ -5,11 +5,11 @@ ghost use Rattle.std.specs.Option.{option_or};
 ghost use Rattle.std.specs.List.{list_any};
 ghost use Rattle.tcap_record.specs.declared.entry.End.TheVariants as sides;
 ghost use Rattle.tcap_judge.specs.BlameOutcome.{IsFound, finding};
-ghost use Rattle.tcap_traces.specs.ResultMeaning.{IsFoundBefore, IsSo};
-ghost use Rattle.tcap_traces.specs.Verdict.{found_before, is_of, no_message_at, passes, said_before, said_by, said_of, verdict_asked};
+ghost use Rattle.tcap_traces.specs.ResultMeaning.{IsFoundBefore, IsTrueResult};
+ghost use Rattle.tcap_traces.specs.Verdict.{found_before, is_of, no_message_at, passes, result_before, result_by, result_of, verdict_asked};
 
 use crate::doubts::doubt_of;
-use crate::end_result::{Circumstances, Said};
+use crate::end_result::{Circumstances, EndResult};
 use crate::verdict::Verdict;
 use std::alloc::{AllocError, Global};
 use tcap_end::Table;
@@ -21,17 +21,17 @@ use tcap_record::{End, Entry, Record};
 #[derive(Clone, Copy, Debug, PartialEq, Eq)]
 pub struct Ends {
     /// The result for A.
-    pub a: Said,
+    pub a: EndResult,
     /// The result for B.
-    pub b: Said,
+    pub b: EndResult,
 }
 
 impl Ends {
-    ghost use Rattle.tcap_traces.specs.ResultOfEnd.{said_at};
+    ghost use Rattle.tcap_traces.specs.ResultOfEnd.{result_at};
 
     /// Returns the result for an end.
-    pub fn of(self, end: End) -> Said
-        ensures { result ≡ said_at end self }
+    pub fn of(self, end: End) -> EndResult
+        ensures { result ≡ result_at end self }
     {
         match end {
             End::A => self.a,
@@ -52,21 +52,21 @@ impl Ends {
 }
 
 /// Returns the result for an end that may have sent its part: it passes, unless a circumstance makes it inconclusive.
-fn passes(circumstances: Circumstances, unheard: u64) -> Said
+fn passes(circumstances: Circumstances, unheard: u64) -> EndResult
     ensures { result ≡ passes circumstances unheard }
 {
     if circumstances.under_way {
-        Said::UnderWay
+        EndResult::UnderWay
     } else if circumstances.early_mark {
-        Said::EarlyMark
+        EndResult::EarlyMark
     } else if circumstances.cut {
-        Said::TooLong
+        EndResult::TooLong
     } else if circumstances.unsure {
-        Said::UnsureTable
+        EndResult::UnsureTable
     } else if circumstances.open {
-        Said::Open
+        EndResult::Open
     } else {
-        Said::Pass(unheard)
+        EndResult::Pass(unheard)
     }
 }
 
@@ -180,30 +180,30 @@ fn no_message_of(found: Found, all: usize) -> Option<usize>
 
 /// Returns the result for an end on which nothing is blamed, by the finding on the entries before the first that is no
 /// message.
-fn said_before(
+fn result_before(
     read: &Record,
     circumstances: Circumstances,
     end: End,
     number: usize,
     found: Option<Finding>,
-) -> Said
-    ensures { result ≡ said_before circumstances end read.now.entries.items number found }
+) -> EndResult
+    ensures { result ≡ result_before circumstances end read.now.entries.items number found }
 {
     match found {
         Some(Finding::Lawful(_, unheard)) => {
             if has_own(end, entries_from(read, number)) {
-                Said::Behind(number as u64)
+                EndResult::AfterBadEntry(number as u64)
             } else {
                 passes(circumstances, unheard)
             }
         }
-        _ => Said::Undecided,
+        _ => EndResult::Undecided,
     }
 }
 
 /// Returns the result for an end, by the finding on all entries, and by that on the entries before the first that is no
 /// message. Fails if memory runs out.
-fn said_by(
+fn result_by(
     alloc: Global,
     read: &Record,
     table: &Table,
@@ -211,17 +211,17 @@ fn said_by(
     end: End,
     found: Finding,
     earlier: Option<Finding>,
-) -> Result<Said, AllocError>
+) -> Result<EndResult, AllocError>
     ensures { IfOk result (λ said.
-        said ≡ said_by table.now circumstances end read.now.entries.items found earlier) }
+        said ≡ result_by table.now circumstances end read.now.entries.items found earlier) }
 {
     match found {
         Finding::Blamed(at) => match doubt_of(alloc, read, table, circumstances, end, at)? {
-            None => Ok(Said::Fail(at)),
-            Some(doubt) => Ok(Said::Doubtful(at, doubt)),
+            None => Ok(EndResult::Fail(at)),
+            Some(doubt) => Ok(EndResult::Doubtful(at, doubt)),
         },
         Finding::Lawful(_, unheard) => Ok(passes(circumstances, unheard)),
-        Finding::NotBlamed(count) => Ok(said_before(read, circumstances, end, count, earlier)),
+        Finding::NotBlamed(count) => Ok(result_before(read, circumstances, end, count, earlier)),
     }
 }
 
@@ -237,10 +237,10 @@ pub fn judge_dialogue(
     circumstances: Circumstances,
 ) -> Result<Ends, AllocError>
     requires few { length read.old.entries.items ≤ 100000 }
-    ensures a { IfOk result (λ ends. ends.a ≡ said_of table.now circumstances read.old.entries.items sides.A) }
-    ensures b { IfOk result (λ ends. ends.b ≡ said_of table.now circumstances read.old.entries.items sides.B) }
-    ensures so { IfOk result (λ ends. IsSo sides.A table.now read.old.entries.items ends.a
-        × IsSo sides.B table.now read.old.entries.items ends.b) }
+    ensures a { IfOk result (λ ends. ends.a ≡ result_of table.now circumstances read.old.entries.items sides.A) }
+    ensures b { IfOk result (λ ends. ends.b ≡ result_of table.now circumstances read.old.entries.items sides.B) }
+    ensures so { IfOk result (λ ends. IsTrueResult sides.A table.now read.old.entries.items ends.a
+        × IsTrueResult sides.B table.now read.old.entries.items ends.b) }
     ensures stays { OnOk result (read.new.entries.items ≡ read.old.entries.items) }
 {
     laws::blamed_is_at_fault();
@@ -248,7 +248,7 @@ pub fn judge_dialogue(
     let number = no_message_of(found, read.entries.len());
     let (a, b) = found_before(alloc, read, table, number)?;
     Ok(Ends {
-        a: said_by(alloc, read, table, circumstances, End::A, found.a, a)?,
-        b: said_by(alloc, read, table, circumstances, End::B, found.b, b)?,
+        a: result_by(alloc, read, table, circumstances, End::A, found.a, a)?,
+        b: result_by(alloc, read, table, circumstances, End::B, found.b, b)?,
     })
 }

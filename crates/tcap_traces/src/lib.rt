@@ -15,9 +15,9 @@ mod unreadable_entries;
 mod verdict;
 
 pub use before_marks::{BeforeMarks, InUse};
-pub use case::{Behind, Case, Judged, MOST, Rules, TraceEntry, begins, judge, sent_by};
+pub use case::{Case, JudgedDialogue, MOST, NextItem, Rules, TraceEntry, begins, judge, sent_by};
 pub use directive::{Directive, directive_of};
-pub use end_result::{Circumstances, Doubt, Said};
+pub use end_result::{Circumstances, Doubt, EndResult};
 pub use judging::{Ends, judge_dialogue};
 pub use pieces::{FormRule, LineRule, Piece, PieceFault, PieceReader};
 pub use table_choice::context_in;

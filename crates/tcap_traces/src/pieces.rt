@@ -532,7 +532,10 @@ impl PieceReader {
                 self.pass(count, comment);
                 Ok(Step::Passed)
             }
-            TraceLine::Directive(directive) => match self.progress.take(self.alloc, number, directive) {
+            TraceLine::Directive(directive) => match self
+                .progress
+                .take(self.alloc, number, directive)
+            {
                 Ok((piece, progress)) => {
                     self.progress = progress;
                     self.pass(count, Vec::new(self.alloc));

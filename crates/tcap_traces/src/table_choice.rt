@@ -14,7 +14,7 @@ use tcap_record::{Body, Entry};
 
 /// The table and the application context name of a dialogue, and whether the choice of the table is unsure.
 #[derive(Drop)]
-pub(crate) struct Chosen<'a> {
+pub(crate) struct ChosenTable<'a> {
     pub(crate) table: Option<&'a NamedTable>,
     pub(crate) context: Option<Vec<u8>>,
     pub(crate) unsure: bool,
@@ -160,19 +160,19 @@ pub(crate) fn choose<'a>(
     alloc: Global,
     book: &'a Book,
     entries: &[Entry],
-) -> Result<Chosen<'a>, AllocError>
+) -> Result<ChosenTable<'a>, AllocError>
     ensures { IfOk result (λ chosen. chosen_as chosen ≡ choice book.now entries.now) }
 {
     if let Some(context) = first_asked(entries) {
         let table = book.table_of(context);
-        return Ok(Chosen {
+        return Ok(ChosenTable {
             table,
             context: copied(alloc, context)?,
             unsure: some_asks_for_another(book, table, entries),
         });
     }
     let context = first_context(entries);
-    Ok(Chosen {
+    Ok(ChosenTable {
         table: table_or_first(book, context),
         context: copied(alloc, context)?,
         unsure: !is_sole(book),

@@ -27,10 +27,10 @@ fates_more n count made all within so_far =
     ∙ so_far
 
 -- What was read of a reader of known octets, up to its end, was read of these.
-pub read_whole : (entries : List Entry) (whole told rest : List ℕ) → whole ≡ told ++ rest → rest ≡ []
-    → IsReadAs entries (Ok tt) told → IsReadAs entries (Ok tt) whole
-read_whole entries whole told rest all none read =
-    subst (IsReadAs entries (Ok tt)) (told_all whole told (Some rest) all none) read
+pub read_whole : (entries : List Entry) (whole returned rest : List ℕ) → whole ≡ returned ++ rest → rest ≡ []
+    → IsReadAs entries (Ok tt) returned → IsReadAs entries (Ok tt) whole
+read_whole entries whole returned rest all none read =
+    subst (IsReadAs entries (Ok tt)) (told_all whole returned (Some rest) all none) read
 
 -- The prompt certificate of so many entries is prompt.
 pub made_prompt : (c : Certificate) (count : ℕ) → c ≡ prompt count → IsPrompt c

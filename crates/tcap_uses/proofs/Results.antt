@@ -17,8 +17,8 @@ pub same_value : {A : Type 0} (x y : A) (m n : ℕ) → read_as (x, m) ≡ read_
 same_value {A} x y m n e = ap (λ (answer : A × ℕ). answer.0) (same_answer (x, m) (y, n) e)
 
 -- what a reader of known octets told up to its end is all of them
-pub told_all : (whole told : List ℕ) (after : Option (List ℕ)) → Consumes (Some whole) after told → IsAtEnd after
-    → told ≡ whole
-told_all whole told None consumes at = absurd consumes
-told_all whole told (Some left) consumes at =
-    sym (consumes ∙ ap (λ (x : List ℕ). told ++ x) at ∙ append-nil told)
+pub told_all : (whole returned : List ℕ) (after : Option (List ℕ)) → Consumes (Some whole) after returned → IsAtEnd after
+    → returned ≡ whole
+told_all whole returned None consumes at = absurd consumes
+told_all whole returned (Some left) consumes at =
+    sym (consumes ∙ ap (λ (x : List ℕ). returned ++ x) at ∙ append-nil returned)

@@ -1,6 +1,6 @@
 ghost use Rattle.std.specs.Prelude.{◌≡◌, true, IfOk, slice_get};
 ghost use Rattle.std.specs.String.{string_bytes};
-ghost use Rattle.tcap_evidence.specs.EvidenceWords.{is_for, told_text};
+ghost use Rattle.tcap_evidence.specs.EvidenceWords.{is_for, refutation_text};
 
 use std::alloc::{AllocError, Global};
 use tcap_end::Table;
@@ -17,7 +17,8 @@ pub fn told_fault(
     named: Refutation,
 ) -> Result<String, AllocError>
     requires { is_for end (slice_get «record».now.entries.items named.entry) ≡ true }
-    ensures { IfOk result (λ text. string_bytes text ≡ told_text true table.now end «record».now.entries.items named) }
+    ensures { IfOk result (λ text. string_bytes text
+        ≡ refutation_text true table.now end «record».now.entries.items named) }
 {
     let mut text = String::new(alloc);
     push_why(alloc, &mut text, record, table, end, named, true)?;

@@ -1,6 +1,6 @@
 use std::alloc::Global;
 use tcap_ber::Counted;
-use tcap_explain::{Asked, run_explain};
+use tcap_explain::{ExplainOptions, run_explain};
 use tcap_lines::{Status, WriteFailed};
 
 /// What `tcapjudge explain` prints of a record and an operation table whose octets are in memory, and how the run ends.
@@ -13,7 +13,7 @@ pub fn told_why(
     let mut table = Counted::new(operations);
     let mut writer = Counted::new(Vec::new(alloc));
     let mut chart = String::new(alloc);
-    let asked = Asked {
+    let asked = ExplainOptions {
         judged: None,
         with_chart: false,
     };

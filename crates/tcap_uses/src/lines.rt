@@ -11,8 +11,8 @@ use tcap_lines::{Status, WriteFailed, run_show};
 /// What `tcapjudge show` prints of a record whose octets are in memory, and how the run ends.
 pub fn shown(alloc: Global, octets: &[u8]) -> Result<(Vec<u8>, Status), WriteFailed>
     // What was read is entries and the end behind them, and what is printed is their lines and the line of that end.
-    ensures prints { IfOk result (λ x. (told rest : List ℕ) × (octets.now ≡ told ++ rest)
-        × ((entries : List Entry) × (end : Result (Unit {0}) FeedFault) × IsReadAs entries end told
+    ensures prints { IfOk result (λ x. (returned rest : List ℕ) × (octets.now ≡ returned ++ rest)
+        × ((entries : List Entry) × (end : Result (Unit {0}) FeedFault) × IsReadAs entries end returned
         × Prints entries end x.0.items x.1)) }
 {
     let mut reader = Counted::new(octets);

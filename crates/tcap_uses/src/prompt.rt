@@ -5,7 +5,7 @@ ghost use Rattle.tcap_model.specs.World.{Item};
 ghost use Rattle.tcap_model.specs.Run.{Event, IsRunOf};
 ghost use Rattle.tcap_certificate.specs.Certificate.{prompt};
 ghost use Rattle.tcap_certificate.specs.DescribedRun.{IsPlain};
-ghost use Rattle.tcap_check.specs.GivenRun.{DeliversAtOnce, IsSeen};
+ghost use Rattle.tcap_check.specs.GivenRun.{DeliversAtOnce, IsVisible};
 ghost use Rattle.tcap_judge.specs.LawfulRecord.{SpellsRecord};
 
 use std::alloc::Global;
@@ -39,7 +39,8 @@ pub fn is_prompt(alloc: Global, octets: &[u8], table: &Table) -> Option<bool>
         × IsRunOf items table.now events × DeliversAtOnce table.now events × AllByRecursion IsPlain events }
     // Else no run does in which nothing happens unseen.
     ensures other { result ≡ Some false → (items : List Item) (events : List Event) → SpellsRecord items octets.now
-        → length items ≤ entry_limit → IsRunOf items table.now events → AllByRecursion IsSeen events → DeliversAtOnce table.now events → ⊥ }
+        → length items ≤ entry_limit → IsRunOf items table.now events → AllByRecursion IsVisible events
+        → DeliversAtOnce table.now events → ⊥ }
 {
     laws::octets_are_read_as_their_items();
     laws::prompt_octets_are_given();

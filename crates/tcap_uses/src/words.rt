@@ -1,5 +1,5 @@
 use std::alloc::Global;
-use tcap_words::request;
+use tcap_command_line::request;
 
 /// Returns the exit status if the words are no request, and `None` if they are one.
 pub fn status_of_words(alloc: Global, words: &[&str]) -> Option<u8> {

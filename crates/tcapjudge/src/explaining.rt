@@ -5,8 +5,8 @@ use crate::outputs::is_input;
 use crate::source::Source;
 use std::{fs, io};
 use tcap_ber::Counted;
-use tcap_diagnostics::{Noted, Role};
-use tcap_explain::{Asked, run_explain, run_explain_check};
+use tcap_diagnostics::{FirstOctets, Role};
+use tcap_explain::{ExplainOptions, run_explain, run_explain_check};
 use tcap_lines::{Status, WriteFailed};
 
 /// The paths on the command line.
@@ -44,10 +44,10 @@ fn finish(
 /// Explains the verdict on a record, with a certificate that is searched for. Returns the exit status.
 fn explained(
     rt: &HostRuntime,
-    entries: &mut Noted<Source>,
-    table: &mut Noted<Source>,
+    entries: &mut FirstOctets<Source>,
+    table: &mut FirstOctets<Source>,
     paths: Paths,
-    asked: Asked,
+    asked: ExplainOptions,
 ) -> u8 {
     let alloc = rt.alloc();
     let mut chart = String::new(alloc);
@@ -63,11 +63,11 @@ fn explained(
 /// Explains what the certificate in the file `path` shows of a record. Returns the exit status.
 fn explained_check(
     rt: &HostRuntime,
-    entries: &mut Noted<Source>,
-    table: &mut Noted<Source>,
+    entries: &mut FirstOctets<Source>,
+    table: &mut FirstOctets<Source>,
     path: &str,
     paths: Paths,
-    asked: Asked,
+    asked: ExplainOptions,
 ) -> u8 {
     let alloc = rt.alloc();
     let mut cert = Source::noted(rt, path);
@@ -123,7 +123,7 @@ fn is_overwritten(rt: &HostRuntime, paths: Paths) -> bool {
 ///
 /// The files are opened in the order in which they are read: the table, the record, the certificate. If the chart would
 /// overwrite one of them, nothing is read, and standard error says so.
-pub(crate) fn explain(rt: &HostRuntime, paths: Paths, asked: Asked) -> u8 {
+pub(crate) fn explain(rt: &HostRuntime, paths: Paths, asked: ExplainOptions) -> u8 {
     if is_wrong(rt, paths) {
         return WRONG_WORDS;
     }

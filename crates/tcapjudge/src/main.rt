@@ -4,31 +4,32 @@
 
 mod explaining;
 mod judging;
+mod not_utf8;
 mod opening;
 mod outputs;
 mod source;
 mod testing;
-mod wording;
 mod writing;
 
 use crate::explaining::{Paths, explain};
 use crate::judging::{Question, check, judge};
+use crate::not_utf8::tell_no_text;
 use crate::opening::{DASH, named};
 use crate::source::Source;
 use crate::testing::test;
-use crate::wording::tell_no_text;
 use std::alloc::Global;
 use std::io::BufWriter;
 use std::process::ExitCode;
 use std::{env, io};
 use tcap_ber::{Counted, Write};
 use tcap_books::CARRIED_BOOK;
+use tcap_command_line::{Request, WordsFault, request};
 use tcap_diagnostics::{
-    Kept, Noted, Role, Told, run_lines, run_table, run_why, write_hint, write_rule,
+    FaultWriter, FirstOctets, LineReader, Role, run_lines, run_table, run_why, write_hint,
+    write_rule,
 };
-use tcap_explain::Asked;
+use tcap_explain::ExplainOptions;
 use tcap_lines::{MEMORY_LINE, Status, WriteFailed, run_pack, run_show};
-use tcap_words::{Request, WordsFault, request};
 
 /// The exit status if a word of the command line is not text, which `clap` cannot report.
 const NO_TEXT: u8 = 4;
@@ -107,7 +108,7 @@ fn answer(rt: &HostRuntime, request: Request) -> io::Result<u8> {
                 cert,
                 chart,
             };
-            let asked = Asked {
+            let asked = ExplainOptions {
                 judged: end,
                 with_chart: chart.is_some(),
             };
@@ -149,7 +150,7 @@ fn over(rt: &HostRuntime, task: Task, path: Option<&str>, source: Source) -> io:
     };
     let mut writer = Counted::new(buffer);
     let faults = Counted::new(rt.stderr());
-    let noted = Noted::new(rt.alloc(), source);
+    let noted = FirstOctets::new(rt.alloc(), source);
     let ended = done(rt.alloc(), task, path, noted, &mut writer, faults);
     // A failure of standard error does not keep the packed record from being written.
     let is_written = writer.failures() == 0 && writer.flush().is_ok();
@@ -168,7 +169,7 @@ fn done<W: Write, F: Write + Drop>(
     alloc: Global,
     task: Task,
     path: Option<&str>,
-    reader: Noted<Source>,
+    reader: FirstOctets<Source>,
     writer: &mut W,
     faults: F,
 ) -> Result<Status, WriteFailed> {
@@ -204,7 +205,7 @@ fn hint<F: Write>(
     status: Status,
     role: Role,
     path: Option<&str>,
-    reader: &Noted<Source>,
+    reader: &FirstOctets<Source>,
     faults: &mut F,
 ) -> Result<Status, WriteFailed> {
     if status == Status::Fault {
@@ -217,17 +218,17 @@ fn hint<F: Write>(
 fn make_record<W: Write, F: Write + Drop>(
     alloc: Global,
     path: Option<&str>,
-    reader: Noted<Source>,
+    reader: FirstOctets<Source>,
     writer: &mut W,
     faults: F,
 ) -> Result<Status, WriteFailed> {
-    let mut kept = Kept::new(alloc, reader);
-    let mut told = Told::new(faults);
-    let status = run_pack(alloc, &mut kept, writer, &mut told)?;
+    let mut kept = LineReader::new(alloc, reader);
+    let mut returned = FaultWriter::new(faults);
+    let status = run_pack(alloc, &mut kept, writer, &mut returned)?;
     if status == Status::Fault {
-        write_rule(alloc, &kept, &mut told)?;
+        write_rule(alloc, &kept, &mut returned)?;
     }
-    hint(status, Role::Lines, path, kept.inner(), &mut told)
+    hint(status, Role::Lines, path, kept.inner(), &mut returned)
 }
 
 fn main(rt: HostRuntime) -> ExitCode {

@@ -5,7 +5,7 @@ use std::fs;
 use std::fs::Metadata;
 use std::os::unix::fs::MetadataExt;
 use tcap_ber::{Counted, Read};
-use tcap_diagnostics::{Noted, Role, write_code_hints, write_hint};
+use tcap_diagnostics::{FirstOctets, Role, write_code_hints, write_hint};
 use tcap_lines::{Status, WriteFailed};
 
 /// The path by which an input is the standard input.
@@ -89,7 +89,7 @@ pub(crate) fn is_same(rt: &HostRuntime, one: &str, other: &str) -> bool {
 
 /// Writes on standard error, after a fault, what the file with this path looks like, if that does not fit its role. If
 /// nothing of a plain file was read yet, reads its first octets.
-pub(crate) fn tell(rt: &HostRuntime, role: Role, path: &str, reader: &mut Noted<Source>) {
+pub(crate) fn tell(rt: &HostRuntime, role: Role, path: &str, reader: &mut FirstOctets<Source>) {
     if reader.first().is_empty() && path != DASH && is_plain(rt, path) {
         let mut piece = [0; LOOKED_AT];
         let _ = reader.read(&mut piece);

@@ -4,8 +4,8 @@ use crate::opening::{DASH, is_plain, is_same};
 use crate::writing::Output;
 use std::fs;
 use std::fs::File;
+use tcap_command_line::Test;
 use tcap_report::{NOT_ENDED, Stop};
-use tcap_words::Test;
 
 /// The path of the standard input.
 pub(crate) const INPUT: &str = "/dev/stdin";

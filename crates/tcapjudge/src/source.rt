@@ -7,7 +7,7 @@ use std::fs;
 use std::fs::File;
 use std::io::StdinLock;
 use tcap_ber::{Counted, Failed, Read};
-use tcap_diagnostics::Noted;
+use tcap_diagnostics::FirstOctets;
 
 /// Where a source's octets come from.
 #[derive(Drop)]
@@ -67,8 +67,8 @@ impl Source {
     }
 
     /// Opens the file with this path, as `open` does. Its first octets are noted.
-    pub(crate) fn noted(rt: &HostRuntime, path: &str) -> Noted<Source> {
-        Noted::new(rt.alloc(), Source::open(rt, path))
+    pub(crate) fn noted(rt: &HostRuntime, path: &str) -> FirstOctets<Source> {
+        FirstOctets::new(rt.alloc(), Source::open(rt, path))
     }
 }
 

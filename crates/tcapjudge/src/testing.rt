@@ -17,11 +17,13 @@ use std::time::Instant;
 use std::{fs, io};
 use tcap_ber::Write;
 use tcap_books::{AMBIGUOUS, Book, CARRIED_BOOK, CLASH};
+use tcap_command_line::{Ids, Test, VERSION};
 use tcap_diagnostics::Role;
 use tcap_dialogues::Reuse;
-use tcap_report::{Asked, Junit, Lines, Page, Sinks, Stop, Sum, Watch, run_trace, tell_unread};
+use tcap_report::{
+    Junit, Lines, Page, Sinks, Stop, Sum, TraceOptions, Watch, report_unread, run_trace,
+};
 use tcap_traces::Verdict;
-use tcap_words::{Ids, Test, VERSION};
 
 /// A progress report on standard error, once a second.
 #[derive(Drop)]
@@ -255,7 +257,7 @@ const IS_FOLDER: &str = "it is a directory";
 fn test_path<W: Write, J: Lines, P: Watch>(
     rt: &HostRuntime,
     path: &str,
-    asked: Asked,
+    asked: TraceOptions,
     refused: &Option<String>,
     sinks: &mut Sinks<W, J, P>,
 ) -> Result<Verdict, Stop>
@@ -264,23 +266,23 @@ fn test_path<W: Write, J: Lines, P: Watch>(
 {
     let alloc = rt.alloc();
     if let Some(why) = refused {
-        return tell_unread(alloc, asked, why, sinks);
+        return report_unread(alloc, asked, why, sinks);
     }
     if path == DASH {
         if is_folder(rt, INPUT) {
-            return tell_unread(alloc, asked, IS_FOLDER, sinks);
+            return report_unread(alloc, asked, IS_FOLDER, sinks);
         }
         return run_trace(alloc, &mut Source::input(rt), asked, sinks);
     }
     match fs::open(rt, path) {
-        Ok(file) if is_folder(rt, path) => tell_unread(alloc, asked, IS_FOLDER, sinks),
+        Ok(file) if is_folder(rt, path) => report_unread(alloc, asked, IS_FOLDER, sinks),
         Ok(file) => run_trace(alloc, &mut Source::file(file), asked, sinks),
         Err(error) => {
             let mut text = String::new(alloc);
             if write!(text, "{error}").is_err() {
                 return Err(Stop::Memory);
             }
-            tell_unread(alloc, asked, &text, sinks)
+            report_unread(alloc, asked, &text, sinks)
         }
     }
 }
@@ -296,7 +298,7 @@ fn test_all<W: Write, J: Lines, P: Watch>(
     ensures worst { IfOk result (λ verdict. verdict ≡ worst_of sinks.new.sum.now) }
 {
     for path in &test.traces {
-        let asked = Asked {
+        let asked = TraceOptions {
             name: *path,
             of: test.of,
             reuse: match test.ids {

@@ -15,19 +15,19 @@ use Rattle.tcap_model.specs.Run.{Event}
 use Rattle.tcap_certificate.specs.Certificate.{Certificate}
 use Rattle.tcap_check.specs.Progress.{nothing_kept}
 use Rattle.tcap_certificate.specs.Replay.{Replay, certificate_fits, discards_by, entries_by, lost_last, nothing_replayed, replay_by, run_by}
-use Rattle.tcap_check.specs.CheckerMeaning.{Checking, Kept, TookListed, count_ahead, count_waiting, kept_ended, kept_next, kept_of, map_ok, progress_of, report_of, reported, so_far_of, taken}
+use Rattle.tcap_check.specs.CheckerMeaning.{CheckerState, ReplayState, HasTakenListing, count_ahead, count_waiting, kept_ended, kept_next, kept_of, map_ok, progress_of, report_of, reported, so_far_of, taken}
 use Rattle.tcap_check.specs.declared.step.Step.{Step}
-use Rattle.tcap_check.specs.ReportedSteps.{Told, discards_of, events_of, told_if, told_of}
+use Rattle.tcap_check.specs.ReportedSteps.{ListedRun, discards_of, events_of, listed_run_if, listed_run_of}
 use Rattle.tcap_check.proofs.checker_laws.EntryLaws.{took_end, took_next}
 use Rattle.tcap_check.proofs.progress_laws.KeptPending.{pending_is}
 
 -- a checker with what it keeps, or with its fault
-abbrev pub checking : Option Side → Table → Certificate → Option CheckFault → Kept → Checking
+abbrev pub checking : Option Side → Table → Certificate → Option CheckFault → ReplayState → CheckerState
 checking judged table c fault k = record { judged = judged; table = table; certificate = c; so_far = so_far_of fault k }
 
 -- what is kept before the first entry
-abbrev pub first_kept : Bool → Kept
-first_kept listing = record { progress = nothing_kept (told_if listing [] []); entries = []; since = 0 }
+abbrev pub first_kept : Bool → ReplayState
+first_kept listing = record { progress = nothing_kept (listed_run_if listing [] []); entries = []; since = 0 }
 
 -- the report on the run that the certificate gives
 abbrev pub given : Option Side → Table → Certificate → List (Result Item Reason) → Result Report CheckFault
@@ -37,15 +37,15 @@ abbrev pub refusing : CheckFault → Result Report CheckFault
 refusing fault = Err fault
 
 -- A checker takes one more entry.
-pub took_ok : (listing : Bool) (judged : Option Side) (table : Table) (c : Certificate) (k next : Kept) (entry : Result Item Reason)
-    → kept_next judged table c entry k ≡ Ok next → (entries : List (Result Item Reason)) → TookListed listing (checking judged table c None k) entries
-    → TookListed listing (checking judged table c None next) (entries ++ entry ∷ [])
+pub took_ok : (listing : Bool) (judged : Option Side) (table : Table) (c : Certificate) (k next : ReplayState) (entry : Result Item Reason)
+    → kept_next judged table c entry k ≡ Ok next → (entries : List (Result Item Reason)) → HasTakenListing listing (checking judged table c None k) entries
+    → HasTakenListing listing (checking judged table c None next) (entries ++ entry ∷ [])
 took_ok listing judged table c k next entry is entries took = sym is ∙ took_next listing (checking judged table c None k) entries entry took
 
 -- A checker refuses one more entry.
-pub took_err : (listing : Bool) (judged : Option Side) (table : Table) (c : Certificate) (k next : Kept) (entry : Result Item Reason) (fault : CheckFault)
+pub took_err : (listing : Bool) (judged : Option Side) (table : Table) (c : Certificate) (k next : ReplayState) (entry : Result Item Reason) (fault : CheckFault)
     → kept_next judged table c entry k ≡ Err fault → (entries : List (Result Item Reason))
-    → TookListed listing (checking judged table c None k) entries → TookListed listing (checking judged table c (Some fault) next) (entries ++ entry ∷ [])
+    → HasTakenListing listing (checking judged table c None k) entries → HasTakenListing listing (checking judged table c (Some fault) next) (entries ++ entry ∷ [])
 took_err listing judged table c k next entry fault is entries took =
     sym is ∙ took_next listing (checking judged table c None k) entries entry took
 
@@ -80,8 +80,8 @@ counted_is : (listing : Bool) (judged : Option Side) (c : Certificate) (r : Repl
 counted_is listing None c r = refl
 counted_is listing (Some judged) c r = refl
 
-pub finished_ok : (listing : Bool) (judged : Option Side) (table : Table) (c : Certificate) (k : Kept) (left : Progress)
-    → kept_ended judged table c k ≡ Ok left → (entries : List (Result Item Reason)) → TookListed listing (checking judged table c None k) entries
+pub finished_ok : (listing : Bool) (judged : Option Side) (table : Table) (c : Certificate) (k : ReplayState) (left : Progress)
+    → kept_ended judged table c k ≡ Ok left → (entries : List (Result Item Reason)) → HasTakenListing listing (checking judged table c None k) entries
     → report_ok left ≡ given judged table c entries
 finished_ok listing judged table c k left is entries took =
     by (certificate_fits c >> entries_by judged table c entries nothing_replayed) refl
@@ -112,8 +112,8 @@ refused_at_end listing judged table c entries fault same =
         let is : fault ≡ other = cc in
         ap refusing is ∙ sym (ap (map_ok (reported judged)) (ends_so judged table c entries (Err other) e))
 
-pub finished_err : (listing : Bool) (judged : Option Side) (table : Table) (c : Certificate) (k : Kept) (fault : CheckFault)
-    → kept_ended judged table c k ≡ Err fault → (entries : List (Result Item Reason)) → TookListed listing (checking judged table c None k) entries
+pub finished_err : (listing : Bool) (judged : Option Side) (table : Table) (c : Certificate) (k : ReplayState) (fault : CheckFault)
+    → kept_ended judged table c k ≡ Err fault → (entries : List (Result Item Reason)) → HasTakenListing listing (checking judged table c None k) entries
     → refusing fault ≡ given judged table c entries
 finished_err listing judged table c k fault is entries took =
     refused_at_end listing judged table c entries fault (sym is ∙ took_end listing (checking judged table c None k) entries took)
@@ -123,9 +123,9 @@ pub record AreListed (judged : Option Side) (table : Table) (c : Certificate) (e
   pub events : (let x : Result (List Event) CheckFault = Ok (events_of steps) in x) ≡ run_by judged table c entries
   pub discards : (let x : Result (List (ℕ × EndFault)) CheckFault = Ok (discards_of steps) in x) ≡ discards_by judged table c entries
 
-pub listed_ok : (judged : Option Side) (table : Table) (c : Certificate) (k : Kept) (left : Progress) (steps : List Step)
-    → kept_ended judged table c k ≡ Ok left → IfSome left.steps (λ told. told_of steps ≡ told) → (entries : List (Result Item Reason))
-    → TookListed true (checking judged table c None k) entries → AreListed judged table c entries steps
+pub listed_ok : (judged : Option Side) (table : Table) (c : Certificate) (k : ReplayState) (left : Progress) (steps : List Step)
+    → kept_ended judged table c k ≡ Ok left → IfSome left.steps (λ told. listed_run_of steps ≡ told) → (entries : List (Result Item Reason))
+    → HasTakenListing true (checking judged table c None k) entries → AreListed judged table c entries steps
 listed_ok judged table c k left steps is tell entries took =
     by (replay_by judged table c entries) refl (sym is ∙ took_end true (checking judged table c None k) entries took)
   where
@@ -136,17 +136,17 @@ listed_ok judged table c k left steps is tell entries took =
     by (Ok r) e same =
         let last = lost_last judged c r in
         let is : left ≡ progress_of true judged c last = cc in
-        let told : told_of steps ≡ record { events = last.events; discards = last.discards } =
-        subst (λ (p : Progress). IfSome p.steps (λ (t : Told). told_of steps ≡ t)) is tell in
+        let told : listed_run_of steps ≡ record { events = last.events; discards = last.discards } =
+        subst (λ (p : Progress). IfSome p.steps (λ (t : ListedRun). listed_run_of steps ≡ t)) is tell in
         record {
-          events = ap (λ (t : Told). let x : Result (List Event) CheckFault = Ok t.events in x) told ∙ sym (ends_so judged table c entries (Ok r) e);
-          discards = ap (λ (t : Told). let x : Result (List (ℕ × EndFault)) CheckFault = Ok t.discards in x) told
+          events = ap (λ (t : ListedRun). let x : Result (List Event) CheckFault = Ok t.events in x) told ∙ sym (ends_so judged table c entries (Ok r) e);
+          discards = ap (λ (t : ListedRun). let x : Result (List (ℕ × EndFault)) CheckFault = Ok t.discards in x) told
               ∙ sym (discards_so judged table c entries (Ok r) e);
         }
 
 -- If the end of the record is refused, so is the replay.
-pub listed_err : (judged : Option Side) (table : Table) (c : Certificate) (k : Kept) (fault : CheckFault)
-    → kept_ended judged table c k ≡ Err fault → (entries : List (Result Item Reason)) → TookListed true (checking judged table c None k) entries
+pub listed_err : (judged : Option Side) (table : Table) (c : Certificate) (k : ReplayState) (fault : CheckFault)
+    → kept_ended judged table c k ≡ Err fault → (entries : List (Result Item Reason)) → HasTakenListing true (checking judged table c None k) entries
     → replay_by judged table c entries ≡ Err fault
 listed_err judged table c k fault is entries took =
     by (replay_by judged table c entries) (sym is ∙ took_end true (checking judged table c None k) entries took)
@@ -160,23 +160,23 @@ listed_err judged table c k fault is entries took =
 -- ---- a checker as it is kept
 
 -- After a refusal a checker stays as it is.
-pub stays : (listing : Bool) (s : Checking) (fault : CheckFault) (entry : Result Item Reason) → s.so_far ≡ Err fault
-    → (entries : List (Result Item Reason)) → TookListed listing s entries → TookListed listing s (entries ++ entry ∷ [])
+pub stays : (listing : Bool) (s : CheckerState) (fault : CheckFault) (entry : Result Item Reason) → s.so_far ≡ Err fault
+    → (entries : List (Result Item Reason)) → HasTakenListing listing s entries → HasTakenListing listing s (entries ++ entry ∷ [])
 stays listing s fault entry is entries took =
-    is ∙ sym (ap (λ (o : Result Kept CheckFault). o >>= kept_next s.judged s.table s.certificate entry) is)
+    is ∙ sym (ap (λ (o : Result ReplayState CheckFault). o >>= kept_next s.judged s.table s.certificate entry) is)
     ∙ took_next listing s entries entry took
 
 -- A checker is determined by what it keeps.
-pub turned : (listing : Bool) (s : Checking) (judged : Option Side) (table : Table) (c : Certificate) (o fault : Option CheckFault) (k : Kept)
-    → s ≡ checking judged table c o k → o ≡ fault → (entries : List (Result Item Reason)) → TookListed listing s entries
-    → TookListed listing (checking judged table c fault k) entries
+pub turned : (listing : Bool) (s : CheckerState) (judged : Option Side) (table : Table) (c : Certificate) (o fault : Option CheckFault) (k : ReplayState)
+    → s ≡ checking judged table c o k → o ≡ fault → (entries : List (Result Item Reason)) → HasTakenListing listing s entries
+    → HasTakenListing listing (checking judged table c fault k) entries
 turned listing s judged table c o fault k is same entries took =
-    subst (λ (x : Option CheckFault). TookListed listing (checking judged table c x k) entries) same (subst (λ (x : Checking). TookListed listing x entries) is took)
+    subst (λ (x : Option CheckFault). HasTakenListing listing (checking judged table c x k) entries) same (subst (λ (x : CheckerState). HasTakenListing listing x entries) is took)
 
 -- A new checker has taken no entry.
-pub took_nothing : (listing : Bool) (judged : Option Side) (table : Table) (c : Certificate) (k : Kept) → certificate_fits c ≡ Ok tt → k ≡ first_kept listing
-    → TookListed listing (checking judged table c None k) []
-took_nothing listing judged table c k fits is = rw (is, fits) (ap (λ (x : Kept). let a : Result Kept CheckFault = Ok x in a) (by judged c.fates))
+pub took_nothing : (listing : Bool) (judged : Option Side) (table : Table) (c : Certificate) (k : ReplayState) → certificate_fits c ≡ Ok tt → k ≡ first_kept listing
+    → HasTakenListing listing (checking judged table c None k) []
+took_nothing listing judged table c k fits is = rw (is, fits) (ap (λ (x : ReplayState). let a : Result ReplayState CheckFault = Ok x in a) (by judged c.fates))
   where
     by : (judged : Option Side) (fates : List Fate) → first_kept listing ≡ kept_of listing judged (record c { fates = fates }) nothing_replayed
     by None [] = refl
@@ -187,54 +187,54 @@ took_nothing listing judged table c k fits is = rw (is, fits) (ap (λ (x : Kept)
     by (Some sides.B) (fate ∷ fates) = refl
 
 -- After a refusal, the end of the record returns the same refusal.
-pub finishes_still : (listing : Bool) (s : Checking) (fault : CheckFault) → s.so_far ≡ Err fault → (entries : List (Result Item Reason)) → TookListed listing s entries
+pub finishes_still : (listing : Bool) (s : CheckerState) (fault : CheckFault) → s.so_far ≡ Err fault → (entries : List (Result Item Reason)) → HasTakenListing listing s entries
     → refusing fault ≡ given s.judged s.table s.certificate entries
 finishes_still listing s fault is entries took =
     refused_at_end listing s.judged s.table s.certificate entries fault
-    (sym (ap (λ (o : Result Kept CheckFault). o >>= kept_ended s.judged s.table s.certificate) is) ∙ took_end listing s entries took)
+    (sym (ap (λ (o : Result ReplayState CheckFault). o >>= kept_ended s.judged s.table s.certificate) is) ∙ took_end listing s entries took)
 
 -- Else the end of the record returns the report on the run.
-pub finishes_so : (listing : Bool) (s : Checking) (judged : Option Side) (table : Table) (c : Certificate) (o : Option CheckFault) (k : Kept)
+pub finishes_so : (listing : Bool) (s : CheckerState) (judged : Option Side) (table : Table) (c : Certificate) (o : Option CheckFault) (k : ReplayState)
     (report : Result Report CheckFault) → s ≡ checking judged table c o k → o ≡ None → (entries : List (Result Item Reason))
-    → (TookListed listing (checking judged table c None k) entries → report ≡ given judged table c entries) → TookListed listing s entries
+    → (HasTakenListing listing (checking judged table c None k) entries → report ≡ given judged table c entries) → HasTakenListing listing s entries
     → report ≡ given s.judged s.table s.certificate entries
 finishes_so listing s judged table c o k report is none entries so took =
     so (turned listing s judged table c o None k is none entries took)
-    ∙ ap (λ (x : Checking). given x.judged x.table x.certificate entries) (sym is)
+    ∙ ap (λ (x : CheckerState). given x.judged x.table x.certificate entries) (sym is)
 
 -- The refusal of a checker is the fault that it keeps.
-pub kept_fault : (s : Checking) (judged : Option Side) (table : Table) (c : Certificate) (o : Option CheckFault) (k : Kept) (fault : CheckFault)
+pub kept_fault : (s : CheckerState) (judged : Option Side) (table : Table) (c : Certificate) (o : Option CheckFault) (k : ReplayState) (fault : CheckFault)
     → s ≡ checking judged table c o k → o ≡ Some fault → (f : CheckFault) → s.so_far ≡ Err f → refusing fault ≡ Err f
 kept_fault s judged table c o k fault is some f refused =
     let same : so_far_of (Some fault) k ≡ Err f =
-    ap (λ (x : Option CheckFault). so_far_of x k) (sym some) ∙ ap (λ (x : Checking). x.so_far) (sym is) ∙ refused in
+    ap (λ (x : Option CheckFault). so_far_of x k) (sym some) ∙ ap (λ (x : CheckerState). x.so_far) (sym is) ∙ refused in
     let one : fault ≡ f = cc in ap refusing one
 
-pub no_fault : (s : Checking) (judged : Option Side) (table : Table) (c : Certificate) (o : Option CheckFault) (k : Kept) (f : CheckFault)
+pub no_fault : (s : CheckerState) (judged : Option Side) (table : Table) (c : Certificate) (o : Option CheckFault) (k : ReplayState) (f : CheckFault)
     → s ≡ checking judged table c o k → o ≡ None → s.so_far ≡ Err f → ⊥
 no_fault s judged table c o k f is none refused =
     let same : so_far_of None k ≡ Err f =
-    ap (λ (x : Option CheckFault). so_far_of x k) (sym none) ∙ ap (λ (x : Checking). x.so_far) (sym is) ∙ refused in cc
+    ap (λ (x : Option CheckFault). so_far_of x k) (sym none) ∙ ap (λ (x : CheckerState). x.so_far) (sym is) ∙ refused in cc
 
 -- ---- the count of messages that wait
 
-waits : (listing : Bool) (judged : Option Side) (table : Table) (c : Certificate) (k : Kept) (entries : List (Result Item Reason))
-    → TookListed listing (checking judged table c None k) entries → count_waiting judged k.progress ≡ count_ahead judged (length entries) c.fates entries
+waits : (listing : Bool) (judged : Option Side) (table : Table) (c : Certificate) (k : ReplayState) (entries : List (Result Item Reason))
+    → HasTakenListing listing (checking judged table c None k) entries → count_waiting judged k.progress ≡ count_ahead judged (length entries) c.fates entries
 waits listing judged table c k entries took = by (taken judged table c entries) refl took
   where
-    by : (o : Result Replay CheckFault) → taken judged table c entries ≡ o → (let a : Result Kept CheckFault = Ok k in a) ≡ map_ok (kept_of listing judged c) o
+    by : (o : Result Replay CheckFault) → taken judged table c entries ≡ o → (let a : Result ReplayState CheckFault = Ok k in a) ≡ map_ok (kept_of listing judged c) o
         → count_waiting judged k.progress ≡ count_ahead judged (length entries) c.fates entries
     by (Err fault) e same = cc
     by (Ok r) e same =
         let is : k ≡ kept_of listing judged c r = cc in
-        ap (λ (x : Kept). count_waiting judged x.progress) is ∙ pending_is listing judged table c entries r e
+        ap (λ (x : ReplayState). count_waiting judged x.progress) is ∙ pending_is listing judged table c entries r e
 
-pub waits_so : (listing : Bool) (s : Checking) (judged : Option Side) (table : Table) (c : Certificate) (o : Option CheckFault) (k : Kept)
-    → s ≡ checking judged table c o k → (entries : List (Result Item Reason)) → TookListed listing s entries → IsTrue (is_ok s.so_far)
+pub waits_so : (listing : Bool) (s : CheckerState) (judged : Option Side) (table : Table) (c : Certificate) (o : Option CheckFault) (k : ReplayState)
+    → s ≡ checking judged table c o k → (entries : List (Result Item Reason)) → HasTakenListing listing s entries → IsTrue (is_ok s.so_far)
     → count_waiting s.judged k.progress ≡ count_ahead s.judged (length entries) s.certificate.fates entries
 waits_so listing s judged table c None k is entries took so =
-    ap (λ (x : Checking). count_waiting x.judged k.progress) is
-    ∙ waits listing judged table c k entries (subst (λ (x : Checking). TookListed listing x entries) is took)
-    ∙ ap (λ (x : Checking). count_ahead x.judged (length entries) x.certificate.fates entries) (sym is)
+    ap (λ (x : CheckerState). count_waiting x.judged k.progress) is
+    ∙ waits listing judged table c k entries (subst (λ (x : CheckerState). HasTakenListing listing x entries) is took)
+    ∙ ap (λ (x : CheckerState). count_ahead x.judged (length entries) x.certificate.fates entries) (sym is)
 waits_so listing s judged table c (Some fault) k is entries took so =
-    let no : is_ok s.so_far ≡ false = ap (λ (x : Checking). is_ok x.so_far) is in cc
+    let no : is_ok s.so_far ≡ false = ap (λ (x : CheckerState). is_ok x.so_far) is in cc

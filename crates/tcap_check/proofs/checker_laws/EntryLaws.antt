@@ -15,7 +15,7 @@ use Rattle.tcap_certificate.specs.Certificate.{Certificate}
 use Rattle.tcap_certificate.specs.Replay.{Replay, certificate_fits, entries_by, entry_by, fault_at, gap_by, item_by, lost_last, next_entry, nothing_replayed}
 use Rattle.tcap_check.specs.EntryOutlines.{is_named, outline_of, outlines_from, since_from}
 use Rattle.tcap_check.specs.Progress.{last_lost}
-use Rattle.tcap_check.specs.CheckerMeaning.{Checking, Kept, TookListed, ended, entry_kept, gap_before, kept_ended, kept_next, kept_of, kept_with, map_ok, progress_of, taken, taken_from, taken_next}
+use Rattle.tcap_check.specs.CheckerMeaning.{CheckerState, ReplayState, HasTakenListing, ended, entry_kept, gap_before, kept_ended, kept_next, kept_of, kept_with, map_ok, progress_of, taken, taken_from, taken_next}
 use Rattle.tcap_check.proofs.progress_laws.KeptBasics.{last_is, map_both, ok_behind, then_same, then_then}
 use Rattle.tcap_check.proofs.progress_laws.KeptEntries.{item_is, item_sends, outlines_more, since_more, IsHeard, gap_keeps, heard_empty}
 use Rattle.tcap_check.proofs.progress_laws.KeptGaps.{gap_is, outlines_count}
@@ -37,7 +37,7 @@ kept_more : (listing : Bool) (judged : Option Side) (c : Certificate) (item : It
     → kept_with c item (kept_of listing judged c r) (progress_of listing judged c next) ≡ kept_of listing judged c next
 kept_more listing judged c item r next sent =
     ap₂ (λ (entries : List Outline) (since : ℕ).
-    let k : Kept = record { progress = progress_of listing judged c next; entries = entries; since = since } in k) entries since
+    let k : ReplayState = record { progress = progress_of listing judged c next; entries = entries; since = since } in k) entries since
   where
     items : List Item
     items = r.world.sent
@@ -152,22 +152,22 @@ then_made f g (Ok x) kept on same = same x refl
 then_made f g (Err reason) kept on same = refl
 
 -- If a checker implements the replay of these entries, its next step implements one more.
-pub took_next : (listing : Bool) (s : Checking) (entries : List (Result Item Reason)) (entry : Result Item Reason) → TookListed listing s entries
+pub took_next : (listing : Bool) (s : CheckerState) (entries : List (Result Item Reason)) (entry : Result Item Reason) → HasTakenListing listing s entries
     → (s.so_far >>= kept_next s.judged s.table s.certificate entry)
     ≡ map_ok (kept_of listing s.judged s.certificate) (taken s.judged s.table s.certificate (entries ++ entry ∷ []))
 took_next listing s entries entry took =
-    ap (λ (x : Result Kept CheckFault). x >>= kept_next s.judged s.table s.certificate entry) took
+    ap (λ (x : Result ReplayState CheckFault). x >>= kept_next s.judged s.table s.certificate entry) took
     ∙ then_made (kept_of listing s.judged s.certificate) (kept_of listing s.judged s.certificate) (taken s.judged s.table s.certificate entries)
     (kept_next s.judged s.table s.certificate entry) (taken_next s.judged s.table s.certificate entry)
     (λ r is. next_is listing s.judged s.table s.certificate entry r)
     ∙ ap (map_ok (kept_of listing s.judged s.certificate)) (sym (taken_more s.judged s.table s.certificate entries entry))
 
-pub took_end : (listing : Bool) (s : Checking) (entries : List (Result Item Reason)) → TookListed listing s entries
+pub took_end : (listing : Bool) (s : CheckerState) (entries : List (Result Item Reason)) → HasTakenListing listing s entries
     → (s.so_far >>= kept_ended s.judged s.table s.certificate)
     ≡ map_ok (progress_of listing s.judged s.certificate) (map_ok (lost_last s.judged s.certificate)
     (certificate_fits s.certificate >> entries_by s.judged s.table s.certificate entries nothing_replayed))
 took_end listing s entries took =
-    ap (λ (x : Result Kept CheckFault). x >>= kept_ended s.judged s.table s.certificate) took
+    ap (λ (x : Result ReplayState CheckFault). x >>= kept_ended s.judged s.table s.certificate) took
     ∙ then_ended (taken s.judged s.table s.certificate entries)
     ∙ ap (λ (x : Result Replay CheckFault). map_ok (progress_of listing s.judged s.certificate) (map_ok (lost_last s.judged s.certificate) x))
     (sym (replayed_is s.judged s.table s.certificate entries))

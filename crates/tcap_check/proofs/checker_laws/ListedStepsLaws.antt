@@ -12,12 +12,12 @@ use Rattle.tcap_check.specs.declared.replaying.Replaying.{Replaying}
 use Rattle.tcap_check.specs.declared.runs.Partial.{Partial}
 use Rattle.tcap_check.specs.declared.step.Step.{Step}
 use Rattle.tcap_certificate.specs.Certificate.{Certificate}
-use Rattle.tcap_check.specs.CheckerMeaning.{TookListed, kept_ended, map_ok}
+use Rattle.tcap_check.specs.CheckerMeaning.{HasTakenListing, kept_ended, map_ok}
 use Rattle.tcap_check.specs.Progress.{YieldsInMemory}
 use Rattle.tcap_check.specs.ReplayInvariants.{checking_of, kept_in}
 use Rattle.tcap_certificate.specs.Replay.{certificate_fits, discards_by, fault_at, replay_by, replayed_by}
 use Rattle.tcap_check.specs.RunSoFar.{EndsListed, UnlessMemory, IsAnswered, IsRefusedThere, ShowsAmong, answered}
-use Rattle.tcap_check.specs.ReportedSteps.{discards_of, events_of, told_of}
+use Rattle.tcap_check.specs.ReportedSteps.{discards_of, events_of, listed_run_of}
 use Rattle.tcap_check.proofs.checker_laws.CheckerLaws.{discards_so, ends_so, listed_err, listed_ok}
 use Rattle.tcap_check.proofs.checker_laws.RefusalLaws.{run_given, run_may}
 use Rattle.tcap_check.proofs.refusal_laws.SendShows.{unfit_shows}
@@ -53,7 +53,7 @@ refused_listed judged table c entries fault left is steps tell = refused_answers
 
 -- If all entries were taken, the last gap decides the answer.
 pub ends_listed : (x y : Replaying) (entries : List Entry) (o : Result (Unit {0}) CheckFault) (left : Progress) → GoesAlike x y
-    → TookListed true (checking_of y) (map item_of entries)
+    → HasTakenListing true (checking_of y) (map item_of entries)
     → YieldsInMemory (kept_ended y.judged y.table.now y.certificate.now (kept_in y)) o left
     → UnlessMemory o (EndsListed x.judged x.table.now x.certificate.now entries o left)
 ends_listed x y entries (Ok done) left alike took yields = λ steps tell.
@@ -77,11 +77,11 @@ answered_so (Some fault) (Err other) steps is = cc
 pub run_answered : (x : Replaying) (judged : Option Side) (table : Table) (c : Certificate) (entries : List Entry) (kept left : Progress)
     (o : Result (Unit {0}) CheckFault) (refused : Option CheckFault) (steps : List Step) → x.judged ≡ judged → x.table.now ≡ table → x.certificate.now ≡ c
     → left ≡ kept → answered refused tt ≡ o → EndsListed x.judged x.table.now x.certificate.now entries o kept
-    → left.steps ≡ Some (told_of steps) → IsAnswered judged table c entries (answered refused steps)
+    → left.steps ≡ Some (listed_run_of steps) → IsAnswered judged table c entries (answered refused steps)
 run_answered x judged table c entries kept left o refused steps who at by same is ends tell =
     rw (sym who, sym at, sym by)
     (subst (IsAnswered x.judged x.table.now x.certificate.now entries) (answered_so refused o steps is)
-    (ends steps (subst (λ (p : Progress). p.steps ≡ Some (told_of steps)) same tell)))
+    (ends steps (subst (λ (p : Progress). p.steps ≡ Some (listed_run_of steps)) same tell)))
 
 -- If a send is refused, the end that is left refuses it too.
 pub run_stopped : (x : Replaying) (table : Table) (entries : List Entry) (kept left : Progress) (o : Result (Unit {0}) CheckFault)

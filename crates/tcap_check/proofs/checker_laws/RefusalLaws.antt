@@ -21,7 +21,7 @@ use Rattle.tcap_check.specs.GivenRun.{SaysLawful, IsBounded, IsRefused, RefusesF
 use Rattle.tcap_certificate.specs.Replay.{Replay, discards_by, fault_at, replay_by, replayed_by, certificate_fits, entries_by, nothing_replayed, run_by}
 use Rattle.tcap_check.specs.ReportedSteps.{MayAllBeDiscarded}
 use Rattle.tcap_model.specs.declared.reason.Reason.TheVariants.{Memory}
-use Rattle.tcap_check.specs.CheckerMeaning.{Checking, Kept, TookListed, ended, kept_next, kept_of, map_ok, reported, taken, taken_next, Took, answer_of}
+use Rattle.tcap_check.specs.CheckerMeaning.{CheckerState, ReplayState, HasTakenListing, ended, kept_next, kept_of, map_ok, reported, taken, taken_next, HasTaken, answer_of}
 use Rattle.tcap_check.specs.ReplayInvariants.{checking_of, kept_in}
 use Rattle.tcap_check.proofs.one_end_laws.AloneRuns.{gives_for}
 use Rattle.tcap_check.proofs.checker_laws.CheckerLaws.{checking, ends_so, given, refusing, took_err, took_ok}
@@ -50,16 +50,16 @@ taken_short judged table c entries (entry ∷ more) fault is =
     (taken_more judged table c entries entry ∙ ap (λ (o : Result Replay CheckFault). o >>= taken_next judged table c entry) is))
 
 -- A checker with a fault implements a replay that is refused.
-pub refused_is : (listing : Bool) (s : Checking) (entries : List (Result Item Reason)) (fault : CheckFault) → TookListed listing s entries → s.so_far ≡ Err fault
+pub refused_is : (listing : Bool) (s : CheckerState) (entries : List (Result Item Reason)) (fault : CheckFault) → HasTakenListing listing s entries → s.so_far ≡ Err fault
     → taken s.judged s.table s.certificate entries ≡ Err fault
 refused_is listing s entries fault took is = by (taken s.judged s.table s.certificate entries) (sym is ∙ took)
   where
-    by : (o : Result Replay CheckFault) → (let a : Result Kept CheckFault = Err fault in a) ≡ map_ok (kept_of listing s.judged s.certificate) o
+    by : (o : Result Replay CheckFault) → (let a : Result ReplayState CheckFault = Err fault in a) ≡ map_ok (kept_of listing s.judged s.certificate) o
         → o ≡ Err fault
     by (Ok r) same = cc
     by (Err other) same = let is : fault ≡ other = cc in ap (λ (f : CheckFault). let a : Result Replay CheckFault = Err f in a) (sym is)
 
-refused_short : (listing : Bool) (s : Checking) (entries more all : List (Result Item Reason)) (fault : CheckFault) → TookListed listing s entries
+refused_short : (listing : Bool) (s : CheckerState) (entries more all : List (Result Item Reason)) (fault : CheckFault) → HasTakenListing listing s entries
     → s.so_far ≡ Err fault → entries ++ more ≡ all → replay_by s.judged s.table s.certificate all ≡ Err fault
 refused_short listing s entries more all fault took is whole =
     let short = taken_short s.judged s.table s.certificate entries more fault (refused_is listing s entries fault took is) in
@@ -69,15 +69,15 @@ refused_short listing s entries more all fault took is whole =
 -- A replay takes one more entry.
 pub took_more : (listing : Bool) (x y : Replaying) (entry : Result Item Reason) → y.judged ≡ x.judged → y.table ≡ x.table → y.certificate ≡ x.certificate
     → kept_next x.judged x.table.now x.certificate.now entry (kept_in x) ≡ Ok (kept_in y) → (before : List (Result Item Reason))
-    → TookListed listing (checking_of x) before → TookListed listing (checking_of y) (before ++ entry ∷ [])
+    → HasTakenListing listing (checking_of x) before → HasTakenListing listing (checking_of y) (before ++ entry ∷ [])
 took_more listing x y entry judged table certificate is before took =
     rw (judged, table, certificate)
     (took_ok listing x.judged x.table.now x.certificate.now (kept_in x) (kept_in y) entry is before took)
 
 -- If an entry is refused, the replay of all entries is refused for the same reason.
-pub refused_at : (listing : Bool) (judged : Option Side) (table : Table) (c : Certificate) (k : Kept) (entry : Result Item Reason) (fault : CheckFault)
+pub refused_at : (listing : Bool) (judged : Option Side) (table : Table) (c : Certificate) (k : ReplayState) (entry : Result Item Reason) (fault : CheckFault)
     → kept_next judged table c entry k ≡ Err fault → (before more all : List (Result Item Reason))
-    → TookListed listing (checking judged table c None k) before → (before ++ entry ∷ []) ++ more ≡ all
+    → HasTakenListing listing (checking judged table c None k) before → (before ++ entry ∷ []) ++ more ≡ all
     → replay_by judged table c all ≡ Err fault
 refused_at listing judged table c k entry fault is before more all took whole =
     refused_short listing (checking judged table c (Some fault) k) (before ++ entry ∷ []) more all fault
@@ -177,7 +177,7 @@ refusal fault = Err fault
 
 -- ---- refusals
 
-stays_refused : (s : Checking) (entries : List Entry) (fault : CheckFault) → Took s (map item_of entries) → s.so_far ≡ Err fault
+stays_refused : (s : CheckerState) (entries : List Entry) (fault : CheckFault) → HasTaken s (map item_of entries) → s.so_far ≡ Err fault
     → IsRefused s.judged s.table s.certificate entries fault
 stays_refused s entries fault took is = λ more.
     let judged = s.judged in
@@ -192,9 +192,9 @@ stays_refused s entries fault took is = λ more.
     (run, refusal_says judged table c (entries ++ more) fault run)
 
 -- If the result is a fault, the checker keeps this fault.
-answered : (kept : Result Kept CheckFault) (fault : CheckFault) → answer_of kept ≡ Err fault → kept ≡ Err fault
+answered : (kept : Result ReplayState CheckFault) (fault : CheckFault) → answer_of kept ≡ Err fault → kept ≡ Err fault
 answered (Ok k) fault is = cc
-answered (Err other) fault is = let same : other ≡ fault = cc in ap (λ (f : CheckFault). let a : Result Kept CheckFault = Err f in a) same
+answered (Err other) fault is = let same : other ≡ fault = cc in ap (λ (f : CheckFault). let a : Result ReplayState CheckFault = Err f in a) same
 
 same_fault : (fault other : CheckFault) → refusing fault ≡ Err other → fault ≡ other
 same_fault fault other is = cc
@@ -203,17 +203,17 @@ one_fault : (fault other : CheckFault) → (let a : Result (Unit {0}) CheckFault
 one_fault fault other is = cc
 
 -- If one more entry is refused, it is refused for good.
-stays_refused_at : (s : Checking) (entries : List Entry) (entry : Entry) (item : Result Item Reason) (fault : CheckFault)
-    → Took s (map item_of entries ++ item ∷ []) → item_of entry ≡ item → s.so_far ≡ Err fault
+stays_refused_at : (s : CheckerState) (entries : List Entry) (entry : Entry) (item : Result Item Reason) (fault : CheckFault)
+    → HasTaken s (map item_of entries ++ item ∷ []) → item_of entry ≡ item → s.so_far ≡ Err fault
     → IsRefused s.judged s.table s.certificate (entries ++ entry ∷ []) fault
 stays_refused_at s entries entry item fault took same is =
     stays_refused s (entries ++ entry ∷ []) fault
-    (subst (λ (x : List (Result Item Reason)). Took s x)
+    (subst (λ (x : List (Result Item Reason)). HasTaken s x)
     (ap (λ (x : Result Item Reason). map item_of entries ++ x ∷ []) (sym same) ∙ sym (map-append item_of entries (entry ∷ []))) took) is
 
 -- This holds for each call that takes the entry.
-pub refuses_for_good : (s behind : Checking) (next : Result Item Reason) (answer : Result (Unit {0}) CheckFault)
-    → ((entries : List (Result Item Reason)) → Took s entries → answer ≢ Err (fault_at Memory 0) → Took behind (entries ++ next ∷ []))
+pub refuses_for_good : (s behind : CheckerState) (next : Result Item Reason) (answer : Result (Unit {0}) CheckFault)
+    → ((entries : List (Result Item Reason)) → HasTaken s entries → answer ≢ Err (fault_at Memory 0) → HasTaken behind (entries ++ next ∷ []))
     → answer ≡ answer_of behind.so_far → behind.judged ≡ s.judged → behind.table ≡ s.table → behind.certificate ≡ s.certificate
     → RefusesForGood s next answer
 refuses_for_good s behind next answer takes answers judged table certificate = λ entries entry fault took same is other.
@@ -324,16 +324,16 @@ is_bounded judged table c entries items report are is = by judged (replayed_by j
 
 -- ---- the result of a checker at its end, if the certificate gives it
 
-module _ (s : Checking) (result : Result Report CheckFault)
-    (finished : (entries : List (Result Item Reason)) → Took s entries → result ≢ Err (fault_at Memory 0)
+module _ (s : CheckerState) (result : Result Report CheckFault)
+    (finished : (entries : List (Result Item Reason)) → HasTaken s entries → result ≢ Err (fault_at Memory 0)
     → result ≡ given s.judged s.table s.certificate entries) where
-  pub ends_lawful : (entries : List (Result Item Reason)) (report : Report) → Took s entries → result ≡ Ok report
+  pub ends_lawful : (entries : List (Result Item Reason)) (report : Report) → HasTaken s entries → result ≡ Ok report
       → (items : List Item) × (map ok_item items ≡ entries) × SaysLawful s.judged items s.table report
   ends_lawful entries report took is =
       lawful_of s.judged s.table s.certificate entries report
       (sym (finished entries took (is_report result report (fault_at Memory 0) is)) ∙ is)
 
-  pub ends_as_described : (items : List Item) (events : List Event) → Took s (map ok_item items) → IsRunOf items s.table events
+  pub ends_as_described : (items : List Item) (events : List Event) → HasTaken s (map ok_item items) → IsRunOf items s.table events
       → IsDescribedBy s.table s.certificate items events → s.judged ≡ None → result ≢ Err (fault_at Memory 0)
       → result ≡ Ok (reported None events)
   ends_as_described items events took run described both other =
@@ -341,14 +341,14 @@ module _ (s : Checking) (result : Result Report CheckFault)
       ∙ ap (λ (judged : Option Side). given judged s.table s.certificate (map ok_item items)) both
       ∙ described_of s.table s.certificate items events run described
 
-  pub ends_with_reason : (entries : List Entry) (fault : CheckFault) → Took s (map item_of entries) → result ≡ Err fault
+  pub ends_with_reason : (entries : List Entry) (fault : CheckFault) → HasTaken s (map item_of entries) → result ≡ Err fault
       → fault ≢ fault_at Memory 0 → ShowsReason s.judged s.table s.certificate entries fault
   ends_with_reason entries fault took is other =
       let said = finished (map item_of entries) took (λ memory. other (same_fault fault (fault_at Memory 0) (sym is ∙ memory))) in
       refusal_says s.judged s.table s.certificate entries fault
       (end_is_refused s.judged s.table s.certificate entries fault (sym is ∙ said))
 
-  pub ends_bounded : (items : List Item) (report : Report) → Took s (map ok_item items) → result ≡ Ok report
+  pub ends_bounded : (items : List Item) (report : Report) → HasTaken s (map ok_item items) → result ≡ Ok report
       → IsBounded s.judged s.certificate items report
   ends_bounded items report took is =
       is_bounded s.judged s.table s.certificate (map entry_of items) items report (entries_are items)

@@ -6,7 +6,7 @@ use Rattle.tcap_end.specs.declared.fault.EndFault.{EndFault}
 use Rattle.tcap_model.specs.Run.{Event, Loses}
 use Rattle.tcap_check.specs.declared.step.Step.{Step}
 use Rattle.tcap_check.specs.declared.step.Step.TheVariants as steps
-use Rattle.tcap_check.specs.ReportedSteps.{Told, discard_more, discard_of, discards_of, event_of, events_of, more_told, told_if, told_of}
+use Rattle.tcap_check.specs.ReportedSteps.{ListedRun, with_one_discard, discard_of, discards_of, event_of, events_of, with_events, listed_run_if, listed_run_of}
 
 events_more : (list : List Step) (step : Step) → events_of (list ++ step ∷ []) ≡ events_of list ++ event_of step ∷ []
 events_more [] step = refl
@@ -30,20 +30,20 @@ discards_more (first ∷ list) step = by (discard_of first) refl (discards_more 
     by None is rest = rw is rest
     by (Some x) is rest = rw is (ap (λ (y : List (ℕ × EndFault)). x ∷ y) rest)
 
-abbrev told : (events : List Event) (discards : List (ℕ × EndFault)) → Told
+abbrev told : (events : List Event) (discards : List (ℕ × EndFault)) → ListedRun
 told events discards = record { events = events; discards = discards }
 
 -- One more step that is no discard.
 pub one_more : (list : List Step) (step : Step) → discard_of step ≡ None
-    → told_of (list ++ step ∷ []) ≡ more_told (event_of step ∷ []) (told_of list)
+    → listed_run_of (list ++ step ∷ []) ≡ with_events (event_of step ∷ []) (listed_run_of list)
 one_more list step none =
     ap₂ told (events_more list step)
     (discards_more list step ∙ ap (λ (o : Option (ℕ × EndFault)). discards_of list ++ with_discard o) none ∙ append-nil (discards_of list))
 
 -- One more discard.
 pub one_discard_more : (list : List Step) (side : Side) (number : ℕ) (reason : EndFault)
-    → told_of (list ++ steps.Discards side number reason ∷ [])
-    ≡ discard_more number reason (more_told (Loses side number ∷ []) (told_of list))
+    → listed_run_of (list ++ steps.Discards side number reason ∷ [])
+    ≡ with_one_discard number reason (with_events (Loses side number ∷ []) (listed_run_of list))
 one_discard_more list side number reason =
     ap₂ told (events_more list (steps.Discards side number reason)) (discards_more list (steps.Discards side number reason))
 
@@ -51,26 +51,26 @@ one_discard_more list side number reason =
 
 -- The report after more events.
 pub more_if : (listed : Bool) (more events : List Event) (discards : List (ℕ × EndFault))
-    → option_map (more_told more) (told_if listed events discards) ≡ told_if listed (events ++ more) discards
+    → option_map (with_events more) (listed_run_if listed events discards) ≡ listed_run_if listed (events ++ more) discards
 more_if true more events discards = refl
 more_if false more events discards = refl
 
 -- The report after one more discard.
 pub discard_if : (listing : Bool) (side : Side) (number : ℕ) (reason : EndFault) (events : List Event) (discards : List (ℕ × EndFault))
-    → option_map (λ told. discard_more number reason (more_told (Loses side number ∷ []) told)) (told_if listing events discards)
-    ≡ told_if listing (events ++ Loses side number ∷ []) (discards ++ (number, reason) ∷ [])
+    → option_map (λ told. with_one_discard number reason (with_events (Loses side number ∷ []) told)) (listed_run_if listing events discards)
+    ≡ listed_run_if listing (events ++ Loses side number ∷ []) (discards ++ (number, reason) ∷ [])
 discard_if true side number reason events discards = refl
 discard_if false side number reason events discards = refl
 
-pub told_still : (o : Option Told) → option_map (more_told []) o ≡ o
+pub told_still : (o : Option ListedRun) → option_map (with_events []) o ≡ o
 told_still None = refl
 told_still (Some told) =
-    ap (λ (x : List Event). let y : Option Told = Some (record { events = x; discards = told.discards }) in y) (append-nil told.events)
+    ap (λ (x : List Event). let y : Option ListedRun = Some (record { events = x; discards = told.discards }) in y) (append-nil told.events)
 
 -- More events can be added one by one.
-pub told_both : (event : Event) (events : List Event) (o : Option Told)
-    → option_map (more_told events) (option_map (more_told (event ∷ [])) o) ≡ option_map (more_told (event ∷ events)) o
+pub told_both : (event : Event) (events : List Event) (o : Option ListedRun)
+    → option_map (with_events events) (option_map (with_events (event ∷ [])) o) ≡ option_map (with_events (event ∷ events)) o
 told_both event events None = refl
 told_both event events (Some told) =
-    ap (λ (x : List Event). let y : Option Told = Some (record { events = x; discards = told.discards }) in y)
+    ap (λ (x : List Event). let y : Option ListedRun = Some (record { events = x; discards = told.discards }) in y)
     (append_assoc told.events (event ∷ []) events)

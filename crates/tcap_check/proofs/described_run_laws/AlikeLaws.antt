@@ -15,7 +15,7 @@ use Rattle.tcap_certificate.specs.declared.certificate.Fate.{Fate}
 use Rattle.tcap_certificate.specs.declared.certificate.Fate.TheVariants.{Gap, Lost, By}
 use Rattle.tcap_certificate.specs.Certificate.{Certificate}
 use Rattle.tcap_record.specs.Ends.{other}
-use Rattle.tcap_model.specs.World.{Item, OnItsWay, World, channel_from, empty, end_at, with_channel, with_end}
+use Rattle.tcap_model.specs.World.{Item, MessageInTransit, World, channel_from, empty, end_at, with_channel, with_end}
 use Rattle.tcap_model.specs.Run.{Event, Sends, Receives, Replies, Loses, Expires, Closes, Quiet, Tells, Runs, after, joined, played, reply_to}
 use Rattle.tcap_certificate.specs.DescribedRun.{without_losses}
 use Rattle.tcap_certificate.specs.Replay.{Replay, if_lost, lost_before, lost_from_both, lost_from_front, lost_front, stepped, with_step}
@@ -27,36 +27,36 @@ use Rattle.tcap_model.proofs.RunLaws.{closing, delivery, expiry, loss, quiet, re
 -- ---- messages that are not lost
 
 -- The messages of two joined channels that are not lost.
-waiting_both : (fates : List Fate) (xs ys : List OnItsWay) → waiting fates (xs ++ ys) ≡ waiting fates xs ++ waiting fates ys
+waiting_both : (fates : List Fate) (xs ys : List MessageInTransit) → waiting fates (xs ++ ys) ≡ waiting fates xs ++ waiting fates ys
 waiting_both fates [] ys = refl
 waiting_both fates (m ∷ xs) ys = by (slice_get fates m.number) (waiting_both fates xs ys)
   where
     by : (o : Option Fate) → waiting fates (xs ++ ys) ≡ waiting fates xs ++ waiting fates ys
         → waiting_by o m (waiting fates (xs ++ ys)) ≡ waiting_by o m (waiting fates xs) ++ waiting fates ys
-    by None is = ap (λ (x : List OnItsWay). m ∷ x) is
-    by (Some (Gap g)) is = ap (λ (x : List OnItsWay). m ∷ x) is
-    by (Some (By k)) is = ap (λ (x : List OnItsWay). m ∷ x) is
+    by None is = ap (λ (x : List MessageInTransit). m ∷ x) is
+    by (Some (Gap g)) is = ap (λ (x : List MessageInTransit). m ∷ x) is
+    by (Some (By k)) is = ap (λ (x : List MessageInTransit). m ∷ x) is
     by (Some Lost) is = is
 
 -- After the losses at the front, the first message that is not lost is the head.
-front_is : (fates : List Fate) (channel : List OnItsWay) (head : OnItsWay) (tail : List OnItsWay) → waiting fates channel ≡ head ∷ tail
-    → (more : List OnItsWay) × (drop (length (lost_front fates channel)) channel ≡ head ∷ more) × (waiting fates more ≡ tail)
+front_is : (fates : List Fate) (channel : List MessageInTransit) (head : MessageInTransit) (tail : List MessageInTransit) → waiting fates channel ≡ head ∷ tail
+    → (more : List MessageInTransit) × (drop (length (lost_front fates channel)) channel ≡ head ∷ more) × (waiting fates more ≡ tail)
 front_is fates [] head tail is = cc
 front_is fates (first ∷ more) head tail is = by (slice_get fates first.number) (front_is fates more head tail) is
   where
     by : (o : Option Fate)
         → (waiting fates more ≡ head ∷ tail
-        → (x : List OnItsWay) × (drop (length (lost_front fates more)) more ≡ head ∷ x) × (waiting fates x ≡ tail))
+        → (x : List MessageInTransit) × (drop (length (lost_front fates more)) more ≡ head ∷ x) × (waiting fates x ≡ tail))
         → waiting_by o first (waiting fates more) ≡ head ∷ tail
-        → (x : List OnItsWay) × (drop (length (if_lost o (first.number ∷ lost_front fates more))) (first ∷ more) ≡ head ∷ x)
+        → (x : List MessageInTransit) × (drop (length (if_lost o (first.number ∷ lost_front fates more))) (first ∷ more) ≡ head ∷ x)
         × (waiting fates x ≡ tail)
-    by None on e = let same : first ≡ head = cc in (more, ap (λ (x : OnItsWay). x ∷ more) same, cc)
-    by (Some (Gap g)) on e = let same : first ≡ head = cc in (more, ap (λ (x : OnItsWay). x ∷ more) same, cc)
-    by (Some (By k)) on e = let same : first ≡ head = cc in (more, ap (λ (x : OnItsWay). x ∷ more) same, cc)
+    by None on e = let same : first ≡ head = cc in (more, ap (λ (x : MessageInTransit). x ∷ more) same, cc)
+    by (Some (Gap g)) on e = let same : first ≡ head = cc in (more, ap (λ (x : MessageInTransit). x ∷ more) same, cc)
+    by (Some (By k)) on e = let same : first ≡ head = cc in (more, ap (λ (x : MessageInTransit). x ∷ more) same, cc)
     by (Some Lost) on e = on e
 
 -- If all messages are lost, none is left.
-front_none : (fates : List Fate) (channel : List OnItsWay) → waiting fates channel ≡ []
+front_none : (fates : List Fate) (channel : List MessageInTransit) → waiting fates channel ≡ []
     → drop (length (lost_front fates channel)) channel ≡ []
 front_none fates [] is = refl
 front_none fates (first ∷ more) is = by (slice_get fates first.number) (front_none fates more) is
@@ -97,7 +97,7 @@ pub alike_end : (fates : List Fate) (side : Side) (e : End) (w v : World) → Al
 alike_end fates sides.A e w v is = record { a = refl; b = is.b; sent = is.sent; from_a = is.from_a; from_b = is.from_b }
 alike_end fates sides.B e w v is = record { a = is.a; b = refl; sent = is.sent; from_a = is.from_a; from_b = is.from_b }
 
-alike_channel : (fates : List Fate) (side : Side) (xs ys : List OnItsWay) (w v : World) → Alike fates w v
+alike_channel : (fates : List Fate) (side : Side) (xs ys : List MessageInTransit) (w v : World) → Alike fates w v
     → waiting fates ys ≡ waiting fates xs → Alike fates (with_channel side xs w) (with_channel side ys v)
 alike_channel fates sides.A xs ys w v is same = record { a = is.a; b = is.b; sent = is.sent; from_a = same; from_b = is.from_b }
 alike_channel fates sides.B xs ys w v is same = record { a = is.a; b = is.b; sent = is.sent; from_a = is.from_a; from_b = same }
@@ -106,14 +106,14 @@ pub alike_joined : (fates : List Fate) (side : Side) (m : Message) (w v : World)
     → Alike fates (joined side m w) (joined side m v)
 alike_joined fates side m w v is = by side
   where
-    on_its_way : World → OnItsWay
+    on_its_way : World → MessageInTransit
     on_its_way x = record { number = length x.sent; message = m }
 
-    one : (x y : List OnItsWay) → waiting fates y ≡ waiting fates x
+    one : (x y : List MessageInTransit) → waiting fates y ≡ waiting fates x
         → waiting fates (y ++ on_its_way v ∷ []) ≡ waiting fates (x ++ on_its_way w ∷ [])
     one x y same =
         waiting_both fates y (on_its_way v ∷ [])
-        ∙ ap₂ (λ (p q : List OnItsWay). p ++ q) same
+        ∙ ap₂ (λ (p q : List MessageInTransit). p ++ q) same
         (ap (λ (items : List Item). waiting fates (record { number = length items; message = m } ∷ [])) is.sent)
         ∙ sym (waiting_both fates x (on_its_way w ∷ []))
 
@@ -148,13 +148,13 @@ alike_front c side w r is =
     (alike_channel c.fates side (channel_from side w) left w r.world is same)
 
 -- The head of the replay's channel, after the losses at the front, is this message.
-record IsFront (c : Certificate) (side : Side) (head : OnItsWay) (more : List OnItsWay) (r : Replay) : Type 0 where
-  left : List OnItsWay
+record IsFront (c : Certificate) (side : Side) (head : MessageInTransit) (more : List MessageInTransit) (r : Replay) : Type 0 where
+  left : List MessageInTransit
   channel : channel_from side (lost_from_front c side r).world ≡ head ∷ left
   same : waiting c.fates left ≡ waiting c.fates more
 
 -- A message of the run that is not lost is the head of the replay's channel, after the losses there.
-same_front : (c : Certificate) (side : Side) (w : World) (r : Replay) (head : OnItsWay) (more : List OnItsWay)
+same_front : (c : Certificate) (side : Side) (w : World) (r : Replay) (head : MessageInTransit) (more : List MessageInTransit)
     → Alike c.fates w r.world → channel_from side w ≡ head ∷ more
     → waiting c.fates (head ∷ more) ≡ head ∷ waiting c.fates more → IsFront c side head more r
 same_front c side w r head more is channel first =
@@ -214,7 +214,7 @@ receives_goes table c side number gap w next r fate alike step =
           (alike_channel c.fates (other side) d.more front.left w v on front.same));
     }
   where
-    taken : {head : OnItsWay} {made : End} (left : List OnItsWay) (v : World) → channel_from (other side) v ≡ head ∷ left
+    taken : {head : MessageInTransit} {made : End} (left : List MessageInTransit) (v : World) → channel_from (other side) v ≡ head ∷ left
         → head.number ≡ number → receive table (end_at side v) head.message ≡ Ok made
         → stepped table (Receives side number) (record { events = (lost_from_front c (other side) r).events; discards = r.discards; world = v })
         ≡ Some (with_step (Receives side number) (lost_from_front c (other side) r) (with_end side made (with_channel (other side) left v)))
@@ -240,7 +240,7 @@ replies_goes table c side number k w next r fate alike step =
           (alike_channel c.fates (other side) d.more front.left w v on front.same));
     }
   where
-    taken : {head : OnItsWay} {abort : Message} (left : List OnItsWay) (v : World) → channel_from (other side) v ≡ head ∷ left
+    taken : {head : MessageInTransit} {abort : Message} (left : List MessageInTransit) (v : World) → channel_from (other side) v ≡ head ∷ left
         → head.number ≡ number → reply_to (end_at side v) head.message ≡ Some abort
         → stepped table (Replies side number) (record { events = (lost_from_front c (other side) r).events; discards = r.discards; world = v })
         ≡ Some (with_step (Replies side number) (lost_from_front c (other side) r) (joined side abort (with_channel (other side) left v)))
@@ -254,13 +254,13 @@ quiet_same c w r is no_a no_b =
     let none_b = front_none c.fates r.world.from_b (is.from_b ∙ ap (waiting c.fates) no_b) in
     all_same _ _ is.a is.b (none_a ∙ sym no_a) (none_b ∙ sym no_b) is.sent
   where
-    make : End → End → List OnItsWay → List OnItsWay → List Item → World
+    make : End → End → List MessageInTransit → List MessageInTransit → List Item → World
     make a b from_a from_b sent = record { a = a; b = b; from_a = from_a; from_b = from_b; sent = sent }
 
     all_same : (x y : World) → x.a ≡ y.a → x.b ≡ y.b → x.from_a ≡ y.from_a → x.from_b ≡ y.from_b → x.sent ≡ y.sent → x ≡ y
     all_same x y a b from_a from_b sent =
         ap₂ (λ (e f : End). make e f x.from_a x.from_b x.sent) a b
-        ∙ ap₂ (λ (p q : List OnItsWay). make y.a y.b p q x.sent) from_a from_b
+        ∙ ap₂ (λ (p q : List MessageInTransit). make y.a y.b p q x.sent) from_a from_b
         ∙ ap (λ (items : List Item). make y.a y.b y.from_a y.from_b items) sent
 
 pub quiet_goes : (table : Table) (c : Certificate) (w next : World) (r : Replay)

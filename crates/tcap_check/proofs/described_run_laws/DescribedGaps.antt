@@ -16,12 +16,12 @@ use Rattle.tcap_certificate.specs.declared.fault.CheckFault.{CheckFault}
 use Rattle.tcap_model.specs.declared.reason.Reason.TheVariants.{BadReply, FateRange}
 use Rattle.tcap_certificate.specs.Certificate.{Certificate}
 use Rattle.tcap_certificate.specs.DescribedRun.{deliveries, gap_events, is_loss, losses_from, lost_from, without_losses}
-use Rattle.tcap_certificate.specs.Replay.{Replay, deliveries_by, fault_at, gap_by, happens, lost_before, next_entry, stepped, with_step}
+use Rattle.tcap_certificate.specs.Replay.{Replay, deliveries_by, fault_at, gap_by, after_event, lost_before, next_entry, stepped, with_step}
 use Rattle.tcap_model.proofs.RunLaws.{grows, map_some, same_events}
 use Rattle.tcap_check.proofs.replay_laws.ReplaySteps.{Replays, without_both, AreFrom, from_next, first_from, from_start}
 use Rattle.tcap_check.proofs.replay_laws.ReplayLaws.{gap_replays, closes_in_gap, expires_in_gap}
 use Rattle.tcap_check.proofs.described_run_laws.AlikeLaws.{Ahead, Alike, LossFits, closes_goes, expires_goes, go_on, next_step, receives_goes, Goes}
-use Rattle.tcap_check.specs.declared.listed_steps.Listed.{Listed}
+use Rattle.tcap_check.specs.declared.listed_steps.ListedStep.{ListedStep}
 use Rattle.tcap_check.specs.ListedSteps.{all_replayed, entry_of, event_listed, listed_for, listed_in, listed_replayed, side_of, why_refused}
 use Rattle.tcap_check.proofs.replay_laws.ReplayGaps.{gap_events_are, gap_is_listed, judged_all, listed_so}
 
@@ -145,7 +145,7 @@ GoesUnseen table c event = (w next : World) (r : Replay) → Alike c.fates w r.w
     → Goes table c event r next × (next.sent ≡ w.sent ++ [])
 
 -- The listed events of a gap are replayed.
-listed_go : (table : Table) (c : Certificate) (final : World) (items : List Item) (listed : List Listed) (others : List (Option Event))
+listed_go : (table : Table) (c : Certificate) (final : World) (items : List Item) (listed : List ListedStep) (others : List (Option Event))
     (here rest : List Event) (r : Replay) → map Some here ≡ map (event_listed items) listed ++ others → r.world.sent ≡ items
     → Ahead table c.fates final (here ++ rest) r.world → IsPart table c.fates final others rest items (all_replayed table c listed r)
 listed_go table c final items [] others here rest r are sent ahead =
@@ -155,12 +155,12 @@ listed_go table c final items (x ∷ more) others (event ∷ here) rest r are se
     let parts = first_listed event here (event_listed items x) (map (event_listed items) more ++ others) are in
     let named : event_listed r.world.sent x ≡ Some event = ap (λ (s : List Item). event_listed s x) sent ∙ parts.0 in
     let on = next_step table c.fates final event (here ++ rest) r.world ahead in
-    let unseen = listed_so (GoesUnseen table c) items x
+    let internal = listed_so (GoesUnseen table c) items x
     (λ name w next v alike step. (closes_goes table c (side_of x) name w next v alike step, (closes_in_gap (side_of x) name).adds table w next step))
     (λ name id w next v alike step. (expires_goes table c (side_of x) name id w next v alike step, (expires_in_gap (side_of x) name id).adds table w next step))
     event parts.0 on.w on.next r on.alike on.step in
-    let goes = unseen.0 in
-    let still = same_sent c.fates on.w on.next r.world goes.next.world [] items on.alike goes.alike unseen.1 refl sent in
+    let goes = internal.0 in
+    let still = same_sent c.fates on.w on.next r.world goes.next.world [] items on.alike goes.alike internal.1 refl sent in
     let behind = listed_go table c final items more others here rest goes.next parts.1 still
     (go_on table c.fates final event (here ++ rest) r.world goes.next.world on goes.alike) in
     record {
@@ -216,7 +216,7 @@ deliveries_go table c final items gap n (Gap g ∷ fates) (Sent side m ∷ its) 
         → AreDelivered table c.fates final rest items (deliveries_by None table c gap (n + 1) fates its mid))
         → Ahead table c.fates final (cond b (Receives (other side) n ∷ others) others ++ rest) r.world
         → AreDelivered table c.fates final rest items
-        (cond b (happens table c (Receives (other side) n) BadReply n r) (Ok r) >>= deliveries_by None table c gap (n + 1) fates its)
+        (cond b (after_event table c (Receives (other side) n) BadReply n r) (Ok r) >>= deliveries_by None table c gap (n + 1) fates its)
     by true then at =
         let on = next_step table c.fates final (Receives (other side) n) (others ++ rest) r.world at in
         let goes = receives_goes table c (other side) n g on.w on.next r (first_from c.fates fates n (Gap g) are) on.alike on.step in
@@ -226,7 +226,7 @@ deliveries_go table c final items gap n (Gap g ∷ fates) (Sent side m ∷ its) 
         record {
           next = behind.next;
           is =
-              ok_then (happens table c (Receives (other side) n) BadReply n r) (deliveries_by None table c gap (n + 1) fates its) goes.next behind.next
+              ok_then (after_event table c (Receives (other side) n) BadReply n r) (deliveries_by None table c gap (n + 1) fates its) goes.next behind.next
               (ok_some (stepped table (Receives (other side) n) (lost_before c (Receives (other side) n) r)) (fault_at BadReply n) goes.next goes.is) behind.is;
           sent = behind.sent;
           ahead = behind.ahead;
@@ -254,7 +254,7 @@ gap_goes table c final here rest r are ahead =
     subst (λ (x : List Event). Ahead table c.fates final (x ++ rest) hidden.next.world) (same_events hidden.left delivered hidden.left_are) hidden.ahead in
     let last = deliveries_go table c final items gap 0 c.fates items rest hidden.next (from_start c.fates) hidden.sent ahead_of in
     let all : all_replayed table c (listed_for None c gap) r ≡ Ok hidden.next =
-    ap (λ (xs : List Listed). all_replayed table c xs r) (judged_all c gap) ∙ hidden.is in
+    ap (λ (xs : List ListedStep). all_replayed table c xs r) (judged_all c gap) ∙ hidden.is in
     let is : gap_by None table c r ≡ Ok last.next =
     gap_is_listed None table c r
     ∙ ok_then (all_replayed table c (listed_for None c gap) r) (deliveries_by None table c gap 0 c.fates items) hidden.next last.next all last.is in

@@ -15,7 +15,7 @@ use Rattle.tcap_certificate.specs.declared.certificate.Fate.{Fate}
 use Rattle.tcap_certificate.specs.declared.certificate.Fate.TheVariants.{Gap, Lost, By}
 use Rattle.tcap_record.specs.Ends.{other}
 use Rattle.tcap_model.specs.World.{Item, Sent, World, channel_from, is_side}
-use Rattle.tcap_model.specs.Run.{Event, Receives, Replies, Runs, numbers_of, numbers_taken, takes_from, then_so, where_so}
+use Rattle.tcap_model.specs.Run.{Event, Receives, Replies, Runs, numbers_of, numbers_taken, takes_from, option_then, only_if}
 use Rattle.tcap_certificate.specs.Certificate.{Certificate}
 use Rattle.tcap_model.specs.World.{has_quiet}
 use Rattle.tcap_certificate.specs.DescribedRun.{FatesFit, Follows, FollowsFrom, closing_by, closing_event, deliveries, expiry_by, expiry_event, gap_events, named_entry, taken_by, without_losses}
@@ -105,12 +105,12 @@ listed_there count gap f (x ∷ listed) there all =
 
 -- The entry that a listed event names comes before its gap.
 named_above : (items : List Item) (gap entry : ℕ) (step : Item → Option Event)
-    → IsThere (then_so (named_entry items gap entry) step) → entry < gap
+    → IsThere (option_then (named_entry items gap entry) step) → entry < gap
 named_above items gap entry step (event, is) =
     ltb-true entry gap (by (has_quiet (drop entry (take gap items))) (nat_lt entry gap) refl is)
   where
     by : (marked before : Bool) → nat_lt entry gap ≡ before
-        → then_so (cond marked None (where_so before (slice_get items entry))) step ≡ Some event
+        → option_then (cond marked None (only_if before (slice_get items entry))) step ≡ Some event
         → nat_lt entry gap ≡ true
     by true before e is = cc
     by false true e is = e
@@ -356,7 +356,7 @@ module _ (table : Table) (c : Certificate) (items : List Item) (events : List Ev
           let timed = run_timed side c items 0 items (without_losses events) follows.gaps in
           le-ltb v u
           (in_turn c.fates 0 first second u v taken rises timed a b below
-          (ap (λ o. then_so o time_of) has_first ∙ e_later) (ap (λ o. then_so o time_of) has_second ∙ e_fate))
+          (ap (λ o. option_then o time_of) has_first ∙ e_later) (ap (λ o. option_then o time_of) has_second ∙ e_fate))
       by (Some v) None e_fate e_later = refl
       by None (Some u) e_fate e_later = refl
       by None None e_fate e_later = refl

@@ -10,7 +10,7 @@ use Rattle.tcap_record.specs.declared.entry.End.TheVariants as sides
 use Rattle.tcap_record.specs.declared.entry.Entry.{Entry}
 use Rattle.tcap_end.specs.Table.{Table}
 use Rattle.tcap_model.specs.World.{Item, Sent, World, empty, end_at, with_end}
-use Rattle.tcap_model.specs.Run.{Event, Quiet, IsRunOf, Sends, Receives, Replies, Loses, Expires, Closes, Tells, after, played, then_so}
+use Rattle.tcap_model.specs.Run.{Event, Quiet, IsRunOf, Sends, Receives, Replies, Loses, Expires, Closes, Tells, after, played, option_then}
 use Rattle.tcap_certificate.specs.declared.certificate.Fate.{Fate}
 use Rattle.tcap_certificate.specs.declared.certificate.Fate.TheVariants.{Gap, Lost, By}
 use Rattle.tcap_certificate.specs.declared.fault.CheckFault.{CheckFault}
@@ -19,7 +19,7 @@ use Rattle.tcap_model.specs.declared.reason.Reason.TheVariants.{FateCount, FateR
 use Rattle.tcap_certificate.specs.Certificate.{Certificate}
 use Rattle.tcap_model.specs.Entries.{AreItems, IsItem, item_of}
 use Rattle.tcap_certificate.specs.DescribedRun.{FatesFit, Follows, FollowsFrom, IsImplied, gap_events, losses_from, lost_from, quiet_by, sending, sending_by, taken_by, without_losses}
-use Rattle.tcap_certificate.specs.Replay.{Replay, certificate_fits, entries_by, fault_at, gap_by, happens, is_gap, is_nothing, is_overtaking, item_by, lost_before, lost_from_both, mark_judged, next_entry, nothing_replayed, own_judged, replayed_by, stepped}
+use Rattle.tcap_certificate.specs.Replay.{Replay, certificate_fits, entries_by, fault_at, gap_by, after_event, is_gap, is_nothing, is_overtaking, item_by, lost_before, lost_from_both, mark_judged, next_entry, nothing_replayed, own_judged, replayed_by, stepped}
 use Rattle.tcap_model.proofs.RunLaws.{grows, where_some}
 use Rattle.tcap_check.proofs.replay_laws.ReplaySteps.{both_replay, from_start}
 use Rattle.tcap_check.proofs.replay_laws.ReplayGaps.{gap_events_before}
@@ -33,7 +33,7 @@ use Rattle.tcap_end.specs.declared.fault.EndFault.{EndFault}
 use Rattle.tcap_end.specs.declared.fault.EndFault.TheVariants as faults
 use Rattle.tcap_end.specs.Half.{closed_half, is_closed}
 use Rattle.tcap_end.specs.Component.{own_invocation}
-use Rattle.tcap_end.specs.End.{End, KeptHalf, put}
+use Rattle.tcap_end.specs.End.{End, KeyedHalf, put}
 use Rattle.tcap_end.specs.HiddenSteps.{may_close, may_expire, without_invocation}
 use Rattle.tcap_end.specs.Step.{needs, ◌>>◌, ◌>>=◌}
 use Rattle.tcap_certificate.specs.HalfNames.{AreSameEvents, IsDescribedBy, IsSameEvent}
@@ -105,7 +105,7 @@ mark_goes table c final fate here made rest sends r has are is all ahead =
       is =
           ok_needs (is_gap (number + 1) fate) (fault_at FateRange number) _ goes.next mark.1
           (ok_then (gap_by None table c r) _ mid goes.next gap.is
-          (ok_needs (is_nothing (taken_by number 0 c.fates)) (fault_at NotQuiet number) (happens table c Quiet NotQuiet number mid) goes.next
+          (ok_needs (is_nothing (taken_by number 0 c.fates)) (fault_at NotQuiet number) (after_event table c Quiet NotQuiet number mid) goes.next
           (ap is_nothing mark.0)
           (ok_some (stepped table Quiet (lost_before c Quiet mid)) (fault_at NotQuiet number) goes.next goes.is)));
       sent = goes.alike.sent ∙ adds.2 ∙ ap₂ (λ (x y : List Item). x ++ y) (sym on.alike.sent ∙ gap.sent) adds.1;
@@ -267,7 +267,7 @@ followed_is_given table c entries items events are (final, runs, sends) follows 
 -- ---- either name of a half
 
 -- the end after an expiry on the half that the name finds, if it can happen
-abbrev expire_found : Table → End → ℤ → Option KeptHalf → Result End EndFault
+abbrev expire_found : Table → End → ℤ → Option KeyedHalf → Result End EndFault
 expire_found table e id found = do
   kept ← ok_or found faults.CannotExpire
   needs (not (is_closed kept.half.phase)) faults.CannotExpire
@@ -275,7 +275,7 @@ expire_found table e id found = do
   Ok (put e kept.slot kept.key (without_invocation id kept.half))
 
 -- the end after the half that the name finds closes, if it can
-abbrev close_found : Table → End → Option KeptHalf → Result End EndFault
+abbrev close_found : Table → End → Option KeyedHalf → Result End EndFault
 close_found table e found = do
   kept ← ok_or found faults.CannotClose
   needs (may_close table kept.half.phase) faults.CannotClose
@@ -284,9 +284,9 @@ close_found table e found = do
 -- An event with either name leads to the same world.
 same_step : (table : Table) (w : World) (event first : Event) → IsSameEvent w event first → after table first w ≡ after table event w
 same_step table w (Expires side name id) first (other, is, same) =
-    rw is (ap (λ (o : Option KeptHalf). option_map (λ e. with_end side e w) (result_ok (expire_found table (end_at side w) id o))) (sym same))
+    rw is (ap (λ (o : Option KeyedHalf). option_map (λ e. with_end side e w) (result_ok (expire_found table (end_at side w) id o))) (sym same))
 same_step table w (Closes side name) first (other, is, same) =
-    rw is (ap (λ (o : Option KeptHalf). option_map (λ e. with_end side e w) (result_ok (close_found table (end_at side w) o))) (sym same))
+    rw is (ap (λ (o : Option KeyedHalf). option_map (λ e. with_end side e w) (result_ok (close_found table (end_at side w) o))) (sym same))
 same_step table w (Sends side message) first is = rw (← is) refl
 same_step table w (Receives side number) first is = rw (← is) refl
 same_step table w (Replies side number) first is = rw (← is) refl
@@ -302,7 +302,7 @@ same_runs table w (event ∷ events) others (first, rest, joined, same, on) =
     rw (joined, same_step table w event first same) (by (after table event w) (λ next at. same_runs table next events rest (on next at)))
   where
     by : (o : Option World) → ((next : World) → o ≡ Some next → played table rest next ≡ played table events next)
-        → then_so o (played table rest) ≡ then_so o (played table events)
+        → option_then o (played table rest) ≡ option_then o (played table events)
     by None goes = refl
     by (Some next) goes = goes next refl
 
@@ -314,7 +314,7 @@ same_count table w v (event ∷ events) others (first, rest, joined, same, on) p
   where
     by : (o : Option World)
         → ((next : World) → o ≡ Some next → played table events next ≡ Some v → length rest ≡ length events)
-        → then_so o (played table events) ≡ Some v → length (first ∷ rest) ≡ length (event ∷ events)
+        → option_then o (played table events) ≡ Some v → length (first ∷ rest) ≡ length (event ∷ events)
     by None goes is = cc
     by (Some next) goes is = let one : length rest ≡ length events = goes next refl is in omega (arith, one)
 

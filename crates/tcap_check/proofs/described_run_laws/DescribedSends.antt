@@ -16,14 +16,14 @@ use Rattle.tcap_end.specs.Table.{Table}
 use Rattle.tcap_end.specs.Message.{send}
 use Rattle.tcap_end.specs.ReachableEnd.{IsEnd}
 use Rattle.tcap_model.specs.World.{Item, Sent, World, end_at, with_end}
-use Rattle.tcap_model.specs.Run.{Event, Sends, Receives, Replies, Loses, Expires, Closes, Quiet, Tells, after, joined, played, then_so}
+use Rattle.tcap_model.specs.Run.{Event, Sends, Receives, Replies, Loses, Expires, Closes, Quiet, Tells, after, joined, played, option_then}
 use Rattle.tcap_certificate.specs.declared.certificate.Fate.{Fate}
 use Rattle.tcap_certificate.specs.declared.certificate.Fate.TheVariants.{By}
 use Rattle.tcap_certificate.specs.declared.fault.CheckFault.{CheckFault}
 use Rattle.tcap_model.specs.declared.reason.Reason.TheVariants.{BadReply}
 use Rattle.tcap_certificate.specs.Certificate.{Certificate}
 use Rattle.tcap_certificate.specs.DescribedRun.{IsImplied, invoke_id, invoking_half, sending, sending_by, taken_by}
-use Rattle.tcap_certificate.specs.Replay.{Replay, fault_at, happens, implied, implied_over, is_abort, lost_before, message_by, next_entry, or_same, own_message, reply_replayed, send_replayed, stepped, with_step}
+use Rattle.tcap_certificate.specs.Replay.{Replay, fault_at, after_event, implied, implied_over, is_abort, lost_before, message_by, next_entry, or_same, own_message, reply_replayed, send_replayed, stepped, with_step}
 use Rattle.tcap_model.proofs.ChannelLaws.{get_new}
 use Rattle.tcap_model.proofs.RunLaws.{expiry, grows, map_some, sending as sending_of, sound}
 use Rattle.tcap_check.proofs.replay_laws.ReplayLaws.{reply_replays, send_replays}
@@ -102,7 +102,7 @@ implied_go table c final side message (Expires own name id ∷ made) rest r all 
       before = behind.before;
       plays =
           ap (λ (x : Side). played table (Expires x name id ∷ made) r.world) ((all.0).0)
-          ∙ ap (λ (o : Option World). then_so o (played table made)) step ∙ behind.plays;
+          ∙ ap (λ (o : Option World). option_then o (played table made)) step ∙ behind.plays;
       world = behind.world ∙ ap (λ (x : World). with_end side last x) h.next_is ∙ with_twice side h.made last r.world;
       ahead = behind.ahead;
     }
@@ -238,7 +238,7 @@ reply_goes table c final side message dtid cause k number more rest r abort fate
     let there : slice_get goes.next.world.sent (next_entry r) ≡ Some (Sent side message) =
     ap (λ (x : List Item). slice_get x (next_entry r)) sent ∙ get_new r.world.sent (Sent side message) in
     let is : reply_replayed table c side message k r ≡ Ok goes.next =
-    ok_then (happens table c event BadReply (next_entry r) r) _ goes.next goes.next
+    ok_then (after_event table c event BadReply (next_entry r) r) _ goes.next goes.next
     (ok_some (stepped table event (lost_before c event r)) (fault_at BadReply (next_entry r)) goes.next goes.is)
     (ok_needs (is_abort message (slice_get goes.next.world.sent (next_entry r))) (fault_at BadReply (next_entry r)) (Ok goes.next) goes.next
     (ap (is_abort message) there ∙ abort_itself side message dtid cause abort) refl) in

@@ -20,7 +20,7 @@ use Rattle.tcap_end.specs.declared.half.Slot.{Slot}
 use Rattle.tcap_end.specs.declared.half.Slot.TheVariants.{Begun, Accepted}
 use Rattle.tcap_end.specs.declared.own_invocations.OwnInvocation.{OwnInvocation}
 use Rattle.tcap_end.specs.Component.{own_invocation}
-use Rattle.tcap_end.specs.End.{End, KeptHalf, first_half, half_where, is_id, named, put}
+use Rattle.tcap_end.specs.End.{End, KeyedHalf, first_half, half_where, is_id, named, put}
 use Rattle.tcap_end.specs.Half.{Half, is_closed}
 use Rattle.tcap_end.specs.HiddenSteps.{expire, may_expire, without_invocation}
 use Rattle.tcap_end.specs.ReachableEnd.{IsEnd, Rises}
@@ -98,29 +98,29 @@ ids_eq x y = keys_eq int_cmp_total exact_signed x y
 -- ---- finding a half that was replaced
 
 -- The first half that passes is in this slot, and passes.
-first_is : (passes : Half → Bool) (slot : Slot) (es : List (List ℕ × Half)) (f : KeptHalf) → first_half passes slot es ≡ Some f
+first_is : (passes : Half → Bool) (slot : Slot) (es : List (List ℕ × Half)) (f : KeyedHalf) → first_half passes slot es ≡ Some f
     → (f.slot ≡ slot) × (passes f.half ≡ true)
 first_is passes slot [] f is = cc
 first_is passes slot ((key, half) ∷ es) f is = by (passes half) refl is (first_is passes slot es f)
   where
-    first : KeptHalf
+    first : KeyedHalf
     first = record { slot = slot; key = key; half = half }
 
     by : (b : Bool) → passes half ≡ b → cond b (Some first) (first_half passes slot es) ≡ Some f
         → (first_half passes slot es ≡ Some f → (f.slot ≡ slot) × (passes f.half ≡ true))
         → (f.slot ≡ slot) × (passes f.half ≡ true)
     by true so is rest =
-        let same : f ≡ first = cc in (ap (λ (g : KeptHalf). g.slot) same, ap (λ (g : KeptHalf). passes g.half) same ∙ so)
+        let same : f ≡ first = cc in (ap (λ (g : KeyedHalf). g.slot) same, ap (λ (g : KeyedHalf). passes g.half) same ∙ so)
     by false so is rest = rest is
 
 -- If the first half that passes is replaced by one that passes, the new half is the first.
-first_put : (passes : Half → Bool) (slot : Slot) (es : List (List ℕ × Half)) (f : KeptHalf) (h : Half)
+first_put : (passes : Half → Bool) (slot : Slot) (es : List (List ℕ × Half)) (f : KeyedHalf) (h : Half)
     → first_half passes slot es ≡ Some f → passes h ≡ true
     → first_half passes slot (insert_entry octets_cmp es f.key h) ≡ Some (record { slot = slot; key = f.key; half = h })
 first_put passes slot [] f h is so = cc
 first_put passes slot ((key, half) ∷ es) f h is so = by (octets_cmp f.key key) refl (first_put passes slot es f h)
   where
-    new : Option KeptHalf
+    new : Option KeyedHalf
     new = Some (record { slot = slot; key = f.key; half = h })
 
     by : (r : Ordering) → octets_cmp f.key key ≡ r
@@ -133,7 +133,7 @@ first_put passes slot ((key, half) ∷ es) f h is so = by (octets_cmp f.key key)
         rw so (ap (λ (k : List ℕ). Some (record { slot = slot; key = k; half = h })) (sym (exact_bytes f.key key at)))
     by Greater at rest = later (passes half) is rest
       where
-        first : KeptHalf
+        first : KeyedHalf
         first = record { slot = slot; key = key; half = half }
 
         later : (b : Bool) → cond b (Some first) (first_half passes slot es) ≡ Some f
@@ -141,17 +141,17 @@ first_put passes slot ((key, half) ∷ es) f h is so = by (octets_cmp f.key key)
             → cond b (Some first) (first_half passes slot (insert_entry octets_cmp es f.key h)) ≡ new
         later true is rest =
             let same : first ≡ f = cc in
-            let equal : octets_cmp f.key f.key ≡ Greater = ap (octets_cmp f.key) (sym (ap (λ (g : KeptHalf). g.key) same)) ∙ at in
+            let equal : octets_cmp f.key f.key ≡ Greater = ap (octets_cmp f.key) (sym (ap (λ (g : KeyedHalf). g.key) same)) ∙ at in
             let tied = tied_itself octets_total f.key in cc
         later false is rest = rest is so
 
 -- The same replacement in an end.
-where_put : (passes : Half → Bool) (e : End) (f : KeptHalf) (h : Half) → half_where passes e ≡ Some f
+where_put : (passes : Half → Bool) (e : End) (f : KeyedHalf) (h : Half) → half_where passes e ≡ Some f
     → (passes f.half ≡ true → passes h ≡ true)
     → half_where passes (put e f.slot f.key h) ≡ Some (record { slot = f.slot; key = f.key; half = h })
 where_put passes e f h is keeps = by (first_half passes Begun e.begun) refl
   where
-    by : (o : Option KeptHalf) → first_half passes Begun e.begun ≡ o
+    by : (o : Option KeyedHalf) → first_half passes Begun e.begun ≡ o
         → half_where passes (put e f.slot f.key h) ≡ Some (record { slot = f.slot; key = f.key; half = h })
     by None none =
         let found : first_half passes Accepted e.accepted ≡ Some f = rw none at is in
@@ -165,7 +165,7 @@ where_put passes e f h is keeps = by (first_half passes Begun e.begun) refl
         rw (slot, there) refl
 
 -- If a half is replaced by one with the same IDs, the name finds the new half.
-pub named_put : (e : End) (name : HalfName) (f : KeptHalf) (h : Half) → named e name ≡ Some f
+pub named_put : (e : End) (name : HalfName) (f : KeyedHalf) (h : Half) → named e name ≡ Some f
     → h.own ≡ f.half.own → h.peer ≡ f.half.peer
     → named (put e f.slot f.key h) name ≡ Some (record { slot = f.slot; key = f.key; half = h })
 named_put e (names.Own id) f h is own peer = where_put (λ h. is_id id h.own) e f h is (λ so. rw own so)
@@ -181,7 +181,7 @@ put_twice e Accepted key g h = ap (λ es. record e { accepted = es }) (insert_tw
 -- An expiry: the half with this name is open, and has an invocation with this ID that may expire. The name finds the
 -- same half afterwards.
 pub record IsExpiry (table : Table) (e : End) (name : HalfName) (id : ℤ) (next : End) : Type 0 where
-  pub kept : KeptHalf
+  pub kept : KeyedHalf
   pub was : named e name ≡ Some kept
   pub is_open : is_closed kept.half.phase ≡ false
   pub may : may_expire table (own_invocation kept.half id) ≡ true
@@ -227,7 +227,7 @@ stays_in_use table e name id other next is apart (kept, own, named_is, found) =
       own,
       x.now,
       found_apart _ _ x.kept.half.out (ids_apart other id apart)
-          ∙ ap (λ (k : KeptHalf). own_invocation k.half other) same ∙ found,
+          ∙ ap (λ (k : KeyedHalf). own_invocation k.half other) same ∙ found,
     )
 
 pub was_in_use : (table : Table) (e : End) (name : HalfName) (id other : ℤ) (next : End) → expire table e name id ≡ Ok next
@@ -246,7 +246,7 @@ was_in_use table e name id other next is (kept, own, named_is, found) = by (ids_
           own,
           x.was,
           sym (found_apart _ _ x.kept.half.out (ids_apart other id apart))
-              ∙ ap (λ (k : KeptHalf). own_invocation k.half other) same ∙ found,
+              ∙ ap (λ (k : KeyedHalf). own_invocation k.half other) same ∙ found,
         )
 
 pub not_in_use : (table : Table) (e : End) (name : HalfName) (id : ℤ) (next : End) → IsEnd e → expire table e name id ≡ Ok next
@@ -258,7 +258,7 @@ not_in_use table e name id next sound is (kept, own, named_is, found) =
     let rises = (sound.halves x.kept (named_has e name sound x.kept x.was)).out in
     let none = removed_gone id x.kept.half.out rises in
     let some : own_invocation (without_invocation id x.kept.half) id ≡ Some own =
-    ap (λ (k : KeptHalf). own_invocation k.half id) same ∙ found in cc
+    ap (λ (k : KeyedHalf). own_invocation k.half id) same ∙ found in cc
 
 -- Two expiries may change places.
 pub expire_before : (table : Table) (e : End) (name : HalfName) (x y : ℤ) (next last : End) → x ≢ y
@@ -288,7 +288,7 @@ expire_before table e name x y next last apart one two =
     may_x : may_expire table (own_invocation h x) ≡ true
     may_x =
         ap (may_expire table)
-        (sym (found_apart _ _ h.out (ids_apart x y apart)) ∙ ap (λ (k : KeptHalf). own_invocation k.half x) between)
+        (sym (found_apart _ _ h.out (ids_apart x y apart)) ∙ ap (λ (k : KeyedHalf). own_invocation k.half x) between)
         ∙ b.may
 
     may_y : may_expire table (own_invocation (without_invocation x h) y) ≡ true
@@ -304,23 +304,23 @@ expire_before table e name x y next last apart one two =
         ∙ ap (put e a.kept.slot a.kept.key) same_half
         ∙ sym (put_twice e a.kept.slot a.kept.key (without_invocation y h) (without_invocation x (without_invocation y h)))
         ∙ ap (λ (o : End). put o a.kept.slot a.kept.key (without_invocation x (without_invocation y h))) a.next_is
-        ∙ ap (λ (k : KeptHalf). put next k.slot k.key (without_invocation x k.half)) between
+        ∙ ap (λ (k : KeyedHalf). put next k.slot k.key (without_invocation x k.half)) between
         ∙ b.next_is
 
 pub in_use : (e : End) (name : HalfName) (id : ℤ) → IsInUse e name id ⊎ (IsInUse e name id → ⊥)
 in_use e name id = by (named e name) refl
   where
-    by_half : (kept : KeptHalf) → named e name ≡ Some kept → (o : Option OwnInvocation) → own_invocation kept.half id ≡ o
+    by_half : (kept : KeyedHalf) → named e name ≡ Some kept → (o : Option OwnInvocation) → own_invocation kept.half id ≡ o
         → IsInUse e name id ⊎ (IsInUse e name id → ⊥)
     by_half kept is None none = inr refuted
       where
         refuted : IsInUse e name id → ⊥
         refuted (other, own, other_is, found) =
             let same : kept ≡ other = cc (is, other_is) in
-            let some : own_invocation kept.half id ≡ Some own = ap (λ (k : KeptHalf). own_invocation k.half id) same ∙ found in cc
+            let some : own_invocation kept.half id ≡ Some own = ap (λ (k : KeyedHalf). own_invocation k.half id) same ∙ found in cc
     by_half kept is (Some own) found = inl (kept, own, is, found)
 
-    by : (o : Option KeptHalf) → named e name ≡ o → IsInUse e name id ⊎ (IsInUse e name id → ⊥)
+    by : (o : Option KeyedHalf) → named e name ≡ o → IsInUse e name id ⊎ (IsInUse e name id → ⊥)
     by None none = inr refuted
       where
         refuted : IsInUse e name id → ⊥

@@ -30,14 +30,14 @@ use Rattle.tcap_end.specs.Dialogue.{may_go_on}
 use Rattle.tcap_end.specs.Half.{Half, closed_half, is_closed, one_fits, without_oldest_of}
 use Rattle.tcap_end.specs.HiddenSteps.{expire}
 use Rattle.tcap_end.specs.Table.{Table, operation_of}
-use Rattle.tcap_end.specs.End.{End, KeptHalf, is_id, named, put as put_half, with_own, with_peer}
+use Rattle.tcap_end.specs.End.{End, KeyedHalf, is_id, named, put as put_half, with_own, with_peer}
 use Rattle.tcap_end.specs.Message.{is_active, send, send_components, send_continue, send_end, send_next_continue}
 use Rattle.tcap_end.specs.ReachableEnd.{IsEnd}
 use Rattle.tcap_end.proofs.AnsweringLaws.{needs_ok, ok_same, some_ok, then_ok}
 use Rattle.tcap_end.proofs.MapLaws.{found_other}
 use Rattle.tcap_end.proofs.StepLaws.{expires, none_is}
 use Rattle.tcap_model.specs.World.{Sent, World, end_at, with_end}
-use Rattle.tcap_model.specs.Run.{Event, Sends, Receives, Replies, Loses, Expires, Closes, Quiet, Tells, after, played, then_so}
+use Rattle.tcap_model.specs.Run.{Event, Sends, Receives, Replies, Loses, Expires, Closes, Quiet, Tells, after, played, option_then}
 use Rattle.tcap_certificate.specs.DescribedRun.{IsImplied, invoke_id, invoking_half}
 use Rattle.tcap_check.specs.GivenRun.{IsInUse}
 use Rattle.tcap_certificate.specs.Replay.{Replay, implied, or_same, stepped, with_step}
@@ -141,23 +141,23 @@ none_stands table (c ∷ more) h g id is there stands =
 
 -- A later Continue sends its components over the half.
 next_sends : (table : Table) (e next : End) (dtid : List ℕ) (dialogue : Option Dialogue) (components : List Component)
-    (f : KeptHalf) → send_next_continue table e dtid dialogue components f ≡ Ok next
+    (f : KeyedHalf) → send_next_continue table e dtid dialogue components f ≡ Ok next
     → (g : Half) × (send_components table f.half components ≡ Ok g)
 next_sends table e next dtid dialogue components f sends =
     let active = needs_ok (is_active f.half.phase) faults.WrongPhase _ next sends in
     let peer = needs_ok (is_id dtid f.half.peer) faults.NoTransaction _ next active.1 in
-    let may = needs_ok (may_go_on f.half.phase f.half.standing dialogue) faults.WrongDialogue _ next peer.1 in
+    let may = needs_ok (may_go_on f.half.phase f.half.dialogue_state dialogue) faults.WrongDialogue _ next peer.1 in
     let (g, made, put) =
     then_ok (send_components table f.half components) (λ half. Ok (put_half e f.slot f.key half)) next may.1 in (g, made)
 
 -- An End sends its components over the half.
 end_sends : (table : Table) (e next : End) (dtid : List ℕ) (dialogue : Option Dialogue) (components : List Component)
     → send_end table e dtid dialogue components ≡ Ok next
-    → (f : KeptHalf) × (g : Half) × (with_peer e dtid ≡ Some f) × (send_components table f.half components ≡ Ok g)
+    → (f : KeyedHalf) × (g : Half) × (with_peer e dtid ≡ Some f) × (send_components table f.half components ≡ Ok g)
 end_sends table e next dtid dialogue components sends =
     let (f, ok, step) = then_ok (ok_or (with_peer e dtid) faults.NoTransaction) _ next sends in
     let is_open = needs_ok (not (is_closed f.half.phase)) faults.WrongPhase _ next step in
-    let may = needs_ok (may_go_on f.half.phase f.half.standing dialogue) faults.WrongDialogue _ next is_open.1 in
+    let may = needs_ok (may_go_on f.half.phase f.half.dialogue_state dialogue) faults.WrongDialogue _ next is_open.1 in
     let (g, made, put) =
     then_ok (send_components table f.half components) (λ half. Ok (put_half e f.slot f.key (closed_half half))) next may.1 in
     (f, g, some_ok _ _ f ok, made)
@@ -167,12 +167,12 @@ pub sent_frees : (table : Table) (e next : End) (message : Message) (name : Half
     → invoking_half message ≡ Some name → Contains (filter_map invoke_id (components_in message)) id → IsInUse e name id → ⊥
 sent_frees table e next message name id sends over there (kept, own, named_is, found) = by message sends over there
   where
-    over_kept : (components : List Component) (f : KeptHalf) (g : Half) → f ≡ kept → send_components table f.half components ≡ Ok g
+    over_kept : (components : List Component) (f : KeyedHalf) (g : Half) → f ≡ kept → send_components table f.half components ≡ Ok g
         → Contains (filter_map invoke_id components) id → ⊥
     over_kept components f g same made there =
-        none_stands table components f.half g id made there (own, ap (λ (k : KeptHalf). own_invocation k.half id) same ∙ found)
+        none_stands table components f.half g id made there (own, ap (λ (k : KeyedHalf). own_invocation k.half id) same ∙ found)
 
-    goes_on : (otid dtid : List ℕ) (dialogue : Option Dialogue) (components : List Component) (o : Option KeptHalf) → o ≡ Some kept
+    goes_on : (otid dtid : List ℕ) (dialogue : Option Dialogue) (components : List Component) (o : Option KeyedHalf) → o ≡ Some kept
         → send_continue table e otid dtid dialogue components o ≡ Ok next → Contains (filter_map invoke_id components) id → ⊥
     goes_on otid dtid dialogue components None is sends there = cc
     goes_on otid dtid dialogue components (Some f) is sends there =
@@ -241,7 +241,7 @@ ids_of table side message name [] w before all over plays = record {
 }
 ids_of table side message name (event ∷ events) w before all over plays =
     let (id, same, there) = is_expiry side message name event all.0 over in
-    let on = subst (λ (x : Event). then_so (after table x w) (played table events) ≡ Some before) same plays in
+    let on = subst (λ (x : Event). option_then (after table x w) (played table events) ≡ Some before) same plays in
     by id same there (after table (Expires side name id) w) refl on
     (λ next. ids_of table side message name events next before all.1 over)
   where
@@ -249,7 +249,7 @@ ids_of table side message name (event ∷ events) w before all over plays =
     ids = filter_map invoke_id (components_in message)
 
     by : (id : ℤ) → event ≡ Expires side name id → Contains ids id → (o : Option World) → after table (Expires side name id) w ≡ o
-        → then_so o (played table events) ≡ Some before
+        → option_then o (played table events) ≡ Some before
         → ((next : World) → played table events next ≡ Some before → AreIds table side name events ids next before)
         → AreIds table side name (event ∷ events) ids w before
     by id same there None at on rest = cc

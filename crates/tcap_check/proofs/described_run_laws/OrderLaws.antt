@@ -10,7 +10,7 @@ use Rattle.std.proofs.lemmas.Bool.{ltb-false, ltb-true}
 use Rattle.tcap_record.specs.declared.entry.End.{End as Side}
 use Rattle.tcap_record.specs.Ends.{other}
 use Rattle.tcap_model.specs.World.{Item, is_side}
-use Rattle.tcap_model.specs.Run.{Event, Replies, numbers_taken, takes_from, then_so}
+use Rattle.tcap_model.specs.Run.{Event, Replies, numbers_taken, takes_from, option_then}
 use Rattle.tcap_certificate.specs.declared.certificate.Fate.{Fate}
 use Rattle.tcap_certificate.specs.declared.certificate.Fate.TheVariants.{By}
 use Rattle.tcap_certificate.specs.Certificate.{Certificate}
@@ -80,7 +80,7 @@ rises_without side (event ∷ events) rises = by (is_loss event) (rises_without 
 
 -- the time at which the message with this number is taken
 abbrev pub time_at : List Fate → ℕ → Option ℕ
-time_at fates n = then_so (slice_get fates n) time_of
+time_at fates n = option_then (slice_get fates n) time_of
 
 -- The messages with these numbers are taken in order, none before this time.
 abbrev pub Timed : List Fate → ℕ → List ℕ → Type 0
@@ -200,7 +200,7 @@ deliveries_time : (side : Side) (fates : List Fate) (gap : ℕ) (items : List It
 deliveries_time side fates gap items =
     all_taken side InTime (deliveries gap 0 fates items)
     (all_delivered (λ event. AllByRecursion InTime (takes_from side event)) fates gap 0 fates items (from_start fates)
-    (λ sender n at. one n (is_side side (other (other sender))) (ap (λ (o : Option Fate). then_so o time_of) at)))
+    (λ sender n at. one n (is_side side (other (other sender))) (ap (λ (o : Option Fate). option_then o time_of) at)))
   where
     InTime : ℕ → Type 0
     InTime m = time_at fates m ≡ Some (2 * gap)
@@ -213,7 +213,7 @@ deliveries_time side fates gap items =
 replies_time : (fates : List Fate) (reply : ℕ) → AllByRecursion (λ m. time_at fates m ≡ Some (2 * reply + 1)) (taken_by reply 0 fates)
 replies_time fates reply =
     all_weaker (λ m. slice_get fates m ≡ Some (By reply)) (λ m. time_at fates m ≡ Some (2 * reply + 1)) (taken_by reply 0 fates)
-    (λ m at. ap (λ (o : Option Fate). then_so o time_of) at) (taken_are fates fates reply 0 (from_start fates))
+    (λ m at. ap (λ (o : Option Fate). option_then o time_of) at) (taken_are fates fates reply 0 (from_start fates))
 
 -- The event that sends an item takes its messages at the time of the item.
 sends_time : (side : Side) (P : ℕ → Type 0) (taken : List ℕ) (sends : Event) → Takes taken sends

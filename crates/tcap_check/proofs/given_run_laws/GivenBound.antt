@@ -14,7 +14,7 @@ use Rattle.tcap_end.specs.ReachableEnd.{IsEnd}
 use Rattle.tcap_end.specs.Table.{Table}
 use Rattle.tcap_end.proofs.StepLaws.{expires}
 use Rattle.tcap_model.specs.World.{Item, Sent, World, empty, end_at}
-use Rattle.tcap_model.specs.Run.{Event, Sends, Receives, Replies, Loses, Expires, Closes, Quiet, Tells, IsRunOf, Runs, after, played, then_so}
+use Rattle.tcap_model.specs.Run.{Event, Sends, Receives, Replies, Loses, Expires, Closes, Quiet, Tells, IsRunOf, Runs, after, played, option_then}
 use Rattle.tcap_certificate.specs.declared.certificate.Closing.{Closing}
 use Rattle.tcap_certificate.specs.declared.certificate.Expiry.{Expiry}
 use Rattle.tcap_certificate.specs.declared.certificate.Fate.{Fate}
@@ -90,7 +90,7 @@ first_step : (table : Table) (event : Event) (events : List Event) (v w : World)
     → (next : World) × (after table event v ≡ Some next) × (played table events next ≡ Some w)
 first_step table event events v w is = by (after table event v) refl is
   where
-    by : (o : Option World) → after table event v ≡ o → then_so o (played table events) ≡ Some w
+    by : (o : Option World) → after table event v ≡ o → option_then o (played table events) ≡ Some w
         → (next : World) × (after table event v ≡ Some next) × (played table events next ≡ Some w)
     by None at is = cc
     by (Some next) at is = (next, at, is)

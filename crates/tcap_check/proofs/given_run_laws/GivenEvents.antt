@@ -8,7 +8,7 @@ use Rattle.tcap_record.specs.declared.entry.End.{End as Side}
 use Rattle.tcap_record.specs.declared.entry.End.TheVariants.{A, B}
 use Rattle.tcap_record.specs.Ends.{other}
 use Rattle.tcap_model.specs.World.{Item, Sent}
-use Rattle.tcap_model.specs.Run.{Event, Sends, Replies, Quiet, numbers_taken, takes_from, where_so}
+use Rattle.tcap_model.specs.Run.{Event, Sends, Replies, Quiet, numbers_taken, takes_from, only_if}
 use Rattle.tcap_certificate.specs.declared.certificate.Fate.{Fate}
 use Rattle.tcap_certificate.specs.declared.certificate.Fate.TheVariants.{Gap, Lost, By}
 use Rattle.tcap_certificate.specs.Certificate.{Certificate}
@@ -53,7 +53,7 @@ sender_is c number (Sent side message) taken event is =
 sender_is c number Item.Quiet (t ∷ more) event is = cc
 sender_is c number Item.Quiet [] event is = by (slice_get c.fates number) is
   where
-    mark : (b : Bool) → where_so b (Some Quiet) ≡ Some event → IsSender [] event
+    mark : (b : Bool) → only_if b (Some Quiet) ≡ Some event → IsSender [] event
     mark true e = sender_as [] Quiet event e (by_mark refl)
     mark false e = cc
 

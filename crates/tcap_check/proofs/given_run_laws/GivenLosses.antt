@@ -10,7 +10,7 @@ use Rattle.tcap_msg.specs.declared.message.Message.{Message}
 use Rattle.tcap_record.specs.declared.entry.End.{End as Side}
 use Rattle.tcap_end.specs.Table.{Table}
 use Rattle.tcap_record.specs.Ends.{other}
-use Rattle.tcap_model.specs.World.{Item, OnItsWay, Sent, World, channel_from, is_side}
+use Rattle.tcap_model.specs.World.{Item, MessageInTransit, Sent, World, channel_from, is_side}
 use Rattle.tcap_model.specs.Run.{Event, Sends, Receives, Replies, Loses, Expires, Closes, Quiet, Tells, KeepsRules, Runs, numbers_of, numbers_sent, numbers_taken, takes_from}
 use Rattle.tcap_certificate.specs.declared.certificate.Fate.{Fate}
 use Rattle.tcap_certificate.specs.declared.certificate.Fate.TheVariants.{Gap, Lost, By}
@@ -177,8 +177,8 @@ IsSettled fates w plain = (side : Side) (n : ℕ) (m : Message) → slice_get w.
     → (is_lost fates n ≡ true) ⊎ IsIn n (numbers_taken side plain)
 
 -- What follows for each of these numbers and messages holds for all messages.
-pub all_numbered : (P : OnItsWay → Type 0) (Q : OnItsWay → Type 0) (messages : List OnItsWay) → AllByRecursion P messages
-    → ((m : OnItsWay) → P m → IsIn m.number (numbers_of messages) → Q m) → AllByRecursion Q messages
+pub all_numbered : (P : MessageInTransit → Type 0) (Q : MessageInTransit → Type 0) (messages : List MessageInTransit) → AllByRecursion P messages
+    → ((m : MessageInTransit) → P m → IsIn m.number (numbers_of messages) → Q m) → AllByRecursion Q messages
 all_numbered P Q [] all on = tt
 all_numbered P Q (first ∷ more) all on =
     (on first all.0 (inl refl), all_numbered P Q more all.1 (λ m is there. on m is (inr there)))
@@ -192,7 +192,7 @@ left_lost table fates events w runs settled side =
     (were_sent table events w runs side)
     (λ m was there. by m there (settled side m.number m.message was.listed))
   where
-    by : (m : OnItsWay) → IsIn m.number (numbers_of (channel_from side w))
+    by : (m : MessageInTransit) → IsIn m.number (numbers_of (channel_from side w))
         → (is_lost fates m.number ≡ true) ⊎ IsIn m.number (numbers_taken side (without_losses events))
         → is_lost fates m.number ≡ true
     by m there (inl says) = says

@@ -13,7 +13,7 @@ use Rattle.tcap_end.specs.Step.{◌>>◌}
 use Rattle.tcap_end.specs.Table.{Table}
 use Rattle.tcap_end.proofs.AnsweringLaws.{ok_same, then_ok}
 use Rattle.tcap_record.specs.Ends.{other}
-use Rattle.tcap_model.specs.World.{Item, OnItsWay, Sent, World, channel_from, is_side}
+use Rattle.tcap_model.specs.World.{Item, MessageInTransit, Sent, World, channel_from, is_side}
 use Rattle.tcap_model.specs.Run.{BothKeepRules, Event, Receives, Runs, numbers_taken, takes_from, numbers_of, numbers_sent}
 use Rattle.tcap_certificate.specs.declared.certificate.Closing.{Closing}
 use Rattle.tcap_certificate.specs.declared.certificate.Expiry.{Expiry}
@@ -169,7 +169,7 @@ settled_by c w plain counted fit follows sent side n m at = by (slice_get c.fate
 -- ---- the end
 
 -- If all messages on a channel are lost, the channel is empty after its losses.
-pub front_empty : (fates : List Fate) (channel : List OnItsWay)
+pub front_empty : (fates : List Fate) (channel : List MessageInTransit)
     → AllByRecursion (λ m. is_lost fates m.number ≡ true) channel
     → drop (length (lost_front fates channel)) channel ≡ []
 front_empty fates [] all = refl
@@ -341,7 +341,7 @@ nothing_left table c items events w runs sent given = (none sides.A, none sides.
     lost_are side = filter_sent side c.fates 0 c.fates w.sent (from_start c.fates) follows.counted
 
     -- A message that is still on its way has a loss as its fate, so it was taken.
-    taken : (side : Side) (head : OnItsWay) (more : List OnItsWay) → channel_from side w ≡ head ∷ more
+    taken : (side : Side) (head : MessageInTransit) (more : List MessageInTransit) → channel_from side w ≡ head ∷ more
         → is_lost c.fates head.number ≡ true → IsIn head.number (numbers_taken side events)
     taken side head more at lost =
         let there : IsIn head.number (numbers_of (channel_from side w)) = rw at (inl refl) in
@@ -355,7 +355,7 @@ nothing_left table c items events w runs sent given = (none sides.A, none sides.
     none : (side : Side) → channel_from side w ≡ []
     none side = by (channel_from side w) refl (left_lost table c.fates events w runs settled side)
       where
-        by : (channel : List OnItsWay) → channel_from side w ≡ channel
+        by : (channel : List MessageInTransit) → channel_from side w ≡ channel
             → AllByRecursion (λ m. is_lost c.fates m.number ≡ true) (channel_from side w) → channel_from side w ≡ []
         by [] at all = at
         by (head ∷ more) at all =

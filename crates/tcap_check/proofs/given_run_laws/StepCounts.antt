@@ -7,12 +7,12 @@ use Rattle.tcap_record.specs.declared.entry.End.TheVariants.{A, B}
 use Rattle.tcap_end.specs.declared.half.HalfName.{HalfName}
 use Rattle.tcap_end.specs.declared.own_invocations.OwnInvocation.{OwnInvocation}
 use Rattle.tcap_end.specs.Component.{own_invocation}
-use Rattle.tcap_end.specs.End.{End, KeptHalf, named}
+use Rattle.tcap_end.specs.End.{End, KeyedHalf, named}
 use Rattle.tcap_end.specs.HiddenSteps.{expire}
 use Rattle.tcap_end.specs.ReachableEnd.{IsEnd}
 use Rattle.tcap_end.specs.Table.{Table}
 use Rattle.tcap_model.specs.World.{Item, Sent, World, channel_from}
-use Rattle.tcap_model.specs.Run.{Adds, Event, Sends, Receives, Replies, Loses, Expires, Closes, Quiet, Tells, Runs, after, numbers_of, numbers_sent, numbers_taken, takes_from, then_so}
+use Rattle.tcap_model.specs.Run.{Adds, Event, Sends, Receives, Replies, Loses, Expires, Closes, Quiet, Tells, Runs, after, numbers_of, numbers_sent, numbers_taken, takes_from, option_then}
 use Rattle.tcap_check.specs.GivenRun.{IsInUse}
 use Rattle.tcap_model.proofs.ChannelLaws.{are_whole}
 use Rattle.tcap_check.proofs.described_run_laws.ExpiryLaws.{ends_in_use, not_in_use, was_in_use}
@@ -172,7 +172,7 @@ joins_most table = runs_keep table (λ events w. total joins events ≤ length w
 
 -- whether an own invocation with this ID is in use on the half with this name
 abbrev pub in_use : End → Option HalfName → ℤ → Bool
-in_use e name id = is_some (then_so (then_so name (named e)) (λ kept. own_invocation kept.half id))
+in_use e name id = is_some (option_then (option_then name (named e)) (λ kept. own_invocation kept.half id))
 
 -- The test passes if the ID is in use.
 is_used : (e : End) (name : HalfName) (id : ℤ) → IsInUse e name id → in_use e (Some name) id ≡ true
@@ -182,12 +182,12 @@ is_used e name id (kept, own, found, has) = rw (found, has) refl
 used_is : (e : End) (name : HalfName) (id : ℤ) → in_use e (Some name) id ≡ true → IsInUse e name id
 used_is e name id is = by (named e name) refl is
   where
-    found : (kept : KeptHalf) (o : Option OwnInvocation) → named e name ≡ Some kept → own_invocation kept.half id ≡ o
+    found : (kept : KeyedHalf) (o : Option OwnInvocation) → named e name ≡ Some kept → own_invocation kept.half id ≡ o
         → is_some o ≡ true → IsInUse e name id
     found kept None at has so = cc
     found kept (Some own) at has so = (kept, own, at, has)
 
-    by : (o : Option KeptHalf) → named e name ≡ o → is_some (then_so o (λ kept. own_invocation kept.half id)) ≡ true
+    by : (o : Option KeyedHalf) → named e name ≡ o → is_some (option_then o (λ kept. own_invocation kept.half id)) ≡ true
         → IsInUse e name id
     by None at so = cc
     by (Some kept) at so = found kept (own_invocation kept.half id) at refl so

@@ -25,7 +25,7 @@ use Rattle.tcap_certificate.specs.declared.certificate.Fate.TheVariants.{Lost}
 use Rattle.tcap_certificate.specs.Certificate.{Certificate}
 use Rattle.tcap_model.specs.Entries.{AreItems, item_of}
 use Rattle.tcap_certificate.specs.DescribedRun.{losses_from, lost_from, sending_by, taken_by}
-use Rattle.tcap_certificate.specs.Replay.{Replay, all_lost_from, certificate_fits, closed_at_mark, discards_by, entries_by, entry_by, fault_at, gap_by, is_gap, is_nothing, is_overtaking, item_by, lost_from_both, lost_from_front, mark_judged, message_by, next_entry, nothing_replayed, own_judged, own_message, replayed_by, stepped, tied, told_replayed}
+use Rattle.tcap_certificate.specs.Replay.{Replay, all_lost_from, certificate_fits, closed_at_mark, discards_by, entries_by, entry_by, fault_at, gap_by, is_gap, is_nothing, is_overtaking, item_by, lost_from_both, lost_from_front, mark_judged, message_by, next_entry, nothing_replayed, own_judged, own_message, replayed_by, stepped, tied, peer_replayed}
 use Rattle.tcap_check.specs.OneEndRun.{DiscardsNothing}
 use Rattle.tcap_check.proofs.replay_laws.DiscardReasons.{none_discarded}
 use Rattle.tcap_check.proofs.described_run_laws.DescribedGaps.{ok_both, ok_needs, ok_some, ok_then}
@@ -96,7 +96,7 @@ own_item side table c fate m r next s is mirrors reached =
 -- A message of the peer is replayed for the end alone.
 peer_item : (side : Side) (table : Table) (c : Certificate) (fate : Fate) (m : Message) (r next s : Replay)
     → own_judged None table c fate (other side) m r ≡ Ok next → Mirrors side r s → IsReached table r.world
-    → Reflects side next (told_replayed table c fate side m s)
+    → Reflects side next (peer_replayed table c fate side m s)
 peer_item side table c fate m r next s is mirrors reached =
     let so = needs_ok (not (is_overtaking (other side) fate c.fates r.world.sent))
     (fault_at OutOfOrder (next_entry r)) _ next is in

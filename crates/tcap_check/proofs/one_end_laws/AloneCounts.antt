@@ -12,7 +12,7 @@ use Rattle.tcap_end.specs.Table.{Table}
 use Rattle.tcap_end.specs.End.{End}
 use Rattle.tcap_end.specs.ReachableEnd.{IsEnd}
 use Rattle.tcap_record.specs.Ends.{other}
-use Rattle.tcap_model.specs.World.{Item, OnItsWay, Sent, World, channel_from, empty, end_at, is_side, with_channel, with_end}
+use Rattle.tcap_model.specs.World.{Item, MessageInTransit, Sent, World, channel_from, empty, end_at, is_side, with_channel, with_end}
 use Rattle.tcap_model.specs.Run.{Event, Sends, Receives, Replies, Loses, Expires, Closes, Quiet, Tells, KeepsRules, Runs, after, joined, numbers_taken}
 use Rattle.tcap_model.specs.Entries.{count_components}
 use Rattle.tcap_certificate.specs.LossCounts.{is_lost_from, steps_of, unheard_of}
@@ -114,26 +114,26 @@ waits_sent : (side : Side) (m : Message) (made : End) (w : World)
 waits_sent A m made w = refl
 waits_sent B m made w = refl
 
-waits_received : (side : Side) (made : End) (more : List OnItsWay) (w : World)
+waits_received : (side : Side) (made : End) (more : List MessageInTransit) (w : World)
     → waiting side (with_end side made (with_channel (other side) more w)) ≡ load made + 2 * length more
 waits_received A made more w = refl
 waits_received B made more w = refl
 
-waits_replied : (side : Side) (m : Message) (more : List OnItsWay) (w : World)
+waits_replied : (side : Side) (m : Message) (more : List MessageInTransit) (w : World)
     → waiting side (joined side m (with_channel (other side) more w)) ≡ load (end_at side w) + 2 * length more
 waits_replied A m more w = refl
 waits_replied B m more w = refl
 
-waits_unseen : (side : Side) (made : End) (w : World)
+waits_internal : (side : Side) (made : End) (w : World)
     → waiting side (with_end side made w) ≡ load made + 2 * length (channel_from (other side) w)
-waits_unseen A made w = refl
-waits_unseen B made w = refl
+waits_internal A made w = refl
+waits_internal B made w = refl
 
 waits_told : (side : Side) (m : Message) (w : World) → waiting side (joined (other side) m w) ≡ waiting side w + 2
 waits_told A m w = omega (arith, length-append w.from_b (record { number = length w.sent; message = m } ∷ []))
 waits_told B m w = omega (arith, length-append w.from_a (record { number = length w.sent; message = m } ∷ []))
 
-waits_lost : (side sender : Side) (head : OnItsWay) (more : List OnItsWay) (w : World)
+waits_lost : (side sender : Side) (head : MessageInTransit) (more : List MessageInTransit) (w : World)
     → channel_from sender w ≡ head ∷ more
     → (number : ℕ)
     → steps_of side (Loses sender number ∷ []) + waiting side (with_channel sender more w) ≤ waiting side w
@@ -196,7 +196,7 @@ expires_allowed table side name id w next sound is =
     omega (
       arith,
       expires_load table (end_at side w) s.made name id sound s.step_is,
-      ap (waiting side) s.next_is ∙ waits_unseen side s.made w,
+      ap (waiting side) s.next_is ∙ waits_internal side s.made w,
       ap (λ (v : World). allowed v.sent) s.next_is ∙ ap allowed (sent_with_end side s.made w),
     )
 
@@ -207,7 +207,7 @@ closes_allowed table side name w next sound is =
     omega (
       arith,
       closes_load table (end_at side w) s.made name sound s.step_is,
-      ap (waiting side) s.next_is ∙ waits_unseen side s.made w,
+      ap (waiting side) s.next_is ∙ waits_internal side s.made w,
       ap (λ (v : World). allowed v.sent) s.next_is ∙ ap allowed (sent_with_end side s.made w),
     )
 

@@ -26,12 +26,12 @@ use Rattle.tcap_end.specs.Class.{reports}
 use Rattle.tcap_end.specs.Table.{Table, operation_of}
 use Rattle.tcap_end.specs.Half.{Half, closed_half, fresh, is_closed, one_fits, without_oldest_of}
 use Rattle.tcap_end.specs.Component.{allows, allows_for, answer_problems, answered_operation, may_answer, may_link, own_invocation, receive_answer, receive_component, send_answer, send_component, send_invoke, send_reject, wait_for_reject, with_grant}
-use Rattle.tcap_end.specs.Dialogue.{answers_request, first_standing, may_abort, may_begin, may_go_on}
-use Rattle.tcap_end.specs.End.{End, KeptHalf, is_id, named, put, with_own, with_peer}
+use Rattle.tcap_end.specs.Dialogue.{answers_request, first_dialogue_state, may_abort, may_begin, may_go_on}
+use Rattle.tcap_end.specs.End.{End, KeyedHalf, is_id, named, put, with_own, with_peer}
 use Rattle.tcap_end.specs.HiddenSteps.{close, expire, may_close, may_expire, without_invocation}
 use Rattle.tcap_end.specs.Message.{active_half, is_active, is_received, receive, receive_components, receive_end, receive_over, send, send_abort, send_begin, send_components, send_continue, send_end, send_first_continue, send_next_continue, send_uni, send_uni_components}
 use Rattle.tcap_end.specs.Step.{◌>>◌}
-use Rattle.tcap_end.specs.ReachableEnd.{Has, IsEnd, Rises}
+use Rattle.tcap_end.specs.ReachableEnd.{HasHalf, IsEnd, Rises}
 use Rattle.tcap_end.proofs.AnsweringLaws.{needs_ok, ok_same, some_ok, then_ok}
 use Rattle.tcap_end.proofs.ComponentLaws.{all_receives, all_sends}
 use Rattle.tcap_end.proofs.FoundLaws.{named_has, own_has, peer_has}
@@ -203,7 +203,7 @@ load_of : (x next : End) (most : ℕ) → load x ≤ most → (let r : Result En
 load_of x next most low is = subst (λ (e : End). load e ≤ most) (ok_same {F = EndFault} x next is) low
 
 -- A half with a smaller load makes the load of the end smaller.
-one_fewer : (e : End) (f : KeptHalf) (h : Half) (next : End) → IsEnd e → Has e f → alive h + 1 ≤ alive f.half
+one_fewer : (e : End) (f : KeyedHalf) (h : Half) (next : End) → IsEnd e → HasHalf e f → alive h + 1 ≤ alive f.half
     → (let r : Result End EndFault = Ok (put e f.slot f.key h) in r) ≡ Ok next → load next + 1 ≤ load e
 one_fewer e f h next sound had fewer is =
     subst (λ (x : End). load x + 1 ≤ load e) (ok_same {F = EndFault} (put e f.slot f.key h) next is)
@@ -244,18 +244,18 @@ closes_load table e next name sound is =
 -- ---- receiving
 
 -- If a half is replaced, the load of the end grows at most as that of the half.
-put_over : (e : End) (f : KeptHalf) (h : Half) (more : ℕ) → IsEnd e → Has e f → alive h ≤ alive f.half + more
+put_over : (e : End) (f : KeyedHalf) (h : Half) (more : ℕ) → IsEnd e → HasHalf e f → alive h ≤ alive f.half + more
     → load (put e f.slot f.key h) ≤ load e + more
 put_over e f h more sound had most = omega (arith, half_over alive e f h sound had, most)
 
 -- A half that is closed does not add to the load.
-put_closed : (e : End) (f : KeptHalf) (h : Half) → IsEnd e → Has e f
+put_closed : (e : End) (f : KeyedHalf) (h : Half) → IsEnd e → HasHalf e f
     → load (put e f.slot f.key (closed_half h)) ≤ load e
 put_closed e f h sound had = omega (arith, half_over alive e f (closed_half h) sound had)
 
 over_load : (table : Table) (e next : End) (otid : List ℕ) (dialogue : Option Dialogue) (components : List Component)
-    (f : KeptHalf)
-    → IsEnd e → Has e f → receive_over table e otid dialogue components f f.half.phase ≡ Ok next
+    (f : KeyedHalf)
+    → IsEnd e → HasHalf e f → receive_over table e otid dialogue components f f.half.phase ≡ Ok next
     → load next ≤ load e + 0
 over_load table e next otid dialogue components f sound had is = by f.half.phase refl is
   where
@@ -266,7 +266,7 @@ over_load table e next otid dialogue components f sound had is = by f.half.phase
         → load next ≤ load e + 0
     by phases.Sent at is =
         let free = needs_ok (is_none (with_peer e otid)) faults.IdUsed _ next is in
-        let asked = needs_ok (answers_request f.half.standing dialogue) faults.WrongDialogue _ next free.1 in
+        let asked = needs_ok (answers_request f.half.dialogue_state dialogue) faults.WrongDialogue _ next free.1 in
         let most = received_alive table components (active_half Begun otid f.half) rises in
         let was = open_one f.half.phase (rw at refl) in
         load_of (put e f.slot f.key (receive_components table (active_half Begun otid f.half) components))
@@ -282,7 +282,7 @@ over_load table e next otid dialogue components f sound had is = by f.half.phase
     by phases.Received at is = cc
     by phases.Closed at is = cc
 
-ended_load : (e : End) (o : Option KeptHalf) → ((f : KeptHalf) → o ≡ Some f → Has e f) → IsEnd e
+ended_load : (e : End) (o : Option KeyedHalf) → ((f : KeyedHalf) → o ≡ Some f → HasHalf e f) → IsEnd e
     → load (receive_end e o) ≤ load e
 ended_load e None had sound = omega arith
 ended_load e (Some f) had sound = by (is_closed f.half.phase)
@@ -306,7 +306,7 @@ receives_load table e next m sound is = by m is
     by (Unidirectional dialogue components) is = load_of e next (load e + 1) (omega arith) is
     by (Begin otid dialogue components) is =
         let step = needs_ok (is_none (with_peer e otid)) faults.IdUsed _ next is in
-        let start = fresh phases.Received None (Some otid) (first_standing dialogue) in
+        let start = fresh phases.Received None (Some otid) (first_dialogue_state dialogue) in
         let half = receive_components table start (items_of components) in
         let none : half.out ≡ [] = (all_receives table (items_of components) start).out refl in
         let one : alive half ≤ 1 = rw none (omega (arith, open_most half.phase)) in
@@ -327,7 +327,7 @@ begin_load : (table : Table) (e next : End) (otid : List ℕ) (dialogue : Option
 begin_load table e next otid dialogue components sound is =
     let free = needs_ok (is_none (with_own e otid)) faults.IdUsed _ next is in
     let may = needs_ok (may_begin dialogue) faults.WrongDialogue _ next free.1 in
-    let start = fresh phases.Sent (Some otid) None (first_standing dialogue) in
+    let start = fresh phases.Sent (Some otid) None (first_dialogue_state dialogue) in
     let (g, made, step) = then_ok (send_components table start components)
     (λ half. Ok (put e Begun otid half)) next may.1 in
     let most = sent_alive table components start g made in
@@ -342,7 +342,7 @@ first_load table e next otid dtid dialogue components sound is =
     let (f, ok, step) = then_ok (ok_or (with_peer e dtid) faults.NoTransaction) _ next is in
     let had = peer_has e dtid sound f (some_ok _ _ f ok) in
     let waits = needs_ok (is_received f.half.phase) faults.WrongPhase _ next step in
-    let may = needs_ok (may_go_on f.half.phase f.half.standing dialogue) faults.WrongDialogue _ next waits.1 in
+    let may = needs_ok (may_go_on f.half.phase f.half.dialogue_state dialogue) faults.WrongDialogue _ next waits.1 in
     let was = open_one f.half.phase (rw (received_is f.half.phase waits.0) refl) in
     let (g, made, last) = then_ok (send_components table (active_half Accepted otid f.half) components)
     (λ half. Ok (put e f.slot f.key half)) next may.1 in
@@ -351,13 +351,13 @@ first_load table e next otid dtid dialogue components sound is =
     (put_over e f g (length components) sound had (omega (arith, most, was))) last
 
 next_load : (table : Table) (e next : End) (dtid : List ℕ) (dialogue : Option Dialogue) (components : List Component)
-    (f : KeptHalf)
-    → Has e f → IsEnd e → send_next_continue table e dtid dialogue components f ≡ Ok next
+    (f : KeyedHalf)
+    → HasHalf e f → IsEnd e → send_next_continue table e dtid dialogue components f ≡ Ok next
     → load next ≤ load e + length components
 next_load table e next dtid dialogue components f had sound is =
     let active = needs_ok (is_active f.half.phase) faults.WrongPhase _ next is in
     let peer = needs_ok (is_id dtid f.half.peer) faults.NoTransaction _ next active.1 in
-    let may = needs_ok (may_go_on f.half.phase f.half.standing dialogue) faults.WrongDialogue _ next peer.1 in
+    let may = needs_ok (may_go_on f.half.phase f.half.dialogue_state dialogue) faults.WrongDialogue _ next peer.1 in
     let (g, made, last) = then_ok (send_components table f.half components)
     (λ half. Ok (put e f.slot f.key half)) next may.1 in
     load_of (put e f.slot f.key g) next (load e + length components)
@@ -365,7 +365,7 @@ next_load table e next dtid dialogue components f had sound is =
 
 continue_load : (table : Table) (e next : End) (otid dtid : List ℕ) (dialogue : Option Dialogue)
     (components : List Component)
-    (o : Option KeptHalf) → with_own e otid ≡ o → IsEnd e
+    (o : Option KeyedHalf) → with_own e otid ≡ o → IsEnd e
     → send_continue table e otid dtid dialogue components o ≡ Ok next
     → load next ≤ load e + length components
 continue_load table e next otid dtid dialogue components None found sound is =
@@ -380,7 +380,7 @@ end_load table e next dtid dialogue components sound is =
     let (f, ok, step) = then_ok (ok_or (with_peer e dtid) faults.NoTransaction) _ next is in
     let had = peer_has e dtid sound f (some_ok _ _ f ok) in
     let is_open = needs_ok (not (is_closed f.half.phase)) faults.WrongPhase _ next step in
-    let may = needs_ok (may_go_on f.half.phase f.half.standing dialogue) faults.WrongDialogue _ next is_open.1 in
+    let may = needs_ok (may_go_on f.half.phase f.half.dialogue_state dialogue) faults.WrongDialogue _ next is_open.1 in
     let (g, made, last) = then_ok (send_components table f.half components)
     (λ half. Ok (put e f.slot f.key (closed_half half))) next may.1 in
     load_of (put e f.slot f.key (closed_half g)) next (load e) (put_closed e f g sound had) last
@@ -392,7 +392,7 @@ abort_load e next dtid reason sound is =
     let (f, ok, step) = then_ok (ok_or (with_peer e dtid) faults.NoTransaction) _ next user.1 in
     let had = peer_has e dtid sound f (some_ok _ _ f ok) in
     let is_open = needs_ok (not (is_closed f.half.phase)) faults.WrongPhase _ next step in
-    let may = needs_ok (may_abort f.half.phase f.half.standing (reason_dialogue reason))
+    let may = needs_ok (may_abort f.half.phase f.half.dialogue_state (reason_dialogue reason))
     faults.WrongDialogue _ next is_open.1 in
     load_of (put e f.slot f.key (closed_half f.half)) next (load e) (put_closed e f f.half sound had) may.1
 

@@ -7,16 +7,16 @@ use Rattle.tcap_end.specs.Table.{Table}
 use Rattle.tcap_end.specs.Step.{◌>>=◌}
 use Rattle.tcap_certificate.specs.declared.fault.CheckFault.{CheckFault}
 use Rattle.tcap_record.specs.Ends.{other}
-use Rattle.tcap_model.specs.World.{OnItsWay, World, channel_from, with_channel, Item, Sent, is_side, with_end}
+use Rattle.tcap_model.specs.World.{MessageInTransit, World, channel_from, with_channel, Item, Sent, is_side, with_end}
 use Rattle.tcap_model.specs.Run.{Event, Loses, after, numbers_of, Receives, Expires, Closes}
 use Rattle.tcap_certificate.specs.Certificate.{Certificate}
 use Rattle.tcap_certificate.specs.DescribedRun.{losses_from}
-use Rattle.tcap_certificate.specs.Replay.{Replay, all_lost_from, lost_from_both, lost_from_front, lost_front, stepped, with_step, deliveries_by, delivery_by, fault_at, gap_by, happens, heard, lost_before, next_entry}
+use Rattle.tcap_certificate.specs.Replay.{Replay, all_lost_from, lost_from_both, lost_from_front, lost_front, stepped, with_step, deliveries_by, delivery_by, fault_at, gap_by, after_event, delivered, lost_before, next_entry}
 use Rattle.tcap_check.proofs.described_run_laws.DescribedGaps.{ok_then, ok_some}
 use Rattle.tcap_check.proofs.given_run_laws.NumberLaws.{loss_of, losses_first}
 use Rattle.tcap_model.proofs.RunLaws.{map_some, same_side, closing, delivery, expiry}
 use Rattle.tcap_check.proofs.one_end_laws.AloneReplays.{drop_all}
-use Rattle.tcap_check.proofs.one_end_laws.AloneViews.{seen_by, seen_channel, seen_sent, seen_with, unseen_channel, seen_closing, seen_delivery, seen_expiry, unseen_end}
+use Rattle.tcap_check.proofs.one_end_laws.AloneViews.{seen_by, seen_channel, seen_sent, seen_with, internal_channel, seen_closing, seen_delivery, seen_expiry, internal_end}
 use Rattle.std.specs.Prelude.{◌&&◌, ok_or}
 use Rattle.tcap_end.specs.declared.half.HalfName.{HalfName}
 use Rattle.tcap_end.proofs.AnsweringLaws.{ok_same, some_ok, then_ok}
@@ -24,7 +24,7 @@ use Rattle.tcap_certificate.specs.declared.certificate.Fate.{Fate}
 use Rattle.tcap_certificate.specs.declared.certificate.Fate.TheVariants.{Gap, Lost, By}
 use Rattle.tcap_model.specs.declared.reason.Reason.{Reason}
 use Rattle.tcap_model.specs.declared.reason.Reason.TheVariants.{BadReply, FateRange}
-use Rattle.tcap_check.specs.declared.listed_steps.Listed.{Listed}
+use Rattle.tcap_check.specs.declared.listed_steps.ListedStep.{ListedStep}
 use Rattle.tcap_check.specs.ListedSteps.{all_replayed, entry_of, event_listed, listed_for, listed_in, listed_judged, listed_replayed, side_of, why_refused}
 use Rattle.tcap_check.proofs.replay_laws.ReplayGaps.{gap_is_listed, gap_parts, judged_all, listed_so}
 
@@ -73,12 +73,12 @@ pub same_channel : (side : Side) (r s : Replay) → Mirrors side r s
 same_channel side r s is = ap (channel_from (other side)) is.world ∙ seen_channel side r.world
 
 -- A step of the peer changes nothing for the end.
-pub unseen_step : (side : Side) (table : Table) (event : Event) (r next s : Replay)
+pub internal_step : (side : Side) (table : Table) (event : Event) (r next s : Replay)
     → losses_from (other side) (event ∷ []) ≡ []
     → stepped table event r ≡ Some next
     → ((w : World) → after table event r.world ≡ Some w → seen_by side w ≡ seen_by side r.world)
     → Mirrors side r s → Mirrors side next s
-unseen_step side table event r next s none is same mirrors =
+internal_step side table event r next s none is same mirrors =
     let found = map_some _ (after table event r.world) next is in record {
       world = mirrors.world ∙ sym (same found.0 found.1) ∙ ap (λ (x : Replay). seen_by side x.world) found.2;
       losses = sym (append-nil (losses_from (other side) s.events))
@@ -116,19 +116,19 @@ pub front_mirrors : (side : Side) (c : Certificate) (r s : Replay) → Mirrors s
     → Mirrors side (lost_from_front c (other side) r) (lost_from_front c (other side) s)
 front_mirrors side c r s is =
     let same = same_channel side r s is in
-    let left : List OnItsWay → List OnItsWay = λ channel. drop (length (lost_front c.fates channel)) channel in
+    let left : List MessageInTransit → List MessageInTransit = λ channel. drop (length (lost_front c.fates channel)) channel in
     record {
-      world = ap₂ (λ (x : List OnItsWay) (w : World). with_channel (other side) (left x) w) same is.world
+      world = ap₂ (λ (x : List MessageInTransit) (w : World). with_channel (other side) (left x) w) same is.world
           ∙ seen_with side (left (channel_from (other side) r.world)) r.world;
       losses = more_losses (other side) s.events r.events _ _ is.losses
-          (ap (λ (x : List OnItsWay). losses_from (other side) (map (Loses (other side)) (lost_front c.fates x))) same);
+          (ap (λ (x : List MessageInTransit). losses_from (other side) (map (Loses (other side)) (lost_front c.fates x))) same);
     }
 
 -- The losses at the front of the end's own channel change nothing for the end.
 pub own_front_mirrors : (side : Side) (c : Certificate) (r s : Replay) → Mirrors side r s
     → Mirrors side (lost_from_front c side r) s
 own_front_mirrors side c r s is = record {
-  world = is.world ∙ sym (unseen_channel side _ r.world);
+  world = is.world ∙ sym (internal_channel side _ r.world);
   losses = sym (append-nil (losses_from (other side) s.events))
       ∙ ap₂ (λ (a b : List ℕ). a ++ b) is.losses (sym (own_lost side (lost_front c.fates (channel_from side r.world))))
       ∙ sym (losses_both (other side) r.events (map (Loses side) (lost_front c.fates (channel_from side r.world))));
@@ -144,7 +144,7 @@ both_fronts_mirror B c r s is =
 pub all_lost_mirrors : (side : Side) (r s : Replay) → MirrorsBut side r s → Mirrors side r (all_lost_from side s)
 all_lost_mirrors side r s is =
     let channel = channel_from side s.world in record {
-      world = ap (λ (x : List OnItsWay). with_channel side x s.world) (drop_all channel) ∙ is.world;
+      world = ap (λ (x : List MessageInTransit). with_channel side x s.world) (drop_all channel) ∙ is.world;
       losses = losses_both (other side) s.events (map (Loses side) (numbers_of channel))
           ∙ ap (λ (x : List ℕ). losses_from (other side) s.events ++ x) (own_lost side (numbers_of channel))
           ∙ append-nil (losses_from (other side) s.events) ∙ is.losses;
@@ -175,7 +175,7 @@ reflects_then side mid next step rest first on =
 record IsHiddenOf (table : Table) (place : Side) (event : Event) : Type 0 where
   seen : (w next : World) → after table event w ≡ Some next
       → after table event (seen_by place w) ≡ Some (seen_by place next)
-  unseen : (side : Side) → place ≡ other side → (w next : World) → after table event w ≡ Some next
+  internal : (side : Side) → place ≡ other side → (w next : World) → after table event w ≡ Some next
       → seen_by side next ≡ seen_by side w
   none : (side : Side) → losses_from side (event ∷ []) ≡ []
   first : (c : Certificate) (r : Replay) → lost_before c event r ≡ r
@@ -183,9 +183,9 @@ record IsHiddenOf (table : Table) (place : Side) (event : Event) : Type 0 where
 hidden_closing : (table : Table) (place : Side) (name : HalfName) → IsHiddenOf table place (Closes place name)
 hidden_closing table place name = record {
   seen = λ w next is. seen_closing table place name w ∙ ap (option_map (seen_by place)) is;
-  unseen = λ side away w next is.
+  internal = λ side away w next is.
       let h = closing table place name w next is in
-      ap (seen_by side) (h.next_is ∙ ap (λ (s : Side). with_end s h.made w) away) ∙ unseen_end side h.made w;
+      ap (seen_by side) (h.next_is ∙ ap (λ (s : Side). with_end s h.made w) away) ∙ internal_end side h.made w;
   none = λ side. refl;
   first = λ c r. refl;
 }
@@ -194,9 +194,9 @@ hidden_expiry : (table : Table) (place : Side) (name : HalfName) (id : ℤ)
     → IsHiddenOf table place (Expires place name id)
 hidden_expiry table place name id = record {
   seen = λ w next is. seen_expiry table place name id w ∙ ap (option_map (seen_by place)) is;
-  unseen = λ side away w next is.
+  internal = λ side away w next is.
       let h = expiry table place name id w next is in
-      ap (seen_by side) (h.next_is ∙ ap (λ (s : Side). with_end s h.made w) away) ∙ unseen_end side h.made w;
+      ap (seen_by side) (h.next_is ∙ ap (λ (s : Side). with_end s h.made w) away) ∙ internal_end side h.made w;
   none = λ side. refl;
   first = λ c r. refl;
 }
@@ -214,15 +214,15 @@ IsListed side next s answer false = Mirrors side next s
 
 listed_step : (side : Side) (table : Table) (c : Certificate) (place : Side) (event : Event)
     (reason : Reason) (entry : ℕ)
-    (r next s : Replay) → IsHiddenOf table place event → happens table c event reason entry r ≡ Ok next
+    (r next s : Replay) → IsHiddenOf table place event → after_event table c event reason entry r ≡ Ok next
     → Mirrors side r s
-    → IsListed side next s (happens table c event reason entry s) (is_side side place)
+    → IsListed side next s (after_event table c event reason entry s) (is_side side place)
 listed_step side table c place event reason entry r next s hidden is mirrors = by (is_side side place) refl
   where
     step : stepped table event r ≡ Some next
     step = ap (stepped table event) (sym (hidden.first c r)) ∙ some_ok _ (fault_at reason entry) next is
 
-    by : (b : Bool) → is_side side place ≡ b → IsListed side next s (happens table c event reason entry s) b
+    by : (b : Bool) → is_side side place ≡ b → IsListed side next s (after_event table c event reason entry s) b
     by true same =
         let here : side ≡ place = same_side side place same in
         let seen : (w : World) → after table event r.world ≡ Some w → after table event (seen_by side r.world)
@@ -236,10 +236,10 @@ listed_step side table c place event reason entry r next s hidden is mirrors = b
               (ap (stepped table event) (hidden.first c s) ∙ taken.is);
           mirrors = taken.mirrors;
         }
-    by false same = unseen_step side table event r next s (hidden.none (other side)) step
-        (λ w at. hidden.unseen side (other_side side place same) r.world w at) mirrors
+    by false same = internal_step side table event r next s (hidden.none (other side)) step
+        (λ w at. hidden.internal side (other_side side place same) r.world w at) mirrors
 
-listed_reflect : (side : Side) (table : Table) (c : Certificate) (listed : List Listed) (r next s : Replay)
+listed_reflect : (side : Side) (table : Table) (c : Certificate) (listed : List ListedStep) (r next s : Replay)
     → all_replayed table c listed r ≡ Ok next → Mirrors side r s
     → Reflects side next (all_replayed table c (listed_judged (Some side) listed) s)
 listed_reflect side table c [] r next s is mirrors =
@@ -251,12 +251,12 @@ listed_reflect side table c (x ∷ more) r next s is mirrors =
     let one = listed_step side table c (side_of x) found.0 (why_refused x) (entry_of x) r then.0 s
     (listed_so (IsHiddenOf table (side_of x)) r.world.sent x (hidden_closing table (side_of x)) (hidden_expiry table (side_of x)) found.0 event)
     found.2 mirrors in
-    let same : listed_replayed table c x s ≡ happens table c found.0 (why_refused x) (entry_of x) s =
+    let same : listed_replayed table c x s ≡ after_event table c found.0 (why_refused x) (entry_of x) s =
     rw (ap (λ (items : List Item). event_listed items x) (same_sent side r s mirrors) ∙ event) refl in
     by then.0 (λ v on. listed_reflect side table c more then.0 next v then.2 on) (is_side side (side_of x))
     (subst (λ (answer : Result Replay CheckFault). IsListed side then.0 s answer (is_side side (side_of x))) (sym same) one)
   where
-    mine : List Listed
+    mine : List ListedStep
     mine = listed_judged (Some side) more
 
     by : (mid : Replay) → ((v : Replay) → Mirrors side mid v → Reflects side next (all_replayed table c mine v)) → (b : Bool)
@@ -268,8 +268,8 @@ listed_reflect side table c (x ∷ more) r next s is mirrors =
 
 -- A delivery to the end occurs in both replays.
 heard_reflects : (side : Side) (table : Table) (c : Certificate) (n : ℕ) (r next s : Replay)
-    → happens table c (Receives side n) BadReply n r ≡ Ok next → Mirrors side r s
-    → Reflects side next (heard table c side n s)
+    → after_event table c (Receives side n) BadReply n r ≡ Ok next → Mirrors side r s
+    → Reflects side next (delivered table c side n s)
 heard_reflects side table c n r next s is mirrors =
     let front = lost_from_front c (other side) r in
     let step = some_ok (stepped table (Receives side n) front) (fault_at BadReply n) next is in
@@ -279,29 +279,29 @@ heard_reflects side table c n r next s is mirrors =
 
 -- A delivery to the peer changes nothing for the end.
 away : (side : Side) (table : Table) (c : Certificate) (n : ℕ) (r next s : Replay)
-    → happens table c (Receives (other side) n) BadReply n r ≡ Ok next → Mirrors side r s → Mirrors side next s
+    → after_event table c (Receives (other side) n) BadReply n r ≡ Ok next → Mirrors side r s → Mirrors side next s
 away A table c n r next s is mirrors =
     let front = lost_from_front c A r in
-    unseen_step A table (Receives B n) front next s refl
+    internal_step A table (Receives B n) front next s refl
     (some_ok (stepped table (Receives B n) front) (fault_at BadReply n) next is)
     (λ w at.
     let d = delivery table B n front.world w at in
-    ap (seen_by A) d.next_is ∙ unseen_end A d.made (with_channel A d.more front.world)
-    ∙ unseen_channel A d.more front.world)
+    ap (seen_by A) d.next_is ∙ internal_end A d.made (with_channel A d.more front.world)
+    ∙ internal_channel A d.more front.world)
     (own_front_mirrors A c r s mirrors)
 away B table c n r next s is mirrors =
     let front = lost_from_front c B r in
-    unseen_step B table (Receives A n) front next s refl
+    internal_step B table (Receives A n) front next s refl
     (some_ok (stepped table (Receives A n) front) (fault_at BadReply n) next is)
     (λ w at.
     let d = delivery table A n front.world w at in
-    ap (seen_by B) d.next_is ∙ unseen_end B d.made (with_channel B d.more front.world)
-    ∙ unseen_channel B d.more front.world)
+    ap (seen_by B) d.next_is ∙ internal_end B d.made (with_channel B d.more front.world)
+    ∙ internal_channel B d.more front.world)
     (own_front_mirrors B c r s mirrors)
 
 delivery_reflects : (side sender : Side) (table : Table) (c : Certificate) (n : ℕ) (b : Bool) (r next s : Replay)
-    → cond b (happens table c (Receives (other sender) n) BadReply n r) (Ok r) ≡ Ok next → Mirrors side r s
-    → Reflects side next (cond (b && is_side (other side) sender) (heard table c side n s) (Ok s))
+    → cond b (after_event table c (Receives (other sender) n) BadReply n r) (Ok r) ≡ Ok next → Mirrors side r s
+    → Reflects side next (cond (b && is_side (other side) sender) (delivered table c side n s) (Ok s))
 delivery_reflects side sender table c n false r next s is mirrors =
     reflects_this side next s (subst (λ (x : Replay). Mirrors side x s) (ok_same {F = CheckFault} r next is) mirrors)
 delivery_reflects A A table c n true r next s is mirrors = reflects_this A next s (away A table c n r next s is mirrors)
@@ -350,7 +350,7 @@ gap_reflects side table c r next s is mirrors =
     let items = r.world.sent in
     let parts = gap_parts None table c r next is in
     let all : all_replayed table c (listed_in c (next_entry r)) r ≡ Ok parts.0 =
-    ap (λ (xs : List Listed). all_replayed table c xs r) (sym (judged_all c (next_entry r))) ∙ parts.1 in
+    ap (λ (xs : List ListedStep). all_replayed table c xs r) (sym (judged_all c (next_entry r))) ∙ parts.1 in
     let mine : Reflects side next (heard_at table c side items s) =
     reflects_then side parts.0 next (all_replayed table c (listed_for (Some side) c (next_entry r)) s)
     (deliveries_by (Some side) table c (next_entry r) 0 c.fates items)

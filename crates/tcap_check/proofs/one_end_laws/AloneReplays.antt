@@ -8,11 +8,11 @@ use Rattle.tcap_record.specs.declared.entry.End.{End as Side}
 use Rattle.tcap_record.specs.declared.entry.End.TheVariants.{A, B}
 use Rattle.tcap_end.specs.Table.{Table}
 use Rattle.tcap_record.specs.Ends.{other}
-use Rattle.tcap_model.specs.World.{Item, OnItsWay, Sent, World, channel_from, with_channel, end_at, is_side}
+use Rattle.tcap_model.specs.World.{Item, MessageInTransit, Sent, World, channel_from, with_channel, end_at, is_side}
 use Rattle.tcap_model.specs.Run.{Adds, Event, Sends, Receives, Replies, Loses, Expires, Closes, Quiet, Tells, after, joined, numbers_of, played}
 use Rattle.tcap_certificate.specs.Certificate.{Certificate}
 use Rattle.tcap_certificate.specs.DescribedRun.{without_losses, IsImplied, invoking_half, sending_by, taken_by}
-use Rattle.tcap_certificate.specs.Replay.{Replay, all_lost_from, lost_from_front, stepped, with_step, closed_at_mark, deliveries_by, delivery_by, discarded, entries_by, entry_by, fault_at, gap_by, heard, implied_over, is_gap, is_nothing, is_overtaking, is_sent_by, item_by, mark_judged, message_by, next_entry, own_judged, tied, told_replayed}
+use Rattle.tcap_certificate.specs.Replay.{Replay, all_lost_from, lost_from_front, stepped, with_step, closed_at_mark, deliveries_by, delivery_by, discarded, entries_by, entry_by, fault_at, gap_by, delivered, implied_over, is_gap, is_nothing, is_overtaking, is_sent_by, item_by, mark_judged, message_by, next_entry, own_judged, tied, peer_replayed}
 use Rattle.tcap_model.proofs.ListLaws.{all_both, all_weaker}
 use Rattle.tcap_model.proofs.RunLaws.{grows, map_some, same_side}
 use Rattle.tcap_check.proofs.replay_laws.ReplaySteps.{Extends, Replays, channel_with, extends_nothing, extends_then, losing_replays, stepped_extends, discard_is, sending_so}
@@ -30,7 +30,7 @@ use Rattle.tcap_model.specs.declared.reason.Reason.{Reason}
 use Rattle.tcap_model.specs.declared.reason.Reason.TheVariants.{BadReply, FateCount, FateRange, NotQuiet, OutOfOrder}
 use Rattle.tcap_check.proofs.replay_laws.ReplayEntries.{ok_item}
 use Rattle.tcap_check.proofs.replay_laws.ReplayLaws.{implied_by, reply_replays, send_replays, listed_replay}
-use Rattle.tcap_check.specs.declared.listed_steps.Listed.{Listed}
+use Rattle.tcap_check.specs.declared.listed_steps.ListedStep.{ListedStep}
 use Rattle.tcap_check.specs.ListedSteps.{all_replayed, event_listed, listed_in, listed_judged, side_of}
 use Rattle.tcap_check.proofs.replay_laws.ReplayGaps.{gap_parts, listed_so, implied_so}
 
@@ -113,15 +113,15 @@ told_leads side table m r = step_leads side table (Tells (other side) m)
 
 -- ---- all messages are lost
 
-pub drop_all : (messages : List OnItsWay) → drop (length (numbers_of messages)) messages ≡ []
+pub drop_all : (messages : List MessageInTransit) → drop (length (numbers_of messages)) messages ≡ []
 drop_all [] = refl
 drop_all (m ∷ messages) = drop_all messages
 
 -- All messages on their way may be lost.
-all_plays : (table : Table) (side : Side) (channel : List OnItsWay) (w : World) → channel_from side w ≡ channel
+all_plays : (table : Table) (side : Side) (channel : List MessageInTransit) (w : World) → channel_from side w ≡ channel
     → played table (map (Loses side) (numbers_of channel)) w ≡ Some (with_channel side [] w)
 all_plays table side [] w is =
-    ap Some (sym (with_same side w) ∙ ap (λ (x : List OnItsWay). with_channel side x w) is)
+    ap Some (sym (with_same side w) ∙ ap (λ (x : List MessageInTransit). with_channel side x w) is)
 all_plays table side (first ∷ more) w is =
     let taken : after table (Loses side first.number) w ≡ Some (with_channel side more w) =
     rw (is, eq-eqb first.number first.number refl) refl in
@@ -141,7 +141,7 @@ all_lost_leads side table r = record {
   extends = record {
     events = refl;
     plays = all_plays table side (channel_from side r.world) r.world refl
-        ∙ ap (λ (x : List OnItsWay). Some (with_channel side x r.world)) (sym (drop_all (channel_from side r.world)));
+        ∙ ap (λ (x : List MessageInTransit). Some (with_channel side x r.world)) (sym (drop_all (channel_from side r.world)));
   };
   own = own_losses side side (numbers_of (channel_from side r.world));
   sent = sent_with_channel side _ r.world ∙ sym (append-nil r.world.sent);
@@ -159,7 +159,7 @@ all_passed {X} p (x ∷ xs) = by (p x) refl (all_passed p xs)
     by true is rest = (is, rest)
     by false is rest = rest
 
-listed_own : (side : Side) (items : List Item) (x : Listed) (event : Event) → is_side side (side_of x) ≡ true
+listed_own : (side : Side) (items : List Item) (x : ListedStep) (event : Event) → is_side side (side_of x) ≡ true
     → event_listed items x ≡ Some event → IsOwn side event
 listed_own side items x event of_side =
     let mine = sym (same_side side (side_of x) of_side) in listed_so (IsOwn side) items x (λ name. mine) (λ name id. mine) event
@@ -174,7 +174,7 @@ all_own side of passes (x ∷ xs) [] own all are = cc
 all_own side of passes (x ∷ xs) (event ∷ events) own all are =
     (own x event all.0 cc, all_own side of passes xs events own all.1 cc)
 
-listed_lead : (side : Side) (table : Table) (c : Certificate) (listed : List Listed) (r next : Replay)
+listed_lead : (side : Side) (table : Table) (c : Certificate) (listed : List ListedStep) (r next : Replay)
     → all_replayed table c (listed_judged (Some side) listed) r ≡ Ok next → Leads side table r [] next
 listed_lead side table c listed r next is =
     let mine = listed_judged (Some side) listed in
@@ -185,7 +185,7 @@ listed_lead side table c listed r next is =
 
 -- A message is received or lost.
 pub heard_leads : (side : Side) (table : Table) (c : Certificate) (n : ℕ) (r next : Replay)
-    → heard table c side n r ≡ Ok next
+    → delivered table c side n r ≡ Ok next
     → Leads side table r [] next
 heard_leads side table c n r next is =
     let before = lost_from_front c (other side) r in
@@ -228,7 +228,7 @@ deliveries_lead side table c gap n (fate ∷ fates) (item ∷ items) r next is =
     same : (mid : Replay) → (let x : Result Replay CheckFault = Ok r in x) ≡ Ok mid → Leads side table r [] mid
     same mid is = subst (Leads side table r []) (ok_same {F = CheckFault} r mid is) (leads_nothing side table r)
 
-    if_so : (b : Bool) (mid : Replay) → cond b (heard table c side n r) (Ok r) ≡ Ok mid → Leads side table r [] mid
+    if_so : (b : Bool) (mid : Replay) → cond b (delivered table c side n r) (Ok r) ≡ Ok mid → Leads side table r [] mid
     if_so true mid is = heard_leads side table c n r mid is
     if_so false mid is = same mid is
 
@@ -309,7 +309,7 @@ peer_rest side table m so fault r next is =
     (told_leads side table m r)
 
 peer_leads : (side : Side) (table : Table) (c : Certificate) (fate : Fate) (m : Message) (r next : Replay)
-    → told_replayed table c fate side m r ≡ Ok next → Leads side table r (Sent (other side) m ∷ []) next
+    → peer_replayed table c fate side m r ≡ Ok next → Leads side table r (Sent (other side) m ∷ []) next
 peer_leads side table c fate m r next is =
     let so = needs_ok (not (is_overtaking (other side) fate c.fates r.world.sent))
     (fault_at OutOfOrder (next_entry r)) _ next is in

@@ -14,7 +14,7 @@ use Rattle.tcap_certificate.specs.declared.fault.CheckFault.{CheckFault}
 use Rattle.tcap_model.specs.declared.reason.Reason.{Reason}
 use Rattle.tcap_model.specs.declared.reason.Reason.TheVariants.{FateCount}
 use Rattle.tcap_record.specs.Ends.{other}
-use Rattle.tcap_model.specs.World.{Item, OnItsWay, World, channel_from, empty, is_side}
+use Rattle.tcap_model.specs.World.{Item, MessageInTransit, World, channel_from, empty, is_side}
 use Rattle.tcap_model.specs.Run.{Event, Sends, Receives, Replies, Loses, Expires, Closes, Quiet, Tells, Runs, numbers_of, numbers_taken, played}
 use Rattle.tcap_certificate.specs.Certificate.{Certificate}
 use Rattle.tcap_model.specs.Entries.{item_of, AreItems, count_components}
@@ -27,7 +27,7 @@ use Rattle.tcap_check.proofs.given_run_laws.GivenLosses.{all_numbered, fits_gap,
 use Rattle.tcap_check.proofs.given_run_laws.GivenRuns.{are_fit, both_ok, front_empty, are_items}
 use Rattle.tcap_check.proofs.replay_laws.ReplaySteps.{channel_with, IsIn}
 use Rattle.tcap_check.proofs.one_end_laws.AloneReplays.{entries_lead, gap_leads, front_leads, leads_then, Leads}
-use Rattle.tcap_check.proofs.one_end_laws.AloneTaken.{IsAhead, Took, entries_take}
+use Rattle.tcap_check.proofs.one_end_laws.AloneTaken.{IsAhead, HasTaken, entries_take}
 use Rattle.tcap_check.proofs.given_run_laws.NumberLaws.{parts_apart}
 use Rattle.tcap_check.specs.OneEndRun.{IsGivenFor}
 use Rattle.tcap_check.proofs.one_end_laws.AloneCounts.{own_keeps, own_most, unheard_most}
@@ -70,8 +70,8 @@ counted side table c (entry ∷ entries) r next is =
 -- Each message that is left on its way has a loss as its fate.
 left_is_lost : (side : Side) (table : Table) (c : Certificate) (r : Replay) → FatesFit (length c.fates) 0 c.fates
     → length r.world.sent ≡ length c.fates → Runs table r.events r.world
-    → ((m : OnItsWay) (f : Fate) → slice_get c.fates m.number ≡ Some f → IsAhead f m.number 0 (length c.fates)
-    → WasSent r.world (other side) m → Took side m.number r)
+    → ((m : MessageInTransit) (f : Fate) → slice_get c.fates m.number ≡ Some f → IsAhead f m.number 0 (length c.fates)
+    → WasSent r.world (other side) m → HasTaken side m.number r)
     → AllByRecursion (λ m. is_lost c.fates m.number ≡ true) (channel_from (other side) r.world)
 left_is_lost side table c r fit count runs taken =
     all_numbered (WasSent r.world (other side)) (λ m. is_lost c.fates m.number ≡ true)
@@ -79,12 +79,12 @@ left_is_lost side table c r fit count runs taken =
     (were_sent table r.events r.world runs (other side))
     (λ m was there. by m was there (slice_get c.fates m.number) refl)
   where
-    apart : (m : OnItsWay) → IsIn m.number (numbers_of (channel_from (other side) r.world))
-        → Took side m.number r → ⊥
+    apart : (m : MessageInTransit) → IsIn m.number (numbers_of (channel_from (other side) r.world))
+        → HasTaken side m.number r → ⊥
     apart m there took = parts_apart m.number (numbers_taken (other side) r.events)
         (numbers_of (channel_from (other side) r.world)) (in_order table r.events r.world runs (other side)) took there
 
-    absent : (m : OnItsWay) → WasSent r.world (other side) m → slice_get c.fates m.number ≡ None → ⊥
+    absent : (m : MessageInTransit) → WasSent r.world (other side) m → slice_get c.fates m.number ≡ None → ⊥
     absent m was none = which (slice_get_cases c.fates m.number).1
       where
         within : m.number < length r.world.sent
@@ -96,7 +96,7 @@ left_is_lost side table c r fit count runs taken =
         which (inl found) = let is = found.2 in cc
         which (inr past) = absurd (omega (arith, past.0, count, within))
 
-    by : (m : OnItsWay) → WasSent r.world (other side) m
+    by : (m : MessageInTransit) → WasSent r.world (other side) m
         → IsIn m.number (numbers_of (channel_from (other side) r.world))
         → (o : Option Fate) → slice_get c.fates m.number ≡ o → is_lost c.fates m.number ≡ true
     by m was there None at = absurd (absent m was at)

@@ -19,7 +19,7 @@ use Rattle.tcap_model.specs.World.{Item, Sent, is_side}
 use Rattle.tcap_model.specs.Run.{Event, Receives, Replies, Loses, after, numbers_taken, takes_from}
 use Rattle.tcap_certificate.specs.Certificate.{Certificate}
 use Rattle.tcap_certificate.specs.DescribedRun.{sending_by, taken_by}
-use Rattle.tcap_certificate.specs.Replay.{Replay, all_lost_from, deliveries_by, delivery_by, discarded, entries_by, entry_by, fault_at, gap_by, heard, is_gap, is_nothing, is_overtaking, item_by, lost_from_front, mark_judged, message_by, next_entry, own_judged, reply_replayed, stepped, tied, told_replayed}
+use Rattle.tcap_certificate.specs.Replay.{Replay, all_lost_from, deliveries_by, delivery_by, discarded, entries_by, entry_by, fault_at, gap_by, delivered, is_gap, is_nothing, is_overtaking, item_by, lost_from_front, mark_judged, message_by, next_entry, own_judged, reply_replayed, stepped, tied, peer_replayed}
 use Rattle.tcap_check.proofs.replay_laws.ReplaySteps.{discard_is, IsIn, sending_so}
 use Rattle.tcap_check.proofs.given_run_laws.GivenRuns.{replied_at, among_filter}
 use Rattle.tcap_check.proofs.given_run_laws.NumberLaws.{among_plain, taken_left, taken_right}
@@ -33,12 +33,12 @@ use Rattle.tcap_model.proofs.WorldLaws.{itself}
 use Rattle.tcap_check.proofs.refusal_laws.TakenNumberLaws.{takes_replied}
 
 -- The message with this number was taken from the peer's channel.
-abbrev pub Took : Side → ℕ → Replay → Type 0
-Took side n r = IsIn n (numbers_taken (other side) r.events)
+abbrev pub HasTaken : Side → ℕ → Replay → Type 0
+HasTaken side n r = IsIn n (numbers_taken (other side) r.events)
 
 pub took_on : (side : Side) (table : Table) (n : ℕ) (r : Replay) (items : List Item) (next : Replay)
     → Leads side table r items next
-    → Took side n r → Took side n next
+    → HasTaken side n r → HasTaken side n next
 took_on side table n r items next leads took =
     subst (λ (events : List Event). IsIn n (numbers_taken (other side) events)) (sym leads.extends.events)
     (taken_left (other side) n r.events leads.steps took)
@@ -46,11 +46,11 @@ took_on side table n r items next leads took =
 -- A step takes the message.
 took_by : (side : Side) (table : Table) (n : ℕ) (event : Event) (r next : Replay)
     → takes_from (other side) event ≡ n ∷ []
-    → stepped table event r ≡ Some next → Took side n next
+    → stepped table event r ≡ Some next → HasTaken side n next
 took_by side table n event r next takes is =
     let found = map_some _ (after table event r.world) next is in
     let one : IsIn n (numbers_taken (other side) (event ∷ [])) = rw takes (inl refl) in
-    subst (Took side n) found.2 (taken_right (other side) n r.events (event ∷ []) one)
+    subst (HasTaken side n) found.2 (taken_right (other side) n r.events (event ∷ []) one)
 
 received_takes : (side : Side) (n : ℕ) → takes_from (other side) (Receives side n) ≡ n ∷ []
 received_takes A n = refl
@@ -62,8 +62,8 @@ lost_takes B n = refl
 
 -- The message is received or discarded, and so taken.
 heard_takes : (side : Side) (table : Table) (c : Certificate) (n : ℕ) (r next : Replay)
-    → heard table c side n r ≡ Ok next
-    → Took side n next
+    → delivered table c side n r ≡ Ok next
+    → HasTaken side n next
 heard_takes side table c n r next is =
     let before = lost_from_front c (other side) r in
     by before (stepped table (Receives side n) before) refl
@@ -72,7 +72,7 @@ heard_takes side table c n r next is =
     next is)
   where
     by : (before : Replay) (o : Option Replay) → stepped table (Receives side n) before ≡ o
-        → option_or o (discarded table side n before) ≡ Some next → Took side n next
+        → option_or o (discarded table side n before) ≡ Some next → HasTaken side n next
     by before (Some x) at found = took_by side table n (Receives side n)
         before next (received_takes side n) (at ∙ found)
     by before None at found =
@@ -84,7 +84,7 @@ heard_takes side table c n r next is =
 deliveries_take : (side : Side) (table : Table) (c : Certificate) (m : Message) (gap n i : ℕ) (fates : List Fate)
     (items : List Item)
     (r next : Replay) → deliveries_by (Some side) table c gap n fates items r ≡ Ok next → slice_get fates i ≡ Some (Gap gap)
-    → slice_get items i ≡ Some (Sent (other side) m) → Took side (n + i) next
+    → slice_get items i ≡ Some (Sent (other side) m) → HasTaken side (n + i) next
 deliveries_take side table c m gap n i [] items r next is fate item = cc
 deliveries_take side table c m gap n i (f ∷ fates) [] r next is fate item = cc
 deliveries_take side table c m gap n zero (f ∷ fates) (x ∷ items) r next is fate item =
@@ -96,25 +96,25 @@ deliveries_take side table c m gap n zero (f ∷ fates) (x ∷ items) r next is 
     let took = heard_takes side table c n r one.0
     (let so : ((gap == gap) && is_side (other side) (other side))
     ≡ true = rw (eq-eqb gap gap refl) (itself (other side)) in
-    sym (ap (λ (b : Bool). cond b (heard table c side n r) (Ok r)) so) ∙ at) in
+    sym (ap (λ (b : Bool). cond b (delivered table c side n r) (Ok r)) so) ∙ at) in
     let e : n ≡ n + 0 = omega arith in
-    subst (λ (k : ℕ). Took side k next) e
+    subst (λ (k : ℕ). HasTaken side k next) e
     (took_on side table n one.0 [] next (deliveries_lead side table c gap (n + 1) fates items one.0 next one.2) took)
 deliveries_take side table c m gap n (suc i) (f ∷ fates) (x ∷ items) r next is fate item =
     let one = then_ok (delivery_by (Some side) table c gap n f x r)
     (deliveries_by (Some side) table c gap (n + 1) fates items) next is in
     let e : (n + 1) + i ≡ n + suc i = omega arith in
-    subst (λ (k : ℕ). Took side k next)
+    subst (λ (k : ℕ). HasTaken side k next)
     e (deliveries_take side table c m gap (n + 1) i fates items one.0 next one.2 fate item)
 
 pub gap_takes : (side : Side) (table : Table) (c : Certificate) (m : Message) (n : ℕ) (r next : Replay)
     → gap_by (Some side) table c r ≡ Ok next
     → slice_get c.fates n ≡ Some (Gap (next_entry r)) → slice_get r.world.sent n ≡ Some (Sent (other side) m)
-    → Took side n next
+    → HasTaken side n next
 gap_takes side table c m n r next is fate item =
     let parts = gap_parts (Some side) table c r next is in
     let e : 0 + n ≡ n = omega arith in
-    subst (λ (k : ℕ). Took side k next) e
+    subst (λ (k : ℕ). HasTaken side k next) e
     (deliveries_take side table c m (next_entry r) 0 n c.fates r.world.sent parts.0 next parts.2 fate item)
 
 -- ---- messages that an entry takes
@@ -135,12 +135,12 @@ not_tied numbers n none is = subst (IsIn n) (nothing_is numbers none) is
 -- The Abort that is a reply takes its message.
 message_takes : (side : Side) (table : Table) (c : Certificate) (m : Message) (n k : ℕ) (taken : List ℕ)
     (r next : Replay)
-    → message_by table c side m (sending_by c k (Sent side m) taken) r ≡ Ok next → IsIn n taken → Took side n next
+    → message_by table c side m (sending_by c k (Sent side m) taken) r ≡ Ok next → IsIn n taken → HasTaken side n next
 message_takes side table c m n k taken r next is tied =
-    sending_so (λ taken o. message_by table c side m o r ≡ Ok next → IsIn n taken → Took side n next) c k side m
+    sending_so (λ taken o. message_by table c side m o r ≡ Ok next → IsIn n taken → HasTaken side n next) c k side m
     (λ e none. absurd none) (λ t e there. replied t there e) (λ taken e there. cc) taken is tied
   where
-    replied : (t : ℕ) → IsIn n (t ∷ []) → reply_replayed table c side m t r ≡ Ok next → Took side n next
+    replied : (t : ℕ) → IsIn n (t ∷ []) → reply_replayed table c side m t r ≡ Ok next → HasTaken side n next
     replied t (inr there) e = absurd there
     replied t (inl same) e =
         let steps = reply_replays table c side m t r next e in
@@ -162,8 +162,8 @@ IsNext Lost k = ⊥
 by_next : (side : Side) (table : Table) (c : Certificate) (m : Message) (n : ℕ) (f : Fate) (r mid : Replay)
     (items : List Item)
     (next : Replay) → gap_by (Some side) table c r ≡ Ok mid → Leads side table mid items next
-    → (IsIn n (tied (Some side) c r) → Took side n next) → slice_get c.fates n ≡ Some f → IsNext f (next_entry r)
-    → slice_get r.world.sent n ≡ Some (Sent (other side) m) → Took side n next
+    → (IsIn n (tied (Some side) c r) → HasTaken side n next) → slice_get c.fates n ≡ Some f → IsNext f (next_entry r)
+    → slice_get r.world.sent n ≡ Some (Sent (other side) m) → HasTaken side n next
 by_next side table c m n (Gap gap) r mid items next is leads tied fate now item =
     let here : slice_get c.fates n ≡ Some (Gap (next_entry r)) = fate ∙ ap (λ (g : ℕ). Some (Gap g)) now in
     took_on side table n mid items next leads (gap_takes side table c m n r mid is here item)
@@ -174,7 +174,7 @@ by_next side table c m n Lost r mid items next is leads tied fate now item = abs
 
 own_takes : (side : Side) (table : Table) (c : Certificate) (sent m : Message) (n : ℕ) (f : Fate) (r next : Replay)
     → own_judged (Some side) table c Lost side sent r ≡ Ok next → slice_get c.fates n ≡ Some f → IsNext f (next_entry r)
-    → slice_get r.world.sent n ≡ Some (Sent (other side) m) → Took side n next
+    → slice_get r.world.sent n ≡ Some (Sent (other side) m) → HasTaken side n next
 own_takes side table c sent m n f r next is fate now item =
     let gap = then_ok (gap_by (Some side) table c r) _ next is in
     let taken = tied (Some side) c gap.0 in
@@ -183,15 +183,15 @@ own_takes side table c sent m n f r next is fate now item =
     by_next side table c m n f r gap.0 (Sent side sent ∷ [])
     next gap.1 (own_rest side table c sent (next_entry gap.0) taken gap.0 next gap.2)
     (λ tied.
-    subst (Took side n) (ok_same {F = CheckFault} (all_lost_from side behind.0) next behind.2)
+    subst (HasTaken side n) (ok_same {F = CheckFault} (all_lost_from side behind.0) next behind.2)
     (took_on side table n behind.0 [] (all_lost_from side behind.0) (all_lost_leads side table behind.0)
     (message_takes side table c sent n (next_entry gap.0) taken gap.0 behind.0 behind.1
     (subst (IsIn n) (sym (tied_behind side table c r gap.0 gap.1)) tied)))) fate now item
 
 peer_takes : (side : Side) (table : Table) (c : Certificate) (own : Fate) (sent m : Message) (n : ℕ) (f : Fate)
     (r next : Replay)
-    → told_replayed table c own side sent r ≡ Ok next → slice_get c.fates n ≡ Some f → IsNext f (next_entry r)
-    → slice_get r.world.sent n ≡ Some (Sent (other side) m) → Took side n next
+    → peer_replayed table c own side sent r ≡ Ok next → slice_get c.fates n ≡ Some f → IsNext f (next_entry r)
+    → slice_get r.world.sent n ≡ Some (Sent (other side) m) → HasTaken side n next
 peer_takes side table c own sent m n f r next is fate now item =
     let so = needs_ok (not (is_overtaking (other side) own c.fates r.world.sent))
     (fault_at OutOfOrder (next_entry r)) _ next is in
@@ -205,7 +205,7 @@ peer_takes side table c own sent m n f r next is fate now item =
 mark_takes : (side : Side) (table : Table) (c : Certificate) (own : Fate) (m : Message) (n : ℕ) (f : Fate)
     (r next : Replay)
     → mark_judged (Some side) table c own r ≡ Ok next → slice_get c.fates n ≡ Some f → IsNext f (next_entry r)
-    → slice_get r.world.sent n ≡ Some (Sent (other side) m) → Took side n next
+    → slice_get r.world.sent n ≡ Some (Sent (other side) m) → HasTaken side n next
 mark_takes side table c own m n f r next is fate now item =
     let entry = next_entry r in
     let so = needs_ok (is_gap (entry + 1) own) (fault_at FateRange entry) _ next is in
@@ -219,13 +219,13 @@ mark_takes side table c own m n f r next is fate now item =
 pub item_takes : (side : Side) (table : Table) (c : Certificate) (own : Fate) (x : Item) (m : Message) (n : ℕ) (f : Fate)
     (r next : Replay)
     → item_by (Some side) table c own x r ≡ Ok next → slice_get c.fates n ≡ Some f → IsNext f (next_entry r)
-    → slice_get r.world.sent n ≡ Some (Sent (other side) m) → Took side n next
+    → slice_get r.world.sent n ≡ Some (Sent (other side) m) → HasTaken side n next
 item_takes side table c own Item.Quiet m n f r next is fate now item =
     mark_takes side table c own m n f r next is fate now item
 item_takes side table c own (Sent sender sent) m n f r next is fate now item = by side sender is item
   where
     by : (side sender : Side) → item_by (Some side) table c own (Sent sender sent) r ≡ Ok next
-        → slice_get r.world.sent n ≡ Some (Sent (other side) m) → Took side n next
+        → slice_get r.world.sent n ≡ Some (Sent (other side) m) → HasTaken side n next
     by A A is item = own_takes A table c sent m n f r next is fate now item
     by A B is item = peer_takes A table c own sent m n f r next is fate now item
     by B A is item = peer_takes B table c own sent m n f r next is fate now item
@@ -266,7 +266,7 @@ pub entries_take : (side : Side) (table : Table) (c : Certificate) (entries : Li
     (r next : Replay) (m : Message)
     (n : ℕ) (f : Fate) → entries_by (Some side) table c entries r ≡ Ok next → slice_get c.fates n ≡ Some f
     → IsAhead f n (next_entry r) (length c.fates) → slice_get next.world.sent n ≡ Some (Sent (other side) m)
-    → Took side n next
+    → HasTaken side n next
 entries_take side table c [] r next m n f is fate ahead item =
     let so = needs_ok (next_entry r == length c.fates) (fault_at FateCount (next_entry r))
     (gap_by (Some side) table c r) next is in
@@ -275,7 +275,7 @@ entries_take side table c [] r next m n f is fate ahead item =
   where
     by : (f : Fate) → slice_get c.fates n ≡ Some f → IsAhead f n (next_entry r) (length c.fates) → next_entry r
         ≡ length c.fates
-        → gap_by (Some side) table c r ≡ Ok next → Took side n next
+        → gap_by (Some side) table c r ≡ Ok next → HasTaken side n next
     by (Gap gap) fate ahead last gap_ok =
         let e : gap ≡ next_entry r = omega (arith, ahead.1, ahead.2, last) in
         let low : n < next_entry r = omega (arith, ahead.0, e) in
@@ -296,8 +296,8 @@ entries_take side table c (entry ∷ entries) r next m n f is fate ahead item =
     by : (own : Fate) (x : Result Item Reason) (mid : Replay) → entry_by (Some side) table c own x r ≡ Ok mid
         → ((n < next_entry r) × IsNext f (next_entry r)) ⊎ IsAhead f n (next_entry r + 1) (length c.fates)
         → (n < next_entry r → slice_get r.world.sent n ≡ Some (Sent (other side) m))
-        → (Took side n mid → Took side n next) → (IsAhead f n (next_entry mid) (length c.fates) → Took side n next)
-        → Took side n next
+        → (HasTaken side n mid → HasTaken side n next) → (IsAhead f n (next_entry mid) (length c.fates) → HasTaken side n next)
+        → HasTaken side n next
     by own (Err reason) mid is which there on behind = cc
     by own (Ok x) mid is (inl now) there on behind =
         on (item_takes side table c own x m n f r mid is fate now.1 (there now.0))

@@ -17,11 +17,11 @@ use Rattle.tcap_end.proofs.AnsweringLaws.{needs_ok, ok_same, some_ok, then_ok}
 use Rattle.tcap_certificate.specs.declared.fault.CheckFault.{CheckFault}
 use Rattle.tcap_model.specs.declared.reason.Reason.TheVariants.{BadReply}
 use Rattle.tcap_record.specs.Ends.{other}
-use Rattle.tcap_model.specs.World.{Item, OnItsWay, Sent, World, channel_from, empty, end_at, is_side, with_channel, with_end}
+use Rattle.tcap_model.specs.World.{Item, MessageInTransit, Sent, World, channel_from, empty, end_at, is_side, with_channel, with_end}
 use Rattle.tcap_model.specs.Run.{Event, Sends, Replies, Expires, Tells, Runs, after, joined, played}
 use Rattle.tcap_certificate.specs.Certificate.{Certificate}
 use Rattle.tcap_certificate.specs.DescribedRun.{invoke_id, invoking_half, losses_from, sending_by}
-use Rattle.tcap_certificate.specs.Replay.{Replay, fault_at, happens, implied, implied_over, is_abort, is_sent_by, lost_from_front, message_by, next_entry, or_same, reply_replayed, send_replayed, sent_or_refused, stepped, with_step}
+use Rattle.tcap_certificate.specs.Replay.{Replay, fault_at, after_event, implied, implied_over, is_abort, is_sent_by, lost_from_front, message_by, next_entry, or_same, reply_replayed, send_replayed, sent_or_refused, stepped, with_step}
 use Rattle.tcap_model.specs.SinceMark.{WasSent}
 use Rattle.tcap_model.proofs.ChannelLaws.{were_sent}
 use Rattle.tcap_check.proofs.described_run_laws.DescribedGaps.{ok_needs, ok_some, ok_then}
@@ -31,8 +31,8 @@ use Rattle.tcap_check.proofs.replay_laws.ReplaySteps.{losing_replays, sending_so
 use Rattle.tcap_model.proofs.WorldLaws.{sent_with_channel}
 use Rattle.tcap_model.proofs.RunLaws.{expiry, map_some, reply}
 use Rattle.tcap_model.proofs.WorldLaws.{itself, sent_joined}
-use Rattle.tcap_check.proofs.one_end_laws.AloneMirrors.{Mirrors, MirrorsBut, front_mirrors, more_losses, own_front_mirrors, same_sent, unseen_step}
-use Rattle.tcap_check.proofs.one_end_laws.AloneViews.{seen_by, seen_end, seen_sent, seen_expiry, seen_reply, seen_sending, seen_told, unseen_channel, unseen_end}
+use Rattle.tcap_check.proofs.one_end_laws.AloneMirrors.{Mirrors, MirrorsBut, front_mirrors, more_losses, own_front_mirrors, same_sent, internal_step}
+use Rattle.tcap_check.proofs.one_end_laws.AloneViews.{seen_by, seen_end, seen_sent, seen_expiry, seen_reply, seen_sending, seen_told, internal_channel, internal_end}
 
 -- ---- worlds that runs lead to
 
@@ -47,7 +47,7 @@ pub reached_on : (table : Table) (events : List Event) (w next : World) → IsRe
 reached_on table events w next (before, runs) on = (before ++ events, played_on table before events empty w runs ∙ on)
 
 -- The head of a channel was sent by its end.
-head_sent : (table : Table) (sender : Side) (w : World) (head : OnItsWay) (more : List OnItsWay) (n : ℕ)
+head_sent : (table : Table) (sender : Side) (w : World) (head : MessageInTransit) (more : List MessageInTransit) (n : ℕ)
     → IsReached table w
     → channel_from sender w ≡ head ∷ more → head.number ≡ n → slice_get w.sent n ≡ Some (Sent sender head.message)
 head_sent table sender w head more n (events, runs) channel is =
@@ -60,7 +60,7 @@ pub reply_takes : (table : Table) (c : Certificate) (side : Side) (abort : Messa
     → (m : Message) × (slice_get r.world.sent n ≡ Some (Sent (other side) m))
 reply_takes table c side abort n r next reached is =
     let front = lost_from_front c (other side) r in
-    let step = then_ok (happens table c (Replies side n) BadReply (next_entry r) r) _ next is in
+    let step = then_ok (after_event table c (Replies side n) BadReply (next_entry r) r) _ next is in
     let made = some_ok (stepped table (Replies side n) front) (fault_at BadReply (next_entry r)) step.0 step.1 in
     let found = map_some _ (after table (Replies side n) front.world) step.0 made in
     let took = reply table side n front.world found.0 found.1 in
@@ -147,7 +147,7 @@ reply_reflects side table c abort n r next s is mirrors =
     let front = lost_from_front c (other side) r in
     let other_front = lost_from_front c (other side) s in
     let both = front_mirrors side c r s mirrors in
-    let step = then_ok (happens table c event BadReply entry r) _ next is in
+    let step = then_ok (after_event table c event BadReply entry r) _ next is in
     let so = needs_ok (is_abort abort (slice_get step.0.world.sent entry)) (fault_at BadReply entry)
     (Ok step.0) next step.2 in
     let last : step.0 ≡ next = ok_same {F = CheckFault} step.0 next so.1 in
@@ -164,7 +164,7 @@ reply_reflects side table c abort n r next s is mirrors =
     ∙ ap (λ (x : Replay). x.world.sent) (sym last) in
     record {
       made = mine;
-      is = ok_then (happens table c event BadReply (next_entry s) s) _ mine mine
+      is = ok_then (after_event table c event BadReply (next_entry s) s) _ mine mine
           (ok_some (stepped table event other_front) (fault_at BadReply (next_entry s)) mine (rw there refl))
           (ok_needs (is_abort abort (slice_get v.sent (next_entry s))) (fault_at BadReply (next_entry s)) (Ok mine) mine
           (ap₂ (λ (items : List Item) (k : ℕ). is_abort abort (slice_get items k)) same_items same_entry ∙ so.0) refl);
@@ -230,9 +230,9 @@ implied_away side table name (id ∷ ids) r s mirrors =
 
     by : (o : Option Replay) → stepped table event r ≡ o → Mirrors side (or_same r o) s
     by None at = mirrors
-    by (Some next) at = unseen_step side table event r next s refl at
+    by (Some next) at = internal_step side table event r next s refl at
         (λ w step. let h = expiry table (other side) name id r.world w step in
-        ap (seen_by side) h.next_is ∙ unseen_end side h.made r.world) mirrors
+        ap (seen_by side) h.next_is ∙ internal_end side h.made r.world) mirrors
 
 over_away : (side : Side) (table : Table) (m : Message) (name : Option HalfName) (r s : Replay) → Mirrors side r s
     → Mirrors side (implied_over table (other side) m name r) s
@@ -258,7 +258,7 @@ send_away side table m r next s is mirrors = by (send table (end_at (other side)
         ok_same {F = CheckFault} (with_step event r (joined (other side) m (with_end (other side) e r.world)))
         next ok in
         record {
-          world = ap (joined (other side) m) (mirrors.world ∙ sym (unseen_end side e r.world))
+          world = ap (joined (other side) m) (mirrors.world ∙ sym (internal_end side e r.world))
               ∙ seen_told side m (with_end (other side) e r.world) ∙ ap (λ (x : Replay). seen_by side x.world) same;
           losses = more_losses (other side) s.events r.events (Tells (other side) m ∷ [])
               (event ∷ []) mirrors.losses refl
@@ -270,10 +270,10 @@ own_front : (side : Side) (c : Certificate) (r s : Replay) → Mirrors side r s
 own_front A c r s mirrors = own_front_mirrors A c r s mirrors
 own_front B c r s mirrors = own_front_mirrors B c r s mirrors
 
-unseen_back : (side : Side) (more : List OnItsWay) (w : World)
+internal_back : (side : Side) (more : List MessageInTransit) (w : World)
     → seen_by side (with_channel (back side) more w) ≡ seen_by side w
-unseen_back A more w = unseen_channel A more w
-unseen_back B more w = unseen_channel B more w
+internal_back A more w = internal_channel A more w
+internal_back B more w = internal_channel B more w
 
 same_message : (side : Side) (a b : Message) (items : List Item) → items ++ Sent side a ∷ [] ≡ items ++ Sent side b ∷ []
     → a ≡ b
@@ -288,7 +288,7 @@ reply_away side table c m n r next s is mirrors =
     let entry = next_entry r in
     let front = lost_from_front c (back side) r in
     let both = own_front side c r s mirrors in
-    let step = then_ok (happens table c event BadReply entry r) _ next is in
+    let step = then_ok (after_event table c event BadReply entry r) _ next is in
     let so = needs_ok (is_abort m (slice_get step.0.world.sent entry)) (fault_at BadReply entry)
     (Ok step.0) next step.2 in
     let last : step.0 ≡ next = ok_same {F = CheckFault} step.0 next so.1 in
@@ -307,7 +307,7 @@ reply_away side table c m n r next s is mirrors =
     ∙ sym (sent_joined (other side) took.abort left) ∙ sym (ap (λ (w : World). w.sent) world_is)
     ∙ (reply_replays table c (other side) m n r next is).sent) in
     record {
-      world = ap (joined (other side) m) (both.world ∙ sym (unseen_back side took.more front.world))
+      world = ap (joined (other side) m) (both.world ∙ sym (internal_back side took.more front.world))
           ∙ seen_told side m left
           ∙ ap (λ (x : Message). seen_by side (joined (other side) x left)) (sym same)
           ∙ ap (seen_by side) (sym world_is);

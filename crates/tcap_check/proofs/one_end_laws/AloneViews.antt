@@ -16,8 +16,8 @@ use Rattle.tcap_end.specs.HiddenSteps.{close, expire}
 use Rattle.tcap_end.specs.Message.{receive}
 use Rattle.tcap_end.specs.Step.{needs, ◌>>◌}
 use Rattle.tcap_record.specs.Ends.{other}
-use Rattle.tcap_model.specs.World.{Item, OnItsWay, World, channel_from, end_at, with_channel, with_end}
-use Rattle.tcap_model.specs.Run.{Receives, Replies, Expires, Closes, Quiet, after, after_quiet, joined, reply_to, then_so}
+use Rattle.tcap_model.specs.World.{Item, MessageInTransit, World, channel_from, end_at, with_channel, with_end}
+use Rattle.tcap_model.specs.Run.{Receives, Replies, Expires, Closes, Quiet, after, after_quiet, joined, reply_to, option_then}
 use Rattle.tcap_model.proofs.RunLaws.{delivery, quiet, reply}
 
 -- the end's view of a world
@@ -40,7 +40,7 @@ seen_sent B w = refl
 -- ---- events of the end
 
 -- The channel of the peer is independent of the other one.
-pub seen_with : (side : Side) (more : List OnItsWay) (w : World)
+pub seen_with : (side : Side) (more : List MessageInTransit) (w : World)
     → with_channel (other side) more (seen_by side w) ≡ seen_by side (with_channel (other side) more w)
 seen_with A more w = refl
 seen_with B more w = refl
@@ -72,8 +72,8 @@ pub seen_closing : (table : Table) (side : Side) (name : HalfName) (w : World)
 seen_closing table side name w = hidden_seen side (λ e. close table e name) w
 
 -- A delivery occurs in the view.
-receive_seen : (table : Table) (side : Side) (number : ℕ) (w next : World) (head : OnItsWay)
-    (more : List OnItsWay) (made : End)
+receive_seen : (table : Table) (side : Side) (number : ℕ) (w next : World) (head : MessageInTransit)
+    (more : List MessageInTransit) (made : End)
     → channel_from (other side) w ≡ head ∷ more → (head.number == number) ≡ true
     → receive table (end_at side w) head.message ≡ Ok made
     → next ≡ with_end side made (with_channel (other side) more w)
@@ -95,7 +95,7 @@ IsSeenReply table side number w next =
     (made : World) × (after table (Replies side number) (seen_by side w) ≡ Some made)
     × (with_channel side [] made ≡ seen_by side next)
 
-reply_seen : (table : Table) (side : Side) (number : ℕ) (w next : World) (head : OnItsWay) (more : List OnItsWay)
+reply_seen : (table : Table) (side : Side) (number : ℕ) (w next : World) (head : MessageInTransit) (more : List MessageInTransit)
     (abort : Message)
     → channel_from (other side) w ≡ head ∷ more → (head.number == number) ≡ true
     → reply_to (end_at side w) head.message ≡ Some abort
@@ -127,20 +127,20 @@ seen_told A m w = refl
 seen_told B m w = refl
 
 -- A change of the peer changes nothing in the view.
-pub unseen_end : (side : Side) (e : End) (w : World) → seen_by side (with_end (other side) e w) ≡ seen_by side w
-unseen_end A e w = refl
-unseen_end B e w = refl
+pub internal_end : (side : Side) (e : End) (w : World) → seen_by side (with_end (other side) e w) ≡ seen_by side w
+internal_end A e w = refl
+internal_end B e w = refl
 
-pub unseen_channel : (side : Side) (more : List OnItsWay) (w : World)
+pub internal_channel : (side : Side) (more : List MessageInTransit) (w : World)
     → seen_by side (with_channel side more w) ≡ seen_by side w
-unseen_channel A more w = refl
-unseen_channel B more w = refl
+internal_channel A more w = refl
+internal_channel B more w = refl
 
 -- ---- a quiet mark
 
 -- If both ends are quiet, each is.
 ends_quiet : (a b : Bool) (x : World) (sent : List Item)
-    → then_so (result_ok (needs a faults.StillOpen >> Ok nothing))
+    → option_then (result_ok (needs a faults.StillOpen >> Ok nothing))
     (λ p.
     option_map (λ q. record { a = p; b = q; from_a = []; from_b = []; sent = sent })
     (result_ok (needs b faults.StillOpen >> Ok nothing)))
@@ -158,7 +158,7 @@ pub record AreClosed (w : World) : Type 0 where
 pub quiet_closed : (table : Table) (w next : World) → after table Quiet w ≡ Some next → AreClosed w
 quiet_closed table w next is = by w.from_a w.from_b is
   where
-    by : (a b : List OnItsWay) → after_quiet (record w { from_a = a; from_b = b }) ≡ Some next → AreClosed w
+    by : (a b : List MessageInTransit) → after_quiet (record w { from_a = a; from_b = b }) ≡ Some next → AreClosed w
     by [] [] is =
         let both = ends_quiet (all_closed w.a.begun && all_closed w.a.accepted)
         (all_closed w.b.begun && all_closed w.b.accepted)

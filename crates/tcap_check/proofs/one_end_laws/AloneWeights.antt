@@ -11,8 +11,8 @@ use Rattle.std.specs.Ordering.{is_eq, match_ordering}
 use Rattle.tcap_end.specs.declared.half.Slot.{Slot}
 use Rattle.tcap_end.specs.declared.half.Slot.TheVariants.{Begun, Accepted}
 use Rattle.tcap_end.specs.Half.{Half}
-use Rattle.tcap_end.specs.End.{End, KeptHalf, put}
-use Rattle.tcap_end.specs.ReachableEnd.{Has, IsEnd, Rises, halves_of}
+use Rattle.tcap_end.specs.End.{End, KeyedHalf, put}
+use Rattle.tcap_end.specs.ReachableEnd.{HasHalf, IsEnd, Rises, halves_of}
 use Rattle.tcap_end.proofs.MapLaws.{below_first, kept_at}
 use Rattle.tcap_end.proofs.FoundLaws.{half_at, octets_total}
 use Rattle.tcap_check.proofs.given_run_laws.StepCounts.{total}
@@ -112,6 +112,6 @@ pub half_most : (weigh : Half → ℕ) (e : End) (slot : Slot) (key : List ℕ) 
 half_most weigh e slot key h sound = omega (arith, half_weighs weigh e slot key h sound)
 
 -- If an end has a half, this is the half that is replaced.
-pub half_over : (weigh : Half → ℕ) (e : End) (f : KeptHalf) (h : Half) → IsEnd e → Has e f
+pub half_over : (weigh : Half → ℕ) (e : End) (f : KeyedHalf) (h : Half) → IsEnd e → HasHalf e f
     → halves_weigh weigh (put e f.slot f.key h) + weigh f.half ≡ halves_weigh weigh e + weigh h
 half_over weigh e f h sound had = omega (arith, half_weighs weigh e f.slot f.key h sound, ap (weight_of weigh) had)

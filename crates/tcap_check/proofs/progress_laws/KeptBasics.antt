@@ -13,15 +13,15 @@ use Rattle.tcap_certificate.specs.declared.certificate.Fate.TheVariants.{Gap, Lo
 use Rattle.tcap_check.specs.declared.progress.Progress.{Progress}
 use Rattle.tcap_check.specs.declared.progress.Waiting.{Waiting}
 use Rattle.tcap_record.specs.Ends.{other}
-use Rattle.tcap_model.specs.World.{OnItsWay, World, channel_from, end_at, with_channel, with_end}
+use Rattle.tcap_model.specs.World.{MessageInTransit, World, channel_from, end_at, with_channel, with_end}
 use Rattle.tcap_model.specs.Run.{Event, Loses, numbers_of}
 use Rattle.tcap_certificate.specs.Certificate.{Certificate}
-use Rattle.tcap_certificate.specs.Replay.{Replay, all_lost_from, if_lost, is_heard, losing, lost_front, lost_from_front, lost_last, with_step}
+use Rattle.tcap_certificate.specs.Replay.{Replay, all_lost_from, if_lost, is_received_from, losing, lost_front, lost_from_front, lost_last, with_step}
 use Rattle.tcap_certificate.specs.LossCounts.{is_lost_from}
-use Rattle.tcap_check.specs.Progress.{discard_told, front_lost, last_lost, losing_kept, lost_counted, lost_told, moved, seat_at, with_seat_end, with_waiting}
+use Rattle.tcap_check.specs.Progress.{discard_listed, front_lost, last_lost, losing_kept, lost_counted, loss_listed, moved, seat_at, with_seat_end, with_waiting}
 use Rattle.tcap_check.specs.ReplaySteps.{sent_lost}
 use Rattle.tcap_check.specs.CheckerMeaning.{fate_of, is_alone, kept_by, map_ok, progress_of, reported, waiting_at}
-use Rattle.tcap_check.specs.ReportedSteps.{Told, discard_more, more_told, told_if}
+use Rattle.tcap_check.specs.ReportedSteps.{ListedRun, with_one_discard, with_events, listed_run_if}
 use Rattle.tcap_check.proofs.checker_laws.ToldStepLaws.{discard_if, more_if}
 use Rattle.tcap_model.proofs.WorldLaws.{itself, with_same}
 
@@ -39,35 +39,35 @@ count_same p xs x is =
     omega (arith, none, ap length (filter-append p xs (x ∷ [])) ∙ length-append (filter p xs) (filter p (x ∷ [])))
 
 -- the progress with the counts of these events, and this report
-abbrev pub counted : Option Side → List Event → Option Told → Progress → Progress
+abbrev pub counted : Option Side → List Event → Option ListedRun → Progress → Progress
 counted judged events told p =
     record p { moves = (reported judged events).moves; unheard = (reported judged events).unheard; steps = told }
 
-numbered : (p : Progress) (m n k l : ℕ) (told : Option Told) → m ≡ n → k ≡ l
+numbered : (p : Progress) (m n k l : ℕ) (told : Option ListedRun) → m ≡ n → k ≡ l
     → (let x : Progress = record p { moves = m; unheard = k; steps = told } in x) ≡ record p { moves = n; unheard = l; steps = told }
 numbered p m n k l told a b = ap₂ (λ (i j : ℕ). let x : Progress = record p { moves = i; unheard = j; steps = told } in x) a b
 
 -- One more event that is no loss is one more step.
 pub moved_counts : (listing : Bool) (judged : Option Side) (events : List Event) (discards : List (ℕ × EndFault)) (event : Event) (p : Progress)
     → ((side : Side) → is_lost_from side event ≡ false)
-    → counted judged (events ++ event ∷ []) (told_if listing (events ++ event ∷ []) discards) p
-    ≡ moved event (counted judged events (told_if listing events discards) p)
+    → counted judged (events ++ event ∷ []) (listed_run_if listing (events ++ event ∷ []) discards) p
+    ≡ moved event (counted judged events (listed_run_if listing events discards) p)
 moved_counts listing judged events discards event p none =
-    ap (λ (told : Option Told). counted judged (events ++ event ∷ []) told p) (sym (more_if listing (event ∷ []) events discards))
+    ap (λ (told : Option ListedRun). counted judged (events ++ event ∷ []) told p) (sym (more_if listing (event ∷ []) events discards))
     ∙ by judged
   where
-    told : Option Told
-    told = option_map (more_told (event ∷ [])) (told_if listing events discards)
+    told : Option ListedRun
+    told = option_map (with_events (event ∷ [])) (listed_run_if listing events discards)
 
     by : (judged : Option Side) → counted judged (events ++ event ∷ []) told p
-        ≡ moved event (counted judged events (told_if listing events discards) p)
+        ≡ moved event (counted judged events (listed_run_if listing events discards) p)
     by None = numbered p _ _ 0 0 told (length-append events (event ∷ [])) refl
     by (Some side) =
         numbered p _ _ _ _ told (count_more (λ (e : Event). not (is_lost_from side e)) events event (rw (none side) refl))
         (count_same (is_lost_from (other side)) events event (none (other side)))
 
 -- One more loss is counted.
-loss_counts : (judged : Option Side) (side : Side) (number : ℕ) (events : List Event) (told : Option Told) (p : Progress)
+loss_counts : (judged : Option Side) (side : Side) (number : ℕ) (events : List Event) (told : Option ListedRun) (p : Progress)
     → counted judged (events ++ Loses side number ∷ []) told p ≡ lost_counted judged side (counted judged events told p)
 loss_counts None side number events told p = numbered p _ _ 0 0 told (length-append events (Loses side number ∷ [])) refl
 loss_counts (Some sides.A) sides.A number events told p =
@@ -85,22 +85,22 @@ loss_counts (Some sides.B) sides.B number events told p =
 
 -- One more loss is counted and listed.
 pub lost_counts : (listing : Bool) (judged : Option Side) (side : Side) (number : ℕ) (events : List Event) (discards : List (ℕ × EndFault)) (p : Progress)
-    → counted judged (events ++ Loses side number ∷ []) (told_if listing (events ++ Loses side number ∷ []) discards) p
-    ≡ lost_told judged side number (counted judged events (told_if listing events discards) p)
+    → counted judged (events ++ Loses side number ∷ []) (listed_run_if listing (events ++ Loses side number ∷ []) discards) p
+    ≡ loss_listed judged side number (counted judged events (listed_run_if listing events discards) p)
 lost_counts listing judged side number events discards p =
-    ap (λ (told : Option Told). counted judged (events ++ Loses side number ∷ []) told p)
+    ap (λ (told : Option ListedRun). counted judged (events ++ Loses side number ∷ []) told p)
     (sym (more_if listing (Loses side number ∷ []) events discards))
-    ∙ loss_counts judged side number events (option_map (more_told (Loses side number ∷ [])) (told_if listing events discards)) p
+    ∙ loss_counts judged side number events (option_map (with_events (Loses side number ∷ [])) (listed_run_if listing events discards)) p
 
 -- One more discard is counted and listed as such.
 pub discard_counts : (listing : Bool) (judged : Option Side) (side : Side) (number : ℕ) (reason : EndFault) (events : List Event)
     (discards : List (ℕ × EndFault)) (p : Progress)
-    → counted judged (events ++ Loses side number ∷ []) (told_if listing (events ++ Loses side number ∷ []) (discards ++ (number, reason) ∷ [])) p
-    ≡ lost_counted judged side (discard_told side number reason (counted judged events (told_if listing events discards) p))
+    → counted judged (events ++ Loses side number ∷ []) (listed_run_if listing (events ++ Loses side number ∷ []) (discards ++ (number, reason) ∷ [])) p
+    ≡ lost_counted judged side (discard_listed side number reason (counted judged events (listed_run_if listing events discards) p))
 discard_counts listing judged side number reason events discards p =
-    ap (λ (told : Option Told). counted judged (events ++ Loses side number ∷ []) told p) (sym (discard_if listing side number reason events discards))
+    ap (λ (told : Option ListedRun). counted judged (events ++ Loses side number ∷ []) told p) (sym (discard_if listing side number reason events discards))
     ∙ loss_counts judged side number events
-    (option_map (λ told. discard_more number reason (more_told (Loses side number ∷ []) told)) (told_if listing events discards)) p
+    (option_map (λ told. with_one_discard number reason (with_events (Loses side number ∷ []) told)) (listed_run_if listing events discards)) p
 
 -- ---- a step of an end
 
@@ -121,7 +121,7 @@ discarding side number reason r = record {
 
 pub discard_step_is : (listing : Bool) (judged : Option Side) (c : Certificate) (side : Side) (number : ℕ) (reason : EndFault) (r : Replay)
     → progress_of listing judged c (discarding side number reason r)
-    ≡ lost_counted judged side (discard_told side number reason (progress_of listing judged c r))
+    ≡ lost_counted judged side (discard_listed side number reason (progress_of listing judged c r))
 discard_step_is listing judged c side number reason r =
     discard_counts listing judged side number reason r.events r.discards (progress_of listing judged c r)
 
@@ -144,34 +144,34 @@ waiting_kept listing judged c sides.A r = refl
 waiting_kept listing judged c sides.B r = refl
 
 -- what is kept of a channel that is replaced
-pub channel_put : (listing : Bool) (judged : Option Side) (c : Certificate) (side : Side) (messages : List OnItsWay) (r : Replay)
+pub channel_put : (listing : Bool) (judged : Option Side) (c : Certificate) (side : Side) (messages : List MessageInTransit) (r : Replay)
     → (let x : Replay = record { events = r.events; discards = r.discards; world = with_channel side messages r.world } in progress_of listing judged c x)
     ≡ with_waiting side (waiting_at judged side c.fates messages) (progress_of listing judged c r)
 channel_put listing judged c sides.A messages r = refl
 channel_put listing judged c sides.B messages r = refl
 
-channel_again : (listing : Bool) (judged : Option Side) (c : Certificate) (side : Side) (messages others : List OnItsWay) (events : List Event) (discards : List (ℕ × EndFault)) (w : World)
+channel_again : (listing : Bool) (judged : Option Side) (c : Certificate) (side : Side) (messages others : List MessageInTransit) (events : List Event) (discards : List (ℕ × EndFault)) (w : World)
     → with_waiting side (waiting_at judged side c.fates messages)
     (let x : Replay = record { events = events; discards = discards; world = with_channel side others w } in progress_of listing judged c x)
     ≡ (let x : Replay = record { events = events; discards = discards; world = with_channel side messages w } in progress_of listing judged c x)
 channel_again listing judged c sides.A messages others events discards w = refl
 channel_again listing judged c sides.B messages others events discards w = refl
 
-lost_again : (listing : Bool) (judged : Option Side) (c : Certificate) (side : Side) (number : ℕ) (messages : List OnItsWay) (events : List Event) (discards : List (ℕ × EndFault)) (w : World)
-    → lost_told judged side number (let x : Replay = record { events = events; discards = discards; world = with_channel side messages w } in progress_of listing judged c x)
+lost_again : (listing : Bool) (judged : Option Side) (c : Certificate) (side : Side) (number : ℕ) (messages : List MessageInTransit) (events : List Event) (discards : List (ℕ × EndFault)) (w : World)
+    → loss_listed judged side number (let x : Replay = record { events = events; discards = discards; world = with_channel side messages w } in progress_of listing judged c x)
     ≡ (let x : Replay = record { events = events ++ Loses side number ∷ []; discards = discards; world = with_channel side messages w } in progress_of listing judged c x)
 lost_again listing judged c side number messages events discards w =
     sym (lost_counts listing judged side number events discards
     (let x : Replay = record { events = events; discards = discards; world = with_channel side messages w } in progress_of listing judged c x))
 
 -- the numbers of the messages that will be lost at the front of a channel
-abbrev lost_at : Option Side → Side → List Fate → List OnItsWay → List ℕ
+abbrev lost_at : Option Side → Side → List Fate → List MessageInTransit → List ℕ
 lost_at judged side fates [] = []
 lost_at judged side fates (m ∷ more) =
     if_lost (fate_of judged side (slice_get fates m.number)) (m.number ∷ lost_at judged side fates more)
 
 -- These messages are lost in order.
-losing_goes : (listing : Bool) (judged : Option Side) (c : Certificate) (side : Side) (channel : List OnItsWay) (events : List Event) (discards : List (ℕ × EndFault)) (w : World)
+losing_goes : (listing : Bool) (judged : Option Side) (c : Certificate) (side : Side) (channel : List MessageInTransit) (events : List Event) (discards : List (ℕ × EndFault)) (w : World)
     → losing_kept judged side (waiting_at judged side c.fates channel)
     (let x : Replay = record { events = events; discards = discards; world = with_channel side channel w } in progress_of listing judged c x)
     ≡ (let x : Replay = record {
@@ -184,7 +184,7 @@ losing_goes listing judged c side [] events discards w =
 losing_goes listing judged c side (m ∷ more) events discards w =
     by (fate_of judged side (slice_get c.fates m.number)) (losing_goes listing judged c side more (events ++ Loses side m.number ∷ []) discards w)
   where
-    at : List Event → List OnItsWay → Progress
+    at : List Event → List MessageInTransit → Progress
     at es channel = let x : Replay = record { events = es; discards = discards; world = with_channel side channel w } in progress_of listing judged c x
 
     rest : List Waiting
@@ -206,7 +206,7 @@ losing_goes listing judged c side (m ∷ more) events discards w =
     by (Some (By k)) on = stays
     by (Some Lost) on =
         ap (losing_kept judged side rest)
-        (ap (lost_told judged side m.number) (channel_again listing judged c side more (m ∷ more) events discards w)
+        (ap (loss_listed judged side m.number) (channel_again listing judged c side more (m ∷ more) events discards w)
         ∙ lost_again listing judged c side m.number more events discards w)
         ∙ on
         ∙ ap (λ (es : List Event). at es (drop (length lost) more)) (append_assoc events (Loses side m.number ∷ []) (map (Loses side) lost))
@@ -221,20 +221,20 @@ front_goes listing judged c side r =
     ∙ losing_goes listing judged c side (channel_from side r.world) r.events r.discards r.world
 
 -- On a channel to a judged end, the messages are lost whose fates are losses.
-pub not_alone : (judged : Option Side) (side : Side) → is_heard judged side ≡ true → is_alone judged side ≡ false
+pub not_alone : (judged : Option Side) (side : Side) → is_received_from judged side ≡ true → is_alone judged side ≡ false
 not_alone None side so = refl
 not_alone (Some sides.A) sides.A so = cc
 not_alone (Some sides.A) sides.B so = refl
 not_alone (Some sides.B) sides.A so = refl
 not_alone (Some sides.B) sides.B so = cc
 
-lost_at_front : (judged : Option Side) (side : Side) (fates : List Fate) (channel : List OnItsWay) → is_alone judged side ≡ false
+lost_at_front : (judged : Option Side) (side : Side) (fates : List Fate) (channel : List MessageInTransit) → is_alone judged side ≡ false
     → lost_at judged side fates channel ≡ lost_front fates channel
 lost_at_front judged side fates [] so = refl
 lost_at_front judged side fates (m ∷ more) so =
     rw so (ap (λ (x : List ℕ). if_lost (slice_get fates m.number) (m.number ∷ x)) (lost_at_front judged side fates more so))
 
-pub front_is : (listing : Bool) (judged : Option Side) (c : Certificate) (side : Side) (r : Replay) → is_heard judged side ≡ true
+pub front_is : (listing : Bool) (judged : Option Side) (c : Certificate) (side : Side) (r : Replay) → is_received_from judged side ≡ true
     → front_lost judged side (progress_of listing judged c r) ≡ progress_of listing judged c (lost_from_front c side r)
 front_is listing judged c side r so =
     front_goes listing judged c side r
@@ -242,7 +242,7 @@ front_is listing judged c side r so =
     (lost_at_front judged side c.fates (channel_from side r.world) (not_alone judged side so))
 
 -- On the channel from an end that is judged alone, all messages are lost.
-lost_at_all : (side : Side) (fates : List Fate) (channel : List OnItsWay) → lost_at (Some side) side fates channel ≡ numbers_of channel
+lost_at_all : (side : Side) (fates : List Fate) (channel : List MessageInTransit) → lost_at (Some side) side fates channel ≡ numbers_of channel
 lost_at_all side fates [] = refl
 lost_at_all side fates (m ∷ more) = rw (itself side) (ap (λ (x : List ℕ). m.number ∷ x) (lost_at_all side fates more))
 

@@ -9,13 +9,13 @@ use Rattle.tcap_model.specs.declared.reason.Reason.{Reason}
 use Rattle.tcap_certificate.specs.declared.certificate.Fate.{Fate}
 use Rattle.tcap_certificate.specs.declared.certificate.Fate.TheVariants.{Gap, Lost, By}
 use Rattle.tcap_record.specs.Ends.{other}
-use Rattle.tcap_model.specs.World.{Item, OnItsWay, Sent, World, channel_from, with_channel}
+use Rattle.tcap_model.specs.World.{Item, MessageInTransit, Sent, World, channel_from, with_channel}
 use Rattle.tcap_model.specs.Run.{joined}
 use Rattle.tcap_certificate.specs.Certificate.{Certificate}
 use Rattle.tcap_certificate.specs.DescribedRun.{FatesFit, taken_by}
 use Rattle.tcap_certificate.specs.Replay.{Replay, if_lost, is_sent_by, lost_from_front, lost_front}
 use Rattle.tcap_check.specs.CheckerMeaning.{count_ahead}
-use Rattle.tcap_check.specs.ReplaySteps.{is_heard}
+use Rattle.tcap_check.specs.ReplaySteps.{is_received_from}
 use Rattle.tcap_check.proofs.refusal_laws.PendingLaws.{IsAhead}
 use Rattle.tcap_check.proofs.replay_laws.ReplaySteps.{behind_lost, waiting, waiting_by}
 
@@ -27,7 +27,7 @@ new_by (Some Lost) = 0
 new_by _ = 1
 
 -- The head of a channel after its losses is a message that waits.
-head_waits : (fates : List Fate) (channel : List OnItsWay) (head : OnItsWay) (more : List OnItsWay)
+head_waits : (fates : List Fate) (channel : List MessageInTransit) (head : MessageInTransit) (more : List MessageInTransit)
     → drop (length (lost_front fates channel)) channel ≡ head ∷ more
     → length (waiting fates channel) ≡ suc (length (waiting fates more))
 head_waits fates [] head more is = cc
@@ -35,7 +35,7 @@ head_waits fates (first ∷ channel) head more is =
     by (slice_get fates first.number) (head_waits fates channel head more) is
   where
     here : first ∷ channel ≡ head ∷ more → suc (length (waiting fates channel)) ≡ suc (length (waiting fates more))
-    here e = let same : channel ≡ more = cc in ap (λ (x : List OnItsWay). suc (length (waiting fates x))) same
+    here e = let same : channel ≡ more = cc in ap (λ (x : List MessageInTransit). suc (length (waiting fates x))) same
 
     by : (o : Option Fate)
         → (drop (length (lost_front fates channel)) channel ≡ head ∷ more
@@ -48,7 +48,7 @@ head_waits fates (first ∷ channel) head more is =
     by (Some Lost) on e = on e
 
 -- A message that joins a channel waits, unless it will be lost.
-one_waits : (fates : List Fate) (channel : List OnItsWay) (m : OnItsWay)
+one_waits : (fates : List Fate) (channel : List MessageInTransit) (m : MessageInTransit)
     → length (waiting fates (channel ++ m ∷ [])) ≡ length (waiting fates channel) + new_by (slice_get fates m.number)
 one_waits fates [] m = by (slice_get fates m.number)
   where
@@ -79,7 +79,7 @@ pub counts_same : (judged : Option Side) (fates : List Fate) (w next : World)
     → ((side : Side) → waiting fates (channel_from side next) ≡ waiting fates (channel_from side w))
     → count_for judged fates next ≡ count_for judged fates w
 counts_same None fates w next same =
-    ap₂ (λ (x y : List OnItsWay). length x + length y) (same sides.A) (same sides.B)
+    ap₂ (λ (x y : List MessageInTransit). length x + length y) (same sides.A) (same sides.B)
 counts_same (Some judged) fates w next same = ap length (same (other judged))
 
 -- Losses do not change the count.
@@ -96,7 +96,7 @@ losses_wait judged c side r = counts_same judged c.fates r.world (lost_from_fron
 -- A message that joins is counted, unless it will be lost or is for an end that is not judged.
 pub joined_waits : (judged : Option Side) (fates : List Fate) (side : Side) (message : Message) (w : World)
     → count_for judged fates (joined side message w)
-    ≡ count_for judged fates w + cond (is_heard judged side) (new_by (slice_get fates (length w.sent))) 0
+    ≡ count_for judged fates w + cond (is_received_from judged side) (new_by (slice_get fates (length w.sent))) 0
 joined_waits None fates sides.A message w =
     omega (arith, one_waits fates w.from_a (record { number = length w.sent; message = message }))
 joined_waits None fates sides.B message w =
@@ -107,8 +107,8 @@ joined_waits (Some sides.B) fates sides.A message w = one_waits fates w.from_a (
 joined_waits (Some sides.B) fates sides.B message w = omega arith
 
 -- A message that is taken after the losses was counted.
-pub taken_waits : (judged : Option Side) (c : Certificate) (side : Side) (r : Replay) (head : OnItsWay) (more : List OnItsWay)
-    → is_heard judged side ≡ true → channel_from side (lost_from_front c side r).world ≡ head ∷ more
+pub taken_waits : (judged : Option Side) (c : Certificate) (side : Side) (r : Replay) (head : MessageInTransit) (more : List MessageInTransit)
+    → is_received_from judged side ≡ true → channel_from side (lost_from_front c side r).world ≡ head ∷ more
     → count_for judged c.fates (with_channel side more (lost_from_front c side r).world) + 1
     ≡ count_for judged c.fates r.world
 taken_waits None c sides.A r head more so is = omega (arith, head_waits c.fates r.world.from_a head more is)
@@ -130,7 +130,7 @@ is_behind gaps replies Lost = false
 -- item.
 abbrev pub count_behind : Option Side → ℕ → ℕ → List Fate → List Item → ℕ
 count_behind judged gaps replies (fate ∷ fates) (Sent side message ∷ items) =
-    cond (is_heard judged side && is_behind gaps replies fate) (count_behind judged gaps replies fates items + 1)
+    cond (is_received_from judged side && is_behind gaps replies fate) (count_behind judged gaps replies fates items + 1)
     (count_behind judged gaps replies fates items)
 count_behind judged gaps replies (fate ∷ fates) (Item.Quiet ∷ items) = count_behind judged gaps replies fates items
 count_behind judged gaps replies _ _ = 0
@@ -149,11 +149,11 @@ ahead_is judged count [] items = refl
 ahead_is judged count (fate ∷ fates) [] = refl
 ahead_is judged count (fate ∷ fates) (Item.Quiet ∷ items) = ahead_is judged count fates items
 ahead_is judged count (Gap g ∷ fates) (Sent side message ∷ items) =
-    ap (λ (n : ℕ). cond (is_heard judged side && nat_le count g) (n + 1) n) (ahead_is judged count fates items)
+    ap (λ (n : ℕ). cond (is_received_from judged side && nat_le count g) (n + 1) n) (ahead_is judged count fates items)
 ahead_is judged count (By k ∷ fates) (Sent side message ∷ items) =
-    ap (λ (n : ℕ). cond (is_heard judged side && nat_le count k) (n + 1) n) (ahead_is judged count fates items)
+    ap (λ (n : ℕ). cond (is_received_from judged side && nat_le count k) (n + 1) n) (ahead_is judged count fates items)
 ahead_is judged count (Lost ∷ fates) (Sent side message ∷ items) =
-    ap (λ (n : ℕ). cond (is_heard judged side && false) (n + 1) n) (ahead_is judged count fates items)
+    ap (λ (n : ℕ). cond (is_received_from judged side && false) (n + 1) n) (ahead_is judged count fates items)
 
 -- A number other than the next is after it, or before both.
 pub not_next : (count n : ℕ) → (n ≡ count → ⊥) → nat_le count n ≡ nat_le (count + 1) n
@@ -198,7 +198,7 @@ none_among (Some judged) items = refl
 one_among : (judged : Option Side) (items : List Item) (n : ℕ) (sender : Side) (message : Message) (more : List ℕ)
     → slice_get items n ≡ Some (Sent sender message)
     → heard_among judged items (n ∷ more)
-    ≡ cond (is_heard judged sender) (n ∷ heard_among judged items more) (heard_among judged items more)
+    ≡ cond (is_received_from judged sender) (n ∷ heard_among judged items more) (heard_among judged items more)
 one_among None items n sender message more at = refl
 one_among (Some judged) items n sender message more at = rw at refl
 
@@ -226,13 +226,13 @@ replies_behind judged all count gaps reply n (fate ∷ fates) [] fit marks from 
     let none = ap (λ (x : List ℕ). length (heard_among judged all x)) (none_taken count reply n (fate ∷ fates) fit (omega (arith, h))) in
     omega (arith, none, none_among judged all)
 replies_behind judged all count gaps reply n (Gap g ∷ fates) (Sent sender message ∷ items) fit marks from h =
-    still_behind (is_heard judged sender && nat_le gaps g) _ _ _
+    still_behind (is_received_from judged sender && nat_le gaps g) _ _ _
     (replies_behind judged all count gaps reply (n + 1) fates items fit.2 marks (items_next all n _ items from) (omega (arith, h)))
 replies_behind judged all count gaps reply n (Lost ∷ fates) (Sent sender message ∷ items) fit marks from h =
-    still_behind (is_heard judged sender && false) _ _ _
+    still_behind (is_received_from judged sender && false) _ _ _
     (replies_behind judged all count gaps reply (n + 1) fates items fit marks (items_next all n _ items from) (omega (arith, h)))
 replies_behind judged all count gaps reply n (By k ∷ fates) (Sent sender message ∷ items) fit marks from h =
-    by (k == reply) refl (is_heard judged sender) refl
+    by (k == reply) refl (is_received_from judged sender) refl
     (replies_behind judged all count gaps reply (n + 1) fates items fit.2 marks (items_next all n _ items from) (omega (arith, h)))
   where
     old : ℕ
@@ -248,12 +248,12 @@ replies_behind judged all count gaps reply n (By k ∷ fates) (Sent sender messa
     took = length (heard_among judged all more)
 
     joins : length (heard_among judged all (n ∷ more))
-        ≡ length (cond (is_heard judged sender) (n ∷ heard_among judged all more) (heard_among judged all more))
+        ≡ length (cond (is_received_from judged sender) (n ∷ heard_among judged all more) (heard_among judged all more))
     joins = ap length (one_among judged all n sender message more (items_first all n _ items from))
 
-    by : (b : Bool) → (k == reply) ≡ b → (so : Bool) → is_heard judged sender ≡ so → old ≡ new + took
-        → cond (is_heard judged sender && nat_le reply k) (old + 1) old
-        ≡ cond (is_heard judged sender && nat_le (reply + 1) k) (new + 1) new + length (heard_among judged all (cond b (n ∷ more) more))
+    by : (b : Bool) → (k == reply) ≡ b → (so : Bool) → is_received_from judged sender ≡ so → old ≡ new + took
+        → cond (is_received_from judged sender && nat_le reply k) (old + 1) old
+        ≡ cond (is_received_from judged sender && nat_le (reply + 1) k) (new + 1) new + length (heard_among judged all (cond b (n ∷ more) more))
     by true e true is rest = let at = is_next reply k e in rw (joins, is, at.0, at.1) (omega (arith, rest))
     by true e false is rest = rw (joins, is) rest
     by false e true is rest = rw (is, not_next reply k (eqb-false k reply e)) (still_behind (nat_le (reply + 1) k) old new took rest)
@@ -268,11 +268,11 @@ replies_behind judged all count gaps reply n (By k ∷ fates) (Item.Quiet ∷ it
 pub one_behind : (judged : Option Side) (gaps replies : ℕ) (fates : List Fate) (items : List Item) (side : Side) (message : Message)
     (fate : Fate) → slice_get fates (length items) ≡ Some fate
     → count_behind judged gaps replies fates (items ++ Sent side message ∷ [])
-    ≡ count_behind judged gaps replies fates items + cond (is_heard judged side && is_behind gaps replies fate) 1 0
+    ≡ count_behind judged gaps replies fates items + cond (is_received_from judged side && is_behind gaps replies fate) 1 0
 one_behind judged gaps replies [] items side message fate has = cc
 one_behind judged gaps replies (first ∷ fates) [] side message fate has =
     let same : first ≡ fate = cc in
-    rw (same, no_items judged gaps replies fates) (by (is_heard judged side && is_behind gaps replies fate))
+    rw (same, no_items judged gaps replies fates) (by (is_received_from judged side && is_behind gaps replies fate))
   where
     by : (b : Bool) → (let m : ℕ = cond b (0 + 1) 0 in m) ≡ 0 + cond b 1 0
     by true = refl
@@ -280,7 +280,7 @@ one_behind judged gaps replies (first ∷ fates) [] side message fate has =
 one_behind judged gaps replies (first ∷ fates) (Item.Quiet ∷ items) side message fate has =
     one_behind judged gaps replies fates items side message fate has
 one_behind judged gaps replies (first ∷ fates) (Sent sender m ∷ items) side message fate has =
-    still_behind (is_heard judged sender && is_behind gaps replies first) _ _ _
+    still_behind (is_received_from judged sender && is_behind gaps replies first) _ _ _
     (one_behind judged gaps replies fates items side message fate has)
 
 -- The fate of a new message is counted, unless it is a loss.
@@ -299,7 +299,7 @@ mark_behind judged gaps replies (first ∷ []) [] = refl
 mark_behind judged gaps replies (first ∷ second ∷ fates) [] = refl
 mark_behind judged gaps replies (first ∷ fates) (Item.Quiet ∷ items) = mark_behind judged gaps replies fates items
 mark_behind judged gaps replies (first ∷ fates) (Sent side message ∷ items) =
-    ap (λ (n : ℕ). cond (is_heard judged side && is_behind gaps replies first) (n + 1) n) (mark_behind judged gaps replies fates items)
+    ap (λ (n : ℕ). cond (is_received_from judged side && is_behind gaps replies first) (n + 1) n) (mark_behind judged gaps replies fates items)
 
 -- `AreMarks` holds after one more message.
 pub marks_sent : (fates : List Fate) (items : List Item) (side : Side) (message : Message) → AreMarks fates items

@@ -9,7 +9,7 @@ use Rattle.tcap_end.specs.Message.{receive}
 use Rattle.tcap_end.specs.Table.{Table}
 use Rattle.tcap_end.specs.Step.{needs, ◌>>◌, ◌>>=◌}
 use Rattle.tcap_record.specs.Ends.{other}
-use Rattle.tcap_model.specs.World.{Item, OnItsWay, Sent, channel_from, end_at, with_channel, with_end}
+use Rattle.tcap_model.specs.World.{Item, MessageInTransit, Sent, channel_from, end_at, with_channel, with_end}
 use Rattle.tcap_model.specs.Run.{Receives}
 use Rattle.tcap_certificate.specs.declared.certificate.Fate.{Fate}
 use Rattle.tcap_certificate.specs.declared.certificate.Fate.TheVariants.{Gap, Lost, By}
@@ -21,27 +21,27 @@ use Rattle.tcap_check.specs.declared.progress.Waiting.{Waiting}
 use Rattle.tcap_certificate.specs.Certificate.{Certificate}
 use Rattle.tcap_certificate.specs.Replay.{Replay, deliveries_by, delivery_by, fault_at, is_due, lost_from_front, lost_front, next_entry, received, refused, with_step, due_in}
 use Rattle.tcap_check.specs.EntryOutlines.{outlines_from}
-use Rattle.tcap_check.specs.Progress.{discard_told, lost_counted, map_ok, moved, seat_at, with_seat_end, with_waiting}
-use Rattle.tcap_check.specs.ReplaySteps.{deliveries_kept, delivery_kept, first_received, is_heard, received_or_not}
+use Rattle.tcap_check.specs.Progress.{discard_listed, lost_counted, map_ok, moved, seat_at, with_seat_end, with_waiting}
+use Rattle.tcap_check.specs.ReplaySteps.{deliveries_kept, delivery_kept, first_received, is_received_from, received_or_not}
 use Rattle.tcap_check.specs.CheckerMeaning.{fate_of, kept_by, progress_of, waiting_at}
 use Rattle.tcap_check.proofs.replay_laws.ReplaySteps.{head_stays, same_end, channel_with}
 use Rattle.tcap_check.proofs.progress_laws.KeptBasics.{channel_put, end_kept, end_step_is, front_is, discard_step_is, discarding, not_alone, then_is, waiting_kept}
 
 -- ---- one message
 
-kept_whole : (o : Option Fate) (m : OnItsWay) → (o ≡ Some Lost → ⊥) → kept_by o m ≡ record { number = m.number; message = Some m.message }
+kept_whole : (o : Option Fate) (m : MessageInTransit) → (o ≡ Some Lost → ⊥) → kept_by o m ≡ record { number = m.number; message = Some m.message }
 kept_whole None m stays = refl
 kept_whole (Some (Gap g)) m stays = refl
 kept_whole (Some (By k)) m stays = refl
 kept_whole (Some Lost) m stays = absurd (stays refl)
 
 -- the head of a channel to a judged end after the losses at its front, and the messages after the head
-pub record HasFront (c : Certificate) (sender : Side) (head : OnItsWay) (left : List OnItsWay) (r : Replay) : Type 0 where
+pub record HasFront (c : Certificate) (sender : Side) (head : MessageInTransit) (left : List MessageInTransit) (r : Replay) : Type 0 where
   pub channel : channel_from sender (lost_from_front c sender r).world ≡ head ∷ left
 
 -- The head is kept whole.
-pub front_waits : (listing : Bool) (judged : Option Side) (c : Certificate) (sender : Side) (head : OnItsWay) (left : List OnItsWay) (r : Replay)
-    → is_heard judged sender ≡ true → HasFront c sender head left r
+pub front_waits : (listing : Bool) (judged : Option Side) (c : Certificate) (sender : Side) (head : MessageInTransit) (left : List MessageInTransit) (r : Replay)
+    → is_received_from judged sender ≡ true → HasFront c sender head left r
     → (seat_at sender (progress_of listing judged c (lost_from_front c sender r))).waiting
     ≡ (record { number = head.number; message = Some head.message }) ∷ waiting_at judged sender c.fates left
 front_waits listing judged c sender head left r heard front =
@@ -55,7 +55,7 @@ front_waits listing judged c sender head left r heard front =
     ∙ ap (λ (w : Waiting). w ∷ waiting_at judged sender c.fates left) whole
 
 -- the replay without the head
-abbrev pub without_head : Side → Certificate → List OnItsWay → Replay → Replay
+abbrev pub without_head : Side → Certificate → List MessageInTransit → Replay → Replay
 without_head sender c left r = record {
   events = (lost_from_front c sender r).events;
   discards = (lost_from_front c sender r).discards;
@@ -71,7 +71,7 @@ end_behind listing judged c sender r =
 abbrev kept : Progress → Result Progress CheckFault
 kept p = Ok p
 
-module _ (listing : Bool) (judged : Option Side) (c : Certificate) (sender : Side) (number : ℕ) (head : OnItsWay) (left : List OnItsWay) (r : Replay) where
+module _ (listing : Bool) (judged : Option Side) (c : Certificate) (sender : Side) (number : ℕ) (head : MessageInTransit) (left : List MessageInTransit) (r : Replay) where
   abbrev behind : Replay
   behind = without_head sender c left r
 
@@ -86,16 +86,16 @@ module _ (listing : Bool) (judged : Option Side) (c : Certificate) (sender : Sid
       ∙ sym (end_step_is listing judged c (Receives (other sender) number) (other sender) e behind (λ at. refl)))
 
   -- The end discards the message, if it is judged alone.
-  dropped_is : (reason : EndFault) → kept (lost_counted judged sender (discard_told sender number reason kept_behind))
+  dropped_is : (reason : EndFault) → kept (lost_counted judged sender (discard_listed sender number reason kept_behind))
       ≡ Ok (progress_of listing judged c (discarding sender number reason behind))
   dropped_is reason =
-      ap kept (ap (λ (p : Progress). lost_counted judged sender (discard_told sender number reason p))
+      ap kept (ap (λ (p : Progress). lost_counted judged sender (discard_listed sender number reason p))
       (sym (channel_put listing judged c sender left (lost_from_front c sender r)))
       ∙ sym (discard_step_is listing judged c sender number reason behind))
 
 -- The head has this number, or it does not.
-head_is : (listing : Bool) (judged : Option Side) (table : Table) (c : Certificate) (sender : Side) (number : ℕ) (head : OnItsWay) (left : List OnItsWay) (r : Replay)
-    (front : HasFront c sender head left r) (so : Bool) (o : Result End EndFault) → is_heard judged sender ≡ true
+head_is : (listing : Bool) (judged : Option Side) (table : Table) (c : Certificate) (sender : Side) (number : ℕ) (head : MessageInTransit) (left : List MessageInTransit) (r : Replay)
+    (front : HasFront c sender head left r) (so : Bool) (o : Result End EndFault) → is_received_from judged sender ≡ true
     → (head.number == number) ≡ so → receive table (end_at (other sender) r.world) head.message ≡ o
     → (needs so (fault_at BadReply number) >> received_or_not judged (other sender) number (kept_behind listing judged c sender number head left r) o)
     ≡ map_ok (progress_of listing judged c) (received judged table c sender number r)
@@ -120,7 +120,7 @@ head_is listing (Some sides.A) table c sides.B number head left r front true (Er
 head_is listing (Some sides.B) table c sides.A number head left r front true (Err reason) heard is step =
     rw (front.channel, is, step) (dropped_is listing (Some sides.B) c sides.A number head left r reason)
 
-nothing_is : (listing : Bool) (judged : Option Side) (table : Table) (c : Certificate) (sender : Side) (number : ℕ) (r : Replay) → is_heard judged sender ≡ true
+nothing_is : (listing : Bool) (judged : Option Side) (table : Table) (c : Certificate) (sender : Side) (number : ℕ) (r : Replay) → is_received_from judged sender ≡ true
     → channel_from sender (lost_from_front c sender r).world ≡ []
     → (let x : Result Progress CheckFault = refused BadReply number in x)
     ≡ map_ok (progress_of listing judged c) (received judged table c sender number r)
@@ -136,7 +136,7 @@ needs_then : (so : Bool) (fault : CheckFault) (o : Result End EndFault) (step : 
 needs_then true fault o step = refl
 needs_then false fault o step = refl
 
-pub delivered_is : (listing : Bool) (judged : Option Side) (table : Table) (c : Certificate) (sender : Side) (number : ℕ) (r : Replay) → is_heard judged sender ≡ true
+pub delivered_is : (listing : Bool) (judged : Option Side) (table : Table) (c : Certificate) (sender : Side) (number : ℕ) (r : Replay) → is_received_from judged sender ≡ true
     → delivery_kept judged table number (Some sender) (progress_of listing judged c r)
     ≡ map_ok (progress_of listing judged c) (received judged table c sender number r)
 delivered_is listing judged table c sender number r heard =
@@ -146,7 +146,7 @@ delivered_is listing judged table c sender number r heard =
     before : Replay
     before = lost_from_front c sender r
 
-    by : (messages : List OnItsWay) → channel_from sender before.world ≡ messages
+    by : (messages : List MessageInTransit) → channel_from sender before.world ≡ messages
         → first_received judged table sender number (seat_at sender (progress_of listing judged c before)).waiting (progress_of listing judged c before)
         ≡ map_ok (progress_of listing judged c) (received judged table c sender number r)
     by [] is =
@@ -204,7 +204,7 @@ none_due judged table entries gap n (Gap g ∷ fates) p stands =
     by rest false = rest
 
 -- A message is due if its fate is this gap and it is for a judged end.
-pub due_is : (judged : Option Side) (gap g : ℕ) (sender : Side) → is_due judged gap g sender ≡ ((g == gap) && is_heard judged sender)
+pub due_is : (judged : Option Side) (gap g : ℕ) (sender : Side) → is_due judged gap g sender ≡ ((g == gap) && is_received_from judged sender)
 due_is None gap g sender = by (g == gap)
   where
     by : (b : Bool) → b ≡ (b && true)
@@ -237,7 +237,7 @@ deliveries_from listing judged table c entries gap n (Gap g ∷ fates) (Item.Qui
     by rest false = rest
 deliveries_from listing judged table c entries gap n (Gap g ∷ fates) (Sent sender message ∷ items) r stands =
     by (λ next. deliveries_from listing judged table c entries gap (n + 1) fates items next (stands_next entries n _ _ stands)) (g == gap) refl
-    (is_heard judged sender) refl
+    (is_received_from judged sender) refl
   where
     due : List ℕ
     due = due_in gap (n + 1) fates
@@ -246,7 +246,7 @@ deliveries_from listing judged table c entries gap n (Gap g ∷ fates) (Sent sen
     more = deliveries_by judged table c gap (n + 1) fates items
 
     by : ((next : Replay) → deliveries_kept judged table entries due (progress_of listing judged c next) ≡ map_ok (progress_of listing judged c) (more next))
-        → (b : Bool) → (g == gap) ≡ b → (so : Bool) → is_heard judged sender ≡ so
+        → (b : Bool) → (g == gap) ≡ b → (so : Bool) → is_received_from judged sender ≡ so
         → deliveries_kept judged table entries (cond b (n ∷ due) due) (progress_of listing judged c r)
         ≡ map_ok (progress_of listing judged c) (delivery_by judged table c gap n (Gap g) (Sent sender message) r >>= more)
     by rest false is so told = rw (due_is judged gap g sender, is) (rest r)

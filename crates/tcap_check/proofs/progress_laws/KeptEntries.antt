@@ -17,10 +17,10 @@ use Rattle.tcap_model.specs.World.{Item, Sent, World, channel_from, end_at, is_s
 use Rattle.tcap_model.specs.Run.{Tells, joined, Loses, Quiet, Receives, after, numbers_of}
 use Rattle.tcap_certificate.specs.Certificate.{Certificate}
 use Rattle.tcap_certificate.specs.DescribedRun.{taken_by, sending_by}
-use Rattle.tcap_certificate.specs.Replay.{Replay, behind_sending, fault_at, gap_by, is_gap, is_nothing, is_overtaking, is_sent_by, item_by, mark_judged, next_entry, own_message, tied, told_replayed, with_step, all_lost_from, certificate_fits, closed_at_mark, deliveries_by, delivery_by, discarded, entry_by, heard, lost_from_front, message_by, nothing_replayed, own_judged, stepped}
+use Rattle.tcap_certificate.specs.Replay.{Replay, after_sending, fault_at, gap_by, is_gap, is_nothing, is_overtaking, is_sent_by, item_by, mark_judged, next_entry, own_message, tied, peer_replayed, with_step, all_lost_from, certificate_fits, closed_at_mark, deliveries_by, delivery_by, discarded, entry_by, delivered, lost_from_front, message_by, nothing_replayed, own_judged, stepped}
 use Rattle.tcap_check.specs.EntryOutlines.{is_named, outline_of, outlines_from, since_from}
 use Rattle.tcap_check.specs.Progress.{overtakes, seat_at}
-use Rattle.tcap_check.specs.ReplaySteps.{is_heard, is_told, mark_taken, own_taken, told_among, told_taken}
+use Rattle.tcap_check.specs.ReplaySteps.{is_received_from, is_sent_by_end, mark_taken, own_taken, sent_among, peer_message_taken}
 use Rattle.tcap_check.specs.CheckerMeaning.{gap_before, item_kept, kept_of, map_ok, progress_of, tied_now, taken, taken_from, taken_next}
 use Rattle.tcap_check.proofs.one_end_laws.AloneReplays.{gap_leads, item_leads, drop_all}
 use Rattle.tcap_check.proofs.replay_laws.ReplayLaws.{gap_replays}
@@ -83,11 +83,11 @@ item_sends (Some judged) table c fate item r next has is = (item_leads judged ta
 
 -- The outline of an entry shows who sent it.
 told_is_sent : (c : Certificate) (side : Side) (items : List Item) (n : ℕ)
-    → is_told side (slice_get (outlines_from c 0 items) n) ≡ is_sent_by side (slice_get items n)
+    → is_sent_by_end side (slice_get (outlines_from c 0 items) n) ≡ is_sent_by side (slice_get items n)
 told_is_sent c side items n =
-    ap (is_told side) (outline_at c 0 n n items (omega arith)) ∙ by (slice_get items n)
+    ap (is_sent_by_end side) (outline_at c 0 n n items (omega arith)) ∙ by (slice_get items n)
   where
-    by : (o : Option Item) → is_told side (option_map (outline_of (is_named c n)) o) ≡ is_sent_by side o
+    by : (o : Option Item) → is_sent_by_end side (option_map (outline_of (is_named c n)) o) ≡ is_sent_by side o
     by None = refl
     by (Some (Sent sender message)) = refl
     by (Some Item.Quiet) = refl
@@ -99,8 +99,8 @@ same_filter p q (x ∷ xs) same = ap₂ (λ (b : Bool) (more : List _). cond b (
 pub tied_is : (listing : Bool) (judged : Option Side) (c : Certificate) (r : Replay) → tied_now judged c (kept_of listing judged c r) ≡ tied judged c r
 tied_is listing None c r = ap (λ (k : ℕ). taken_by k 0 c.fates) (outlines_count c 0 r.world.sent)
 tied_is listing (Some judged) c r =
-    ap (λ (k : ℕ). told_among (other judged) (outlines_from c 0 r.world.sent) (taken_by k 0 c.fates)) (outlines_count c 0 r.world.sent)
-    ∙ same_filter (λ n. is_told (other judged) (slice_get (outlines_from c 0 r.world.sent) n))
+    ap (λ (k : ℕ). sent_among (other judged) (outlines_from c 0 r.world.sent) (taken_by k 0 c.fates)) (outlines_count c 0 r.world.sent)
+    ∙ same_filter (λ n. is_sent_by_end (other judged) (slice_get (outlines_from c 0 r.world.sent) n))
     (λ n. is_sent_by (other judged) (slice_get r.world.sent n)) (taken_by (next_entry r) 0 c.fates)
     (told_is_sent c (other judged) r.world.sent)
 
@@ -139,13 +139,13 @@ module _ (listing : Bool) (judged : Option Side) (table : Table) (c : Certificat
       ∙ then_is (progress_of listing judged c) (gap_by judged table c r) (on n takes) more same
 
   -- A message of a judged end.
-  own_entry : (fate : Fate) (side : Side) (message : Message) → is_heard judged (other side) ≡ true → slice_get c.fates n ≡ Some fate
+  own_entry : (fate : Fate) (side : Side) (message : Message) → is_received_from judged (other side) ≡ true → slice_get c.fates n ≡ Some fate
       → (gap >>= own_taken judged table side fate count message kept_now)
       ≡ map_ok (progress_of listing judged c)
-      (gap_by judged table c r >>= λ behind. behind_sending judged (own_message judged table c side message behind))
+      (gap_by judged table c r >>= λ behind. after_sending judged (own_message judged table c side message behind))
   own_entry fate side message so has =
       behind_gap (λ k numbers. own_taken judged table side fate k message numbers)
-      (λ behind. behind_sending judged (own_message judged table c side message behind))
+      (λ behind. after_sending judged (own_message judged table c side message behind))
       (λ next is. let sent = gap_sends judged table c r next is in
       let same : next_entry next ≡ n = ap (length {A = Item}) sent in
       ap₂ (λ (k : ℕ) (numbers : List ℕ). own_taken judged table side fate k message numbers (progress_of listing judged c next))
@@ -173,7 +173,7 @@ module _ (listing : Bool) (judged : Option Side) (table : Table) (c : Certificat
 
   -- The order check of messages to a judged end.
   in_order : (fate : Fate) (side : Side) (step : Progress → Result Progress CheckFault) (on : Result Replay CheckFault)
-      → is_heard judged side ≡ true → (gap >>= step) ≡ map_ok (progress_of listing judged c) on
+      → is_received_from judged side ≡ true → (gap >>= step) ≡ map_ok (progress_of listing judged c) on
       → (needs (not (overtakes fate (seat_at side (progress_of listing judged c r)))) (fault_at OutOfOrder count) >> gap >>= step)
       ≡ map_ok (progress_of listing judged c) (needs (not (is_overtaking side fate c.fates r.world.sent)) (fault_at OutOfOrder n) >> on)
   in_order fate side step on so same =
@@ -187,16 +187,16 @@ module _ (listing : Bool) (judged : Option Side) (table : Table) (c : Certificat
 
 -- A message from the peer of an end that is judged alone.
 told_entry : (listing : Bool) (table : Table) (c : Certificate) (side : Side) (r : Replay) (fate : Fate) (message : Message)
-    → is_heard (Some side) (other side) ≡ true → slice_get c.fates (next_entry r) ≡ Some fate
+    → is_received_from (Some side) (other side) ≡ true → slice_get c.fates (next_entry r) ≡ Some fate
     → (needs (not (overtakes fate (seat_at (other side) (progress_of listing (Some side) c r)))) (fault_at OutOfOrder (count listing (Some side) table c r))
     >> gap listing (Some side) table c r
-    >>= told_taken (other side) fate (count listing (Some side) table c r) message (kept_now listing (Some side) table c r))
-    ≡ map_ok (progress_of listing (Some side) c) (told_replayed table c fate side message r)
+    >>= peer_message_taken (other side) fate (count listing (Some side) table c r) message (kept_now listing (Some side) table c r))
+    ≡ map_ok (progress_of listing (Some side) c) (peer_replayed table c fate side message r)
 told_entry listing table c side r fate message so has =
     in_order listing (Some side) table c r fate (other side) _ (gap_by (Some side) table c r >>= made) so
-    (behind_gap listing (Some side) table c r (λ k numbers. told_taken (other side) fate k message numbers) made
+    (behind_gap listing (Some side) table c r (λ k numbers. peer_message_taken (other side) fate k message numbers) made
     (λ next is. let same : next_entry next ≡ next_entry r = ap (length {A = Item}) (gap_sends (Some side) table c r next is) in
-    subst (λ (k : ℕ). told_taken (other side) fate k message (tied (Some side) c r) (progress_of listing (Some side) c next)
+    subst (λ (k : ℕ). peer_message_taken (other side) fate k message (tied (Some side) c r) (progress_of listing (Some side) c next)
     ≡ map_ok (progress_of listing (Some side) c) (needs (is_nothing (tied (Some side) c r)) (fault_at BadReply k)
     >> Ok (with_step (Tells (other side) message) next (joined (other side) message next.world)))) same
     (told_is listing c fate side message (tied (Some side) c r) next (ap (slice_get c.fates) same ∙ has))))
@@ -235,7 +235,7 @@ own_told sides.B message w = refl
 -- ---- a gap
 
 -- A message of the peer that the end receives or discards does not change the channel from the end.
-heard_keeps : (side : Side) (table : Table) (c : Certificate) (n : ℕ) (r next : Replay) → heard table c side n r ≡ Ok next
+heard_keeps : (side : Side) (table : Table) (c : Certificate) (n : ℕ) (r next : Replay) → delivered table c side n r ≡ Ok next
     → channel_from side next.world ≡ channel_from side r.world
 heard_keeps side table c n r next is =
     by (stepped table (Receives side n) before) refl
@@ -269,7 +269,7 @@ delivery_keeps : (side : Side) (table : Table) (c : Certificate) (place n : ℕ)
     → delivery_by (Some side) table c place n fate item r ≡ Ok next → channel_from side next.world ≡ channel_from side r.world
 delivery_keeps side table c place n (Gap g) (Sent sender message) r next is = by ((g == place) && is_side (other side) sender) is
   where
-    by : (b : Bool) → cond b (heard table c side n r) (Ok r) ≡ Ok next → channel_from side next.world ≡ channel_from side r.world
+    by : (b : Bool) → cond b (delivered table c side n r) (Ok r) ≡ Ok next → channel_from side next.world ≡ channel_from side r.world
     by true e = heard_keeps side table c n r next e
     by false e = same_channel side r next (ok_same {F = CheckFault} r next e)
 delivery_keeps side table c place n (Gap g) Item.Quiet r next is = same_channel side r next (ok_same {F = CheckFault} r next is)
@@ -303,7 +303,7 @@ own_empty side table c message r next is =
     ∙ nothing_left side sent.0
 
 told_empty : (side : Side) (table : Table) (c : Certificate) (fate : Fate) (message : Message) (r next : Replay)
-    → told_replayed table c fate side message r ≡ Ok next → channel_from side r.world ≡ [] → channel_from side next.world ≡ []
+    → peer_replayed table c fate side message r ≡ Ok next → channel_from side r.world ≡ [] → channel_from side next.world ≡ []
 told_empty side table c fate message r next is empty =
     let so = needs_ok (not (is_overtaking (other side) fate c.fates r.world.sent)) (fault_at OutOfOrder (next_entry r)) _ next is in
     let gap = then_ok (gap_by (Some side) table c r) _ next so.1 in
@@ -329,7 +329,7 @@ item_empty : (side : Side) (table : Table) (c : Certificate) (fate : Fate) (item
 item_empty side table c fate Item.Quiet r next is empty = mark_empty side table c fate r next is
 item_empty side table c fate (Sent sender message) r next is empty = by (is_side side sender) is
   where
-    by : (b : Bool) → cond b (own_judged (Some side) table c Lost side message r) (told_replayed table c fate side message r) ≡ Ok next
+    by : (b : Bool) → cond b (own_judged (Some side) table c Lost side message r) (peer_replayed table c fate side message r) ≡ Ok next
         → channel_from side next.world ≡ []
     by true e = own_empty side table c message r next e
     by false e = told_empty side table c fate message r next e empty

@@ -20,8 +20,8 @@ use Rattle.tcap_end.specs.HiddenSteps.{close, expire}
 use Rattle.tcap_end.specs.Step.{◌>>=◌}
 use Rattle.tcap_end.specs.Table.{Table}
 use Rattle.tcap_model.specs.World.{Item, Sent, end_at, is_side, with_end, has_quiet}
-use Rattle.tcap_model.specs.Run.{Event, Closes, Expires, then_so, where_so}
-use Rattle.tcap_check.specs.NamedMessage.{Noted}
+use Rattle.tcap_model.specs.Run.{Event, Closes, Expires, option_then, only_if}
+use Rattle.tcap_check.specs.NamedMessage.{MessageNote}
 use Rattle.tcap_certificate.specs.declared.certificate.Closing.{Closing}
 use Rattle.tcap_certificate.specs.declared.certificate.Expiry.{Expiry}
 use Rattle.tcap_certificate.specs.Certificate.{Certificate}
@@ -30,15 +30,15 @@ use Rattle.tcap_model.specs.declared.reason.Reason.TheVariants.{FateRange, Hidde
 use Rattle.tcap_check.specs.declared.outline.Outline.TheVariants as outlines
 use Rattle.tcap_model.specs.SinceMark.{originating}
 use Rattle.tcap_certificate.specs.DescribedRun.{closing_by, closing_event, expiry_by, expiry_event, invoke_id, named_entry}
-use Rattle.tcap_certificate.specs.Replay.{Replay, fault_at, happens, with_step, is_judged, deliveries_by, gap_by, next_entry, due_in}
+use Rattle.tcap_certificate.specs.Replay.{Replay, fault_at, after_event, with_step, is_judged, deliveries_by, gap_by, next_entry, due_in}
 use Rattle.tcap_check.specs.EntryOutlines.{begins, half_closed, half_closed_by, invocation_ended, invocation_ended_by, is_named, outline_named, outline_of, outlines_from, since_from}
 use Rattle.tcap_check.specs.Progress.{end_moved, half_closes, invocation_ends, all_kept, listed_kept}
 use Rattle.tcap_check.specs.CheckerMeaning.{map_ok, progress_of}
 use Rattle.tcap_certificate.specs.LossCounts.{is_lost_from}
 use Rattle.tcap_check.proofs.progress_laws.KeptBasics.{end_kept, end_step_is, then_is}
 use Rattle.tcap_model.proofs.ListLaws.{all_weaker, all_both}
-use Rattle.tcap_check.specs.declared.listed_steps.Listed.{Listed}
-use Rattle.tcap_check.specs.declared.listed_steps.Listed.TheVariants as listings
+use Rattle.tcap_check.specs.declared.listed_steps.ListedStep.{ListedStep}
+use Rattle.tcap_check.specs.declared.listed_steps.ListedStep.TheVariants as listings
 use Rattle.tcap_check.specs.ListedSteps.{all_replayed, entry_of, event_listed, gap_of, listed_for, listed_in, listed_replayed, side_of, why_refused}
 use Rattle.tcap_check.proofs.replay_laws.ReplayLaws.{one_replays, listed_replay}
 use Rattle.tcap_check.specs.declared.outline.Outline.{Outline}
@@ -93,14 +93,14 @@ since_is at since n (suc i) (Sent side message ∷ items) is within =
 since_is at since n (suc i) (Item.Quiet ∷ items) is within =
     since_is at (n + 1) (n + 1) i items (omega (arith, is)) (omega arith)
 
-where_none : {A : Type 0} (b : Bool) → where_so b (let o : Option A = None in o) ≡ None
+where_none : {A : Type 0} (b : Bool) → only_if b (let o : Option A = None in o) ≡ None
 where_none true = refl
 where_none false = refl
 
-there_before : (items : List Item) (i : ℕ) → where_so (nat_lt i (length items)) (slice_get items i) ≡ slice_get items i
+there_before : (items : List Item) (i : ℕ) → only_if (nat_lt i (length items)) (slice_get items i) ≡ slice_get items i
 there_before items i = by (slice_get items i) refl
   where
-    by : (o : Option Item) → slice_get items i ≡ o → where_so (nat_lt i (length items)) o ≡ o
+    by : (o : Option Item) → slice_get items i ≡ o → only_if (nat_lt i (length items)) o ≡ o
     by None e = where_none (nat_lt i (length items))
     by (Some item) e = rw (lt-ltb i (length items) (slice_get_within items i item e)) refl
 
@@ -157,11 +157,11 @@ all_made P f [] all = tt
 all_made P f (x ∷ xs) all = (all.0, all_made P f xs all.1)
 
 -- The listed event is in this gap, and the certificate names its entry.
-abbrev pub IsNamed : Certificate → ℕ → Listed → Type 0
+abbrev pub IsNamed : Certificate → ℕ → ListedStep → Type 0
 IsNamed c count x = (gap_of x ≡ count) × (is_named c (entry_of x) ≡ true)
 
 -- This holds for each event that is listed for the gap.
-each_named : {X : Type 0} (c : Certificate) (count : ℕ) (of : X → Listed) (entry gap : X → ℕ) (xs : List X)
+each_named : {X : Type 0} (c : Certificate) (count : ℕ) (of : X → ListedStep) (entry gap : X → ℕ) (xs : List X)
     → ((x : X) → (gap x ≡ count) → list_any (λ y. entry y == entry x) xs ≡ true → IsNamed c count (of x))
     → AllByRecursion (IsNamed c count) (map of (filter (λ x. gap x == count) xs))
 each_named c count of entry gap xs named =
@@ -197,7 +197,7 @@ abbrev expires_by : Expiry → HalfName × ℤ → Event
 expires_by x invocation = Expires x.side invocation.0 invocation.1
 
 -- the note of a message with this originating ID
-abbrev noted : Message → List ℕ → Noted
+abbrev noted : Message → List ℕ → MessageNote
 noted message otid = record { begins = begins message; otid = otid; invokes = map invoke_id (components_in message) }
 
 -- An expiry is of the invocation that the outline of its entry gives.
@@ -205,44 +205,44 @@ expiry_by_is : (x : Expiry) (item : Item)
     → expiry_by x item ≡ option_map (expires_by x) (invocation_ended_by x (outline_of true item))
 expiry_by_is x (Sent sender message) = by (originating message)
   where
-    id_is : (o : Option Component) → then_so o invoke_id ≡ then_so (option_map invoke_id o) (λ id. id)
+    id_is : (o : Option Component) → option_then o invoke_id ≡ option_then (option_map invoke_id o) (λ id. id)
     id_is None = refl
     id_is (Some component) = refl
 
     inner : (otid : List ℕ) (b : Bool) (o : Option ℤ)
-        → where_so b (then_so o (λ id. Some (Expires x.side (names.Own otid) id)))
-        ≡ option_map (expires_by x) (where_so b (then_so o (λ id. Some (names.Own otid, id))))
+        → only_if b (option_then o (λ id. Some (Expires x.side (names.Own otid) id)))
+        ≡ option_map (expires_by x) (only_if b (option_then o (λ id. Some (names.Own otid, id))))
     inner otid true None = refl
     inner otid true (Some id) = refl
     inner otid false o = refl
 
-    same : then_so (slice_get (components_in message) x.component) invoke_id
-        ≡ then_so (slice_get (map invoke_id (components_in message)) x.component) (λ id. id)
+    same : option_then (slice_get (components_in message) x.component) invoke_id
+        ≡ option_then (slice_get (map invoke_id (components_in message)) x.component) (λ id. id)
     same = id_is (slice_get (components_in message) x.component)
-        ∙ ap (λ o. then_so o (λ id. id)) (sym (slice_get-map invoke_id (components_in message) x.component))
+        ∙ ap (λ o. option_then o (λ id. id)) (sym (slice_get-map invoke_id (components_in message) x.component))
 
     by : (o : Option (List ℕ))
-        → where_so (is_side x.side sender) (then_so o
-        (λ otid. then_so (then_so (slice_get (components_in message) x.component) invoke_id)
+        → only_if (is_side x.side sender) (option_then o
+        (λ otid. option_then (option_then (slice_get (components_in message) x.component) invoke_id)
         (λ id. Some (Expires x.side (names.Own otid) id))))
         ≡ option_map (expires_by x) (invocation_ended_by x (outlines.Sent sender
         (option_map (noted message) o)))
     by None = where_none (is_side x.side sender)
     by (Some otid) =
-        ap (λ o. where_so (is_side x.side sender) (then_so o (λ id. Some (Expires x.side (names.Own otid) id)))) same
-        ∙ inner otid (is_side x.side sender) (then_so (slice_get (map invoke_id (components_in message)) x.component)
+        ap (λ o. only_if (is_side x.side sender) (option_then o (λ id. Some (Expires x.side (names.Own otid) id)))) same
+        ∙ inner otid (is_side x.side sender) (option_then (slice_get (map invoke_id (components_in message)) x.component)
         (λ id. id))
 expiry_by_is x Item.Quiet = refl
 
 -- A listed event names the same in both.
 same_named : {N : Type 0} (c : Certificate) (items : List Item) (gap entry : ℕ) (event : N → Event) (by : Item → Option Event) (kept_by : Outline → Option N)
     → (gap ≡ length items) × (is_named c entry ≡ true) → ((item : Item) → by item ≡ option_map event (kept_by (outline_of true item)))
-    → then_so (named_entry items gap entry) by
-    ≡ option_map event (then_so (outline_named (outlines_from c 0 items) (since_from 0 0 items) entry) kept_by)
+    → option_then (named_entry items gap entry) by
+    ≡ option_map event (option_then (outline_named (outlines_from c 0 items) (since_from 0 0 items) entry) kept_by)
 same_named c items gap entry event by kept_by is same = of (named_entry items gap entry)
-    ∙ ap (λ o. option_map event (then_so o kept_by)) (sym (named_is c items gap entry is.0 is.1))
+    ∙ ap (λ o. option_map event (option_then o kept_by)) (sym (named_is c items gap entry is.0 is.1))
   where
-    of : (o : Option Item) → then_so o by ≡ option_map event (then_so (option_map (outline_of true) o) kept_by)
+    of : (o : Option Item) → option_then o by ≡ option_map event (option_then (option_map (outline_of true) o) kept_by)
     of None = refl
     of (Some item) = same item
 
@@ -259,7 +259,7 @@ end_is listing judged c side event fault r (Err reason) none = refl
 
 pub half_closes_is : (listing : Bool) (judged : Option Side) (table : Table) (c : Certificate) (x : Closing) (name : HalfName) (r : Replay)
     → half_closes table x name (progress_of listing judged c r)
-    ≡ map_ok (progress_of listing judged c) (happens table c (Closes x.side name) (HiddenRefused faults.CannotClose) x.entry r)
+    ≡ map_ok (progress_of listing judged c) (after_event table c (Closes x.side name) (HiddenRefused faults.CannotClose) x.entry r)
 half_closes_is listing judged table c x name r =
     let fault = fault_at (HiddenRefused faults.CannotClose) x.entry in
     ap (λ (e : End). end_moved x.side (Closes x.side name) fault (progress_of listing judged c r) (close table e name)) (end_kept listing judged c x.side r)
@@ -267,7 +267,7 @@ half_closes_is listing judged table c x name r =
 
 pub invocation_ends_is : (listing : Bool) (judged : Option Side) (table : Table) (c : Certificate) (x : Expiry) (invocation : HalfName × ℤ) (r : Replay)
     → invocation_ends table x invocation (progress_of listing judged c r)
-    ≡ map_ok (progress_of listing judged c) (happens table c (expires_by x invocation) (HiddenRefused faults.CannotExpire) x.entry r)
+    ≡ map_ok (progress_of listing judged c) (after_event table c (expires_by x invocation) (HiddenRefused faults.CannotExpire) x.entry r)
 invocation_ends_is listing judged table c x invocation r =
     let fault = fault_at (HiddenRefused faults.CannotExpire) x.entry in
     ap (λ (e : End). end_moved x.side (Expires x.side invocation.0 invocation.1) fault (progress_of listing judged c r)
@@ -276,14 +276,14 @@ invocation_ends_is listing judged table c x invocation r =
     ∙ end_is listing judged c x.side (expires_by x invocation) fault r (expire table (end_at x.side r.world) invocation.0 invocation.1) (λ at. refl)
 
 -- If a listed event names the same in both, it occurs in both.
-happens_same : {N : Type 0} (listing : Bool) (judged : Option Side) (table : Table) (c : Certificate) (x : Listed) (r : Replay)
+happens_same : {N : Type 0} (listing : Bool) (judged : Option Side) (table : Table) (c : Certificate) (x : ListedStep) (r : Replay)
     (event : N → Event) (kept : N → Result Progress CheckFault) (o : Option N) → event_listed r.world.sent x ≡ option_map event o
-    → ((name : N) → kept name ≡ map_ok (progress_of listing judged c) (happens table c (event name) (why_refused x) (entry_of x) r))
+    → ((name : N) → kept name ≡ map_ok (progress_of listing judged c) (after_event table c (event name) (why_refused x) (entry_of x) r))
     → (ok_or o (fault_at FateRange (entry_of x)) >>= kept) ≡ map_ok (progress_of listing judged c) (listed_replayed table c x r)
 happens_same listing judged table c x r event kept None is same = rw is refl
 happens_same listing judged table c x r event kept (Some name) is same = rw is (same name)
 
-pub one_is : (listing : Bool) (judged : Option Side) (table : Table) (c : Certificate) (items : List Item) (x : Listed) (r : Replay)
+pub one_is : (listing : Bool) (judged : Option Side) (table : Table) (c : Certificate) (items : List Item) (x : ListedStep) (r : Replay)
     → IsNamed c (length items) x → r.world.sent ≡ items
     → listed_kept table (outlines_from c 0 items) (since_from 0 0 items) x (progress_of listing judged c r)
     ≡ map_ok (progress_of listing judged c) (listed_replayed table c x r)
@@ -298,12 +298,12 @@ one_is listing judged table c items (listings.Expires x) r is sent =
     (ap (λ s. expiry_event s x) sent ∙ same_named c items x.gap x.entry (expires_by x) (expiry_by x) (invocation_ended_by x) is (expiry_by_is x))
     (λ name. invocation_ends_is listing judged table c x name r)
 
-pub one_sends : (table : Table) (c : Certificate) (x : Listed) (r next : Replay) → listed_replayed table c x r ≡ Ok next
+pub one_sends : (table : Table) (c : Certificate) (x : ListedStep) (r next : Replay) → listed_replayed table c x r ≡ Ok next
     → next.world.sent ≡ r.world.sent
 one_sends table c x r next is = (one_replays table c x r next is).2.sent ∙ append-nil r.world.sent
 
 -- All events that are listed for the gap after these items.
-pub listed_are : (listing : Bool) (judged : Option Side) (table : Table) (c : Certificate) (items : List Item) (listed : List Listed) (r : Replay)
+pub listed_are : (listing : Bool) (judged : Option Side) (table : Table) (c : Certificate) (items : List Item) (listed : List ListedStep) (r : Replay)
     → AllByRecursion (IsNamed c (length items)) listed → r.world.sent ≡ items
     → all_kept table (outlines_from c 0 items) (since_from 0 0 items) listed (progress_of listing judged c r)
     ≡ map_ok (progress_of listing judged c) (all_replayed table c listed r)
@@ -328,7 +328,7 @@ module _ (listing : Bool) (judged : Option Side) (table : Table) (c : Certificat
   abbrev p : Progress
   p = progress_of listing judged c r
 
-  abbrev listed : List Listed
+  abbrev listed : List ListedStep
   listed = listed_for judged c (next_entry r)
 
   abbrev delivered_kept : Progress → Result Progress CheckFault

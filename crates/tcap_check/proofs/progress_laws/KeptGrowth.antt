@@ -20,12 +20,12 @@ use Rattle.tcap_check.specs.declared.outline.Outline.{Outline}
 use Rattle.tcap_check.specs.declared.progress.Progress.{Progress}
 use Rattle.tcap_check.specs.declared.progress.Waiting.{Waiting}
 use Rattle.tcap_check.specs.EntryOutlines.{half_closed, invocation_ended}
-use Rattle.tcap_check.specs.Progress.{GrewBy, HasNoMore, YieldsInMemory, discard_told, end_moved, first_answered, front_lost, is_none_kept, losing_kept, lost_counted, lost_told, may_be_answered, moved, on_way, reply_kept, seat_at, sent_by, unless_lost, with_seat_end, with_told, with_waiting, all_kept, listed_kept, count_kept, first_lost}
+use Rattle.tcap_check.specs.Progress.{GrewBy, HasNoMore, YieldsInMemory, discard_listed, end_moved, first_answered, front_lost, is_none_kept, losing_kept, lost_counted, loss_listed, may_be_answered, moved, on_way, reply_kept, seat_at, sent_by, unless_lost, with_seat_end, with_steps, with_waiting, all_kept, listed_kept, count_kept, first_lost}
 use Rattle.tcap_model.specs.Run.{Event, Closes, Expires, Loses, Receives, Replies}
-use Rattle.tcap_check.specs.ReplaySteps.{first_heard, first_received, halves_shut, message_received, received_or_not}
+use Rattle.tcap_check.specs.ReplaySteps.{first_delivered, first_received, halves_shut, message_received, received_or_not}
 use Rattle.tcap_certificate.specs.Replay.{fault_at, is_judged}
-use Rattle.tcap_check.specs.declared.listed_steps.Listed.{Listed}
-use Rattle.tcap_check.specs.declared.listed_steps.Listed.TheVariants as listings
+use Rattle.tcap_check.specs.declared.listed_steps.ListedStep.{ListedStep}
+use Rattle.tcap_check.specs.declared.listed_steps.ListedStep.TheVariants as listings
 use Rattle.tcap_check.specs.ListedSteps.{listed_judged, side_of}
 
 -- ---- one step
@@ -47,7 +47,7 @@ named_moves : {N : Type 0} (side : Side) (event : N → Event) (answer : N → R
 named_moves side event answer none refused p next None is = cc
 named_moves side event answer none refused p next (Some name) is = end_moves side (event name) refused p next (answer name) is
 
-one_listed_grows : (table : Table) (entries : List Outline) (since : ℕ) (x : Listed) (p next : Progress)
+one_listed_grows : (table : Table) (entries : List Outline) (since : ℕ) (x : ListedStep) (p next : Progress)
     → listed_kept table entries since x p ≡ Ok next → IsMoved 1 p next
 one_listed_grows table entries since (listings.Closes x) p next is =
     named_moves x.side (Closes x.side) (close table (seat_at x.side p).end) _ _ p next (half_closed entries since x) is
@@ -78,7 +78,7 @@ lost_way (Some sides.B) sides.A p = (refl, omega arith, omega arith)
 lost_way (Some sides.B) sides.B p = (refl, omega arith, omega arith)
 
 pub lost_waits : (judged : Option Side) (side : Side) (number : ℕ) (more : List Waiting) (p : Progress)
-    → (seat_at side (lost_told judged side number (with_waiting side more p))).waiting ≡ more
+    → (seat_at side (loss_listed judged side number (with_waiting side more p))).waiting ≡ more
 lost_waits None sides.A number more p = refl
 lost_waits None sides.B number more p = refl
 lost_waits (Some sides.A) sides.A number more p = refl
@@ -88,11 +88,11 @@ lost_waits (Some sides.B) sides.B number more p = refl
 
 -- A message that is lost was on its way.
 pub one_lost_grows : (judged : Option Side) (side : Side) (first : Waiting) (more : List Waiting) (p : Progress)
-    → (seat_at side p).waiting ≡ first ∷ more → HasNoMore p (lost_told judged side first.number (with_waiting side more p))
+    → (seat_at side p).waiting ≡ first ∷ more → HasNoMore p (loss_listed judged side first.number (with_waiting side more p))
 one_lost_grows judged side first more p is =
     let way = taken_way side first more p is in
     let counts = taken_counts side more p in
-    let lost = lost_way judged side (with_told (Loses side first.number ∷ []) (with_waiting side more p)) in
+    let lost = lost_way judged side (with_steps (Loses side first.number ∷ []) (with_waiting side more p)) in
     let a = counts.0 in let b = counts.1 in let l0 = lost.0 in let l1 = lost.1 in let l2 = lost.2 in
     (omega (arith, way, a, l0, l1), omega (arith, way, b, l0, l2))
 
@@ -109,7 +109,7 @@ losing_grows judged side (first ∷ more) p is =
     (losing_grows judged side more next (lost_waits judged side first.number more p)))
   where
     next : Progress
-    next = lost_told judged side first.number (with_waiting side more p)
+    next = loss_listed judged side first.number (with_waiting side more p)
 
     by : (b : Bool) → HasNoMore p (losing_kept judged side more next) → HasNoMore p (cond b (losing_kept judged side more next) p)
     by true rest = rest
@@ -140,13 +140,13 @@ received_way judged side number p next (Ok e) is = subst Counts (ok_same {F = Ch
 received_way None side number p next (Err reason) is = cc
 received_way (Some judged) side number p next (Err reason) is =
     subst (λ (x : Progress). (on_way x ≡ on_way p) × (x.moves ≤ p.moves + 1) × (x.unheard ≤ p.unheard + 1))
-    (ok_same {F = CheckFault} _ next is) (lost_way (Some judged) (other side) (discard_told (other side) number reason p))
+    (ok_same {F = CheckFault} _ next is) (lost_way (Some judged) (other side) (discard_listed (other side) number reason p))
 
 first_grows : (judged : Option Side) (table : Table) (sender : Side) (number : ℕ) (messages : List Waiting) (p next : Progress)
     → (seat_at sender p).waiting ≡ messages → first_received judged table sender number messages p ≡ Ok next → HasNoMore p next
 first_grows judged table sender number [] p next at is = cc
 first_grows judged table sender number (first ∷ more) p next at is =
-    let heard = then_ok (first_heard table number (first ∷ more) (seat_at (other sender) p).end) _ next is in
+    let heard = then_ok (first_delivered table number (first ∷ more) (seat_at (other sender) p).end) _ next is in
     let way = taken_way sender first more p at in
     let counts = taken_counts sender more p in
     let kept = received_way judged (other sender) number (with_waiting sender more p) next heard.0 heard.2 in
@@ -207,7 +207,7 @@ reply_grows judged side fate number abort taken p next is =
 
 -- ---- a gap
 
-pub listed_grows : (table : Table) (entries : List Outline) (since : ℕ) (xs : List Listed) (p next : Progress)
+pub listed_grows : (table : Table) (entries : List Outline) (since : ℕ) (xs : List ListedStep) (p next : Progress)
     → all_kept table entries since xs p ≡ Ok next → IsMoved (length xs) p next
 listed_grows table entries since [] p next is =
     subst (IsMoved 0 p) (ok_same p next is) (omega arith, refl, refl)
@@ -228,7 +228,7 @@ shut_grows side table number (name ∷ more) p next is =
     let m0 = one.0 in let m1 = rest.0 in (omega (arith, m0, m1), rest.1 ∙ one.1, rest.2 ∙ one.2)
 
 -- The listed events of judged ends are at most all listed events.
-pub some_listed : (judged : Option Side) (xs : List Listed) → length (listed_judged judged xs) ≤ length xs
+pub some_listed : (judged : Option Side) (xs : List ListedStep) → length (listed_judged judged xs) ≤ length xs
 some_listed judged [] = omega arith
 some_listed judged (x ∷ xs) = by (is_judged judged (side_of x)) (some_listed judged xs)
   where
@@ -259,7 +259,7 @@ none_left judged side p is = by (seat_at side p).waiting is
 
 -- the progress after the loss of the first message
 abbrev pub behind_first : Option Side → Side → ℕ → Progress → Progress
-behind_first judged side number p = lost_told judged side number (with_waiting side (drop 1 (seat_at side p).waiting) p)
+behind_first judged side number p = loss_listed judged side number (with_waiting side (drop 1 (seat_at side p).waiting) p)
 
 -- The first message is lost, and then the others.
 pub one_lost : (judged : Option Side) (side : Side) (number : ℕ) (p : Progress) → first_lost (seat_at side p).waiting ≡ Some number
@@ -267,13 +267,13 @@ pub one_lost : (judged : Option Side) (side : Side) (number : ℕ) (p : Progress
 one_lost judged side number p is = by (seat_at side p).waiting is
   where
     by : (messages : List Waiting) → first_lost messages ≡ Some number
-        → front_lost judged side (lost_told judged side number (with_waiting side (drop 1 messages) p)) ≡ losing_kept judged side messages p
+        → front_lost judged side (loss_listed judged side number (with_waiting side (drop 1 messages) p)) ≡ losing_kept judged side messages p
     by [] e = cc
     by (first ∷ more) e =
         let so = first_is first more number e in
-        let next = lost_told judged side number (with_waiting side more p) in
+        let next = loss_listed judged side number (with_waiting side more p) in
         let one : losing_kept judged side (first ∷ more) p ≡ losing_kept judged side more next =
-        rw so.0 (ap (λ (n : ℕ). losing_kept judged side more (lost_told judged side n (with_waiting side more p))) so.1) in
+        rw so.0 (ap (λ (n : ℕ). losing_kept judged side more (loss_listed judged side n (with_waiting side more p))) so.1) in
         ap (λ (x : List Waiting). losing_kept judged side x next) (lost_waits judged side number more p) ∙ sym one
 
 -- One message fewer is on its way.
@@ -282,10 +282,10 @@ pub one_left : (judged : Option Side) (side : Side) (number : ℕ) (p : Progress
 one_left judged side number p is = by (seat_at side p).waiting is
   where
     by : (messages : List Waiting) → first_lost messages ≡ Some number
-        → length messages ≡ length (seat_at side (lost_told judged side number (with_waiting side (drop 1 messages) p))).waiting + 1
+        → length messages ≡ length (seat_at side (loss_listed judged side number (with_waiting side (drop 1 messages) p))).waiting + 1
     by [] e = cc
     by (first ∷ more) e =
-        let left : length (seat_at side (lost_told judged side number (with_waiting side more p))).waiting ≡ length more =
+        let left : length (seat_at side (loss_listed judged side number (with_waiting side more p))).waiting ≡ length more =
         ap length (lost_waits judged side number more p) in
         omega (arith, left)
 
@@ -295,10 +295,10 @@ pub one_grows : (judged : Option Side) (side : Side) (number : ℕ) (p : Progres
 one_grows judged side number p is = by (seat_at side p).waiting refl is
   where
     by : (messages : List Waiting) → (seat_at side p).waiting ≡ messages → first_lost messages ≡ Some number
-        → HasNoMore p (lost_told judged side number (with_waiting side (drop 1 messages) p))
+        → HasNoMore p (loss_listed judged side number (with_waiting side (drop 1 messages) p))
     by [] at e = cc
     by (first ∷ more) at e =
-        subst (λ (n : ℕ). HasNoMore p (lost_told judged side n (with_waiting side more p))) (first_is first more number e).1
+        subst (λ (n : ℕ). HasNoMore p (loss_listed judged side n (with_waiting side more p))) (first_is first more number e).1
         (one_lost_grows judged side first more p at)
 
 pub seat_way : (side : Side) (p : Progress) → length (seat_at side p).waiting ≤ on_way p

@@ -5,11 +5,11 @@ use Rattle.tcap_certificate.specs.declared.fault.CheckFault.{CheckFault}
 use Rattle.tcap_check.specs.declared.progress.Progress.{Progress}
 use Rattle.tcap_end.specs.Table.{Table}
 use Rattle.tcap_check.specs.declared.outline.Outline.{Outline}
-use Rattle.tcap_certificate.specs.Replay.{is_judged, Replay, closed_at_mark, fault_at, gap_by, is_gap, is_heard, is_nothing, is_overtaking, lost_from_front, lost_last, next_entry, received, stepped, tied, due_in}
+use Rattle.tcap_certificate.specs.Replay.{is_judged, Replay, closed_at_mark, fault_at, gap_by, is_gap, is_received_from, is_nothing, is_overtaking, lost_from_front, lost_last, next_entry, received, stepped, tied, due_in}
 use Rattle.tcap_check.specs.Progress.{HasNoMore, end_moved, front_lost, last_lost, overtakes, seat_at, all_kept, listed_kept}
 use Rattle.tcap_check.specs.ReplaySteps.{deliveries_kept, delivery_kept, halves_shut}
 use Rattle.tcap_check.specs.PartialReplay.{behind_or, deliveries_so_far, fated_so_far, gap_so_far, halves_so_far, item_so_far, mark_so_far, message_so_far, next_so_far, quiet_so_far, sending_so_far, listed_so_far}
-use Rattle.tcap_check.specs.declared.listed_steps.Listed.{Listed}
+use Rattle.tcap_check.specs.declared.listed_steps.ListedStep.{ListedStep}
 use Rattle.tcap_check.specs.ListedSteps.{listed_judged, side_of, all_replayed, listed_for, listed_replayed}
 use Rattle.std.specs.Prelude.{◌||◌, not, ok_or, slice_get}
 use Rattle.std.specs.List.{AllByRecursion}
@@ -83,7 +83,7 @@ going_next all first xs p q i default going less step grows =
 -- ---- listed events
 
 -- The first listed event counts if its end is judged, and is skipped if not.
-module _ (judged : Option Side) (x : Listed) (more : List Listed) where
+module _ (judged : Option Side) (x : ListedStep) (more : List ListedStep) where
   pub listed_first : is_judged judged (side_of x) ≡ true → listed_judged judged (x ∷ more) ≡ x ∷ listed_judged judged more
   listed_first is = rw is refl
 
@@ -111,7 +111,7 @@ module _ (judged : Option Side) (table : Table) (c : Certificate) where
 
   -- ---- a gap
 
-  listed_far : (items : List Item) (xs : List Listed) (r : Replay) → AllByRecursion (IsNamed c (length items)) xs → r.world.sent ≡ items
+  listed_far : (items : List Item) (xs : List ListedStep) (r : Replay) → AllByRecursion (IsNamed c (length items)) xs → r.world.sent ≡ items
       → listed_left table (outlines_from c 0 items) (since_from 0 0 items) xs (K r) ≡ K (listed_so_far table c xs r)
   listed_far items [] r all sent = refl
   listed_far items (x ∷ more) r all sent =
@@ -157,7 +157,7 @@ module _ (judged : Option Side) (table : Table) (c : Certificate) where
       by rest false = rest
   deliveries_far entries gap n (Gap g ∷ fates) (Sent sender message ∷ items) r stands =
       by (λ next. deliveries_far entries gap (n + 1) fates items next (stands_next entries n _ _ stands)) (g == gap) refl
-      (is_heard judged sender) refl
+      (is_received_from judged sender) refl
     where
       due : List ℕ
       due = due_in gap (n + 1) fates
@@ -166,7 +166,7 @@ module _ (judged : Option Side) (table : Table) (c : Certificate) where
       more = deliveries_so_far judged table c gap (n + 1) fates items
 
       by : ((next : Replay) → deliveries_left judged table entries due (K next) ≡ K (more next))
-          → (b : Bool) → (g == gap) ≡ b → (so : Bool) → is_heard judged sender ≡ so
+          → (b : Bool) → (g == gap) ≡ b → (so : Bool) → is_received_from judged sender ≡ so
           → deliveries_left judged table entries (cond b (n ∷ due) due) (K r)
           ≡ K (deliveries_so_far judged table c gap n (Gap g ∷ fates) (Sent sender message ∷ items) r)
       by rest false is so told = rw (due_is judged gap g sender, is) (rest r)
@@ -183,7 +183,7 @@ module _ (judged : Option Side) (table : Table) (c : Certificate) where
       let items = r.world.sent in
       let es = outlines_from c 0 items in
       let since = since_from 0 0 items in
-      let listed : List Listed = listed_for judged c (next_entry r) in
+      let listed : List ListedStep = listed_for judged c (next_entry r) in
       ap (λ (n : ℕ). behind_or (all_kept table es since (listed_for judged c n) (K r)) (listed_left table es since (listed_for judged c n) (K r))
       (deliveries_left judged table es (due_in n 0 c.fates))) (outlines_count c 0 items)
       ∙ behind_is K (all_replayed table c listed r) (all_kept table es since listed (K r)) (listed_so_far table c listed r)
@@ -196,7 +196,7 @@ module _ (judged : Option Side) (table : Table) (c : Certificate) where
 
   -- ---- a message
 
-  message_far : (side : Side) (message : Message) (takes : List ℕ) (r : Replay) → is_heard judged (other side) ≡ true
+  message_far : (side : Side) (message : Message) (takes : List ℕ) (r : Replay) → is_received_from judged (other side) ≡ true
       → message_left judged table side message takes (K r) ≡ K (message_so_far table c side message (sending_by c (next_entry r) (Sent side message) takes) r)
   message_far side message takes r so = by message takes
     where
@@ -222,7 +222,7 @@ module _ (judged : Option Side) (table : Table) (c : Certificate) where
       by (EndMessage dtid dialogue components) (taken ∷ more) = refl
 
 -- If this end is judged, messages of the other end are received.
-judged_heard : (judged : Option Side) (side : Side) → is_judged judged side ≡ true → is_heard judged (other side) ≡ true
+judged_heard : (judged : Option Side) (side : Side) → is_judged judged side ≡ true → is_received_from judged (other side) ≡ true
 judged_heard None side so = refl
 judged_heard (Some sides.A) sides.A so = refl
 judged_heard (Some sides.A) sides.B so = cc

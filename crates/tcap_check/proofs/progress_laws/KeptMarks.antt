@@ -8,7 +8,7 @@ use Rattle.tcap_end.specs.declared.fault.EndFault.{EndFault}
 use Rattle.tcap_end.specs.declared.fault.EndFault.TheVariants as faults
 use Rattle.tcap_end.specs.declared.half.HalfName.{HalfName}
 use Rattle.tcap_end.specs.End.{End, all_closed, nothing, quiet}
-use Rattle.tcap_end.specs.HiddenSteps.{close, close_each, open_halves, quiet_unseen}
+use Rattle.tcap_end.specs.HiddenSteps.{close, close_each, open_halves, quiet_after_closings}
 use Rattle.tcap_end.specs.Table.{Table}
 use Rattle.tcap_end.specs.Step.{needs, ◌>>◌, ◌>>=◌}
 use Rattle.tcap_end.proofs.AnsweringLaws.{needs_ok, ok_same}
@@ -18,18 +18,18 @@ use Rattle.tcap_model.specs.declared.reason.Reason.TheVariants.{NotQuiet}
 use Rattle.tcap_check.specs.declared.progress.Progress.{Progress}
 use Rattle.tcap_check.specs.declared.progress.Waiting.{Waiting}
 use Rattle.tcap_record.specs.Ends.{other}
-use Rattle.tcap_model.specs.World.{Item, OnItsWay, Sent, World, channel_from, end_at, with_end}
+use Rattle.tcap_model.specs.World.{Item, MessageInTransit, Sent, World, channel_from, end_at, with_end}
 use Rattle.tcap_model.specs.Run.{Event, Closes, Quiet, after}
 use Rattle.tcap_certificate.specs.Certificate.{Certificate}
 use Rattle.tcap_certificate.specs.Replay.{Replay, closed_at_mark, closed_before, fault_at, is_nothing, lost_from_front, lost_last, stepped, with_step}
-use Rattle.tcap_check.specs.Progress.{YieldsInMemory, both_quiet, end_moved, front_lost, is_empty, is_none_kept, last_lost, losing_kept, lost_told, moved, quiet_kept, seat_at, with_seat_end, with_told, with_waiting}
+use Rattle.tcap_check.specs.Progress.{YieldsInMemory, both_quiet, end_moved, front_lost, is_empty, is_none_kept, last_lost, losing_kept, loss_listed, moved, quiet_kept, seat_at, with_seat_end, with_steps, with_waiting}
 use Rattle.tcap_check.specs.ReplaySteps.{alone_marked, closed_or_not, halves_closed, halves_shut, mark_taken, quieted}
 use Rattle.tcap_check.specs.CheckerMeaning.{is_alone, latest_at, latest_of, map_ok, progress_of, waiting_at}
 use Rattle.tcap_model.proofs.RunLaws.{map_some, quiet as quiet_step}
 use Rattle.tcap_check.proofs.replay_laws.ReplaySteps.{same_end}
 use Rattle.tcap_check.proofs.progress_laws.KeptBasics.{end_kept, end_step_is, last_is, moved_counts}
 use Rattle.tcap_check.proofs.progress_laws.KeptStays.{Stays, closes_stays, stays_same, stays_then}
-use Rattle.tcap_check.specs.ReportedSteps.{Told, more_told}
+use Rattle.tcap_check.specs.ReportedSteps.{ListedRun, with_events}
 use Rattle.tcap_check.proofs.checker_laws.ToldStepLaws.{told_both, told_still}
 use Rattle.tcap_model.proofs.WorldLaws.{end_with}
 
@@ -37,7 +37,7 @@ use Rattle.tcap_model.proofs.WorldLaws.{end_with}
 
 -- the progress after these halves closed, with this end
 abbrev pub later : Side → End → List HalfName → Progress → Progress
-later side e names p = record (with_told (map (Closes side) names) (with_seat_end side e p)) { moves = p.moves + length names }
+later side e names p = record (with_steps (map (Closes side) names) (with_seat_end side e p)) { moves = p.moves + length names }
 
 -- These halves closed.
 pub record Closed (listing : Bool) (table : Table) (c : Certificate) (side : Side) (mark : ℕ) (names : List HalfName) (r : Replay) (e : End) : Type 0 where
@@ -61,19 +61,19 @@ later_more side first last name more p = by side
 
     by : (side : Side) → later side last more (moved (Closes side name) (with_seat_end side first p)) ≡ later side last (name ∷ more) p
     by sides.A =
-        ap₂ (λ (m : ℕ) (told : Option Told). let x : Progress = record (with_seat_end sides.A last p) { moves = m; steps = told } in x)
+        ap₂ (λ (m : ℕ) (told : Option ListedRun). let x : Progress = record (with_seat_end sides.A last p) { moves = m; steps = told } in x)
         same (told_both (Closes sides.A name) (map (Closes sides.A) more) p.steps)
     by sides.B =
-        ap₂ (λ (m : ℕ) (told : Option Told). let x : Progress = record (with_seat_end sides.B last p) { moves = m; steps = told } in x)
+        ap₂ (λ (m : ℕ) (told : Option ListedRun). let x : Progress = record (with_seat_end sides.B last p) { moves = m; steps = told } in x)
         same (told_both (Closes sides.B name) (map (Closes sides.B) more) p.steps)
 
 later_none : (side : Side) (p : Progress) → p ≡ later side (seat_at side p).end [] p
 later_none sides.A p =
     let same : p.moves ≡ p.moves + 0 = omega arith in
-    ap₂ (λ (m : ℕ) (told : Option Told). let x : Progress = record p { moves = m; steps = told } in x) same (sym (told_still p.steps))
+    ap₂ (λ (m : ℕ) (told : Option ListedRun). let x : Progress = record p { moves = m; steps = told } in x) same (sym (told_still p.steps))
 later_none sides.B p =
     let same : p.moves ≡ p.moves + 0 = omega arith in
-    ap₂ (λ (m : ℕ) (told : Option Told). let x : Progress = record p { moves = m; steps = told } in x) same (sym (told_still p.steps))
+    ap₂ (λ (m : ℕ) (told : Option ListedRun). let x : Progress = record p { moves = m; steps = told } in x) same (sym (told_still p.steps))
 
 pub closings_are : (listing : Bool) (table : Table) (c : Certificate) (side : Side) (mark : ℕ) (names : List HalfName) (r : Replay)
     → Closings listing table c side mark names r (close_each table names (end_at side r.world))
@@ -161,7 +161,7 @@ quiet_step_is listing judged table c mark r = channels r.world.from_a r.world.fr
       b = record { end = b; waiting = []; latest = latest_at judged sides.B c.fates r.world.sent };
       moves = (progress_of listing judged c r).moves + 1;
       unheard = (progress_of listing judged c r).unheard;
-      steps = option_map (more_told (Quiet ∷ [])) (progress_of listing judged c r).steps;
+      steps = option_map (with_events (Quiet ∷ [])) (progress_of listing judged c r).steps;
     }
 
     behind_is : (a b : End) → kept_behind a b ≡ progress_of listing judged c (behind a b)
@@ -178,7 +178,7 @@ quiet_step_is listing judged table c mark r = channels r.world.from_a r.world.fr
     ends none_a none_b (Err reason) (Ok b) is_a is_b = rw (none_a, none_b, is_a) refl
     ends none_a none_b (Err reason) (Err more) is_a is_b = rw (none_a, none_b, is_a) refl
 
-    channels : (a b : List OnItsWay) → r.world.from_a ≡ a → r.world.from_b ≡ b
+    channels : (a b : List MessageInTransit) → r.world.from_a ≡ a → r.world.from_b ≡ b
         → quiet_kept mark (progress_of listing judged c r)
         ≡ map_ok (progress_of listing judged c) (ok_or (stepped table Quiet r) (fault_at NotQuiet mark))
     channels [] [] is_a is_b =
@@ -238,8 +238,8 @@ open_is sides.B number p reason is = rw is (by (is_empty p.a.waiting && is_empty
 
 -- The loss of a message to an end does not change the end.
 one_lost_puts : (side : Side) (q : End) (number : ℕ) (messages : List Waiting) (p : Progress)
-    → lost_told (Some side) (other side) number (with_waiting (other side) messages (with_seat_end side q p))
-    ≡ with_seat_end side q (lost_told (Some side) (other side) number (with_waiting (other side) messages p))
+    → loss_listed (Some side) (other side) number (with_waiting (other side) messages (with_seat_end side q p))
+    ≡ with_seat_end side q (loss_listed (Some side) (other side) number (with_waiting (other side) messages p))
 one_lost_puts sides.A q number messages p = refl
 one_lost_puts sides.B q number messages p = refl
 
@@ -248,14 +248,14 @@ losing_puts : (side : Side) (q : End) (messages : List Waiting) (p : Progress)
     ≡ with_seat_end side q (losing_kept (Some side) (other side) messages p)
 losing_puts side q [] p = refl
 losing_puts side q (first ∷ more) p =
-    by (is_none_kept first.message) (losing_puts side q more (lost_told (Some side) (other side) first.number (with_waiting (other side) more p)))
+    by (is_none_kept first.message) (losing_puts side q more (loss_listed (Some side) (other side) first.number (with_waiting (other side) more p)))
   where
     by : (b : Bool)
-        → losing_kept (Some side) (other side) more (with_seat_end side q (lost_told (Some side) (other side) first.number (with_waiting (other side) more p)))
-        ≡ with_seat_end side q (losing_kept (Some side) (other side) more (lost_told (Some side) (other side) first.number (with_waiting (other side) more p)))
-        → cond b (losing_kept (Some side) (other side) more (lost_told (Some side) (other side) first.number (with_waiting (other side) more (with_seat_end side q p))))
+        → losing_kept (Some side) (other side) more (with_seat_end side q (loss_listed (Some side) (other side) first.number (with_waiting (other side) more p)))
+        ≡ with_seat_end side q (losing_kept (Some side) (other side) more (loss_listed (Some side) (other side) first.number (with_waiting (other side) more p)))
+        → cond b (losing_kept (Some side) (other side) more (loss_listed (Some side) (other side) first.number (with_waiting (other side) more (with_seat_end side q p))))
         (with_seat_end side q p)
-        ≡ with_seat_end side q (cond b (losing_kept (Some side) (other side) more (lost_told (Some side) (other side) first.number (with_waiting (other side) more p))) p)
+        ≡ with_seat_end side q (cond b (losing_kept (Some side) (other side) more (loss_listed (Some side) (other side) first.number (with_waiting (other side) more p))) p)
     by true rest = ap (losing_kept (Some side) (other side) more) (one_lost_puts side q first.number more p) ∙ rest
     by false rest = refl
 
@@ -312,9 +312,9 @@ losing_ends side (first ∷ more) p =
     by (is_none_kept first.message) (losing_ends side more next ∙ one side)
   where
     next : Progress
-    next = lost_told (Some side) (other side) first.number (with_waiting (other side) more p)
+    next = loss_listed (Some side) (other side) first.number (with_waiting (other side) more p)
 
-    one : (side : Side) → (seat_at side (lost_told (Some side) (other side) first.number (with_waiting (other side) more p))).end ≡ (seat_at side p).end
+    one : (side : Side) → (seat_at side (loss_listed (Some side) (other side) first.number (with_waiting (other side) more p))).end ≡ (seat_at side p).end
     one sides.A = refl
     one sides.B = refl
 
@@ -346,7 +346,7 @@ marks_alike side table number p =
         losing_ends side (seat_at (other side) shut).waiting shut ∙ later_end side e names p
 
     then_quiet : (e : End) (o : Result End EndFault) → quiet e ≡ o
-        → marked (later side e names p) ≡ (map_ok (with_told (map (Closes side) names)) (closed_or_not side number p o) >>= marked)
+        → marked (later side e names p) ≡ (map_ok (with_steps (map (Closes side) names)) (closed_or_not side number p o) >>= marked)
     then_quiet e (Ok q) is =
         let shut = later side e names p in
         sym (ap marked (sym (put_later side e q names p))
@@ -357,7 +357,7 @@ marks_alike side table number p =
 
     by : (o : Result End EndFault)
         → (shut_or_not side number names p o >>= marked)
-        ≡ (map_ok (with_told (map (Closes side) names)) (closed_or_not side number p (o >>= quiet)) >>= marked)
+        ≡ (map_ok (with_steps (map (Closes side) names)) (closed_or_not side number p (o >>= quiet)) >>= marked)
     by (Err reason) = refl
     by (Ok e) = then_quiet e (quiet e) refl
 
@@ -404,7 +404,7 @@ module _ (listing : Bool) (table : Table) (c : Certificate) (side : Side) (mark 
 
   -- the progress with these closings listed
   abbrev told : Progress → Progress
-  told = with_told (map (Closes side) (open_halves (seat_at side p).end))
+  told = with_steps (map (Closes side) (open_halves (seat_at side p).end))
 
   abbrev last_step : Replay → Result Replay CheckFault
   last_step closed = ok_or (stepped table Quiet (lost_from_front c (other side) closed)) fault
@@ -451,7 +451,7 @@ module _ (listing : Bool) (table : Table) (c : Certificate) (side : Side) (mark 
       ≡ map_ok (progress_of listing (Some side) c) (closed_before (Some side) table mark r
       >>= λ closed. ok_or (stepped table Quiet (lost_last (Some side) c closed)) fault)
   closed_is =
-      ap (λ (e : End). map_ok told (closed_or_not side mark p (quiet_unseen table e)) >>= λ closed. quiet_kept mark (last_lost (Some side) closed))
+      ap (λ (e : End). map_ok told (closed_or_not side mark p (quiet_after_closings table e)) >>= λ closed. quiet_kept mark (last_lost (Some side) closed))
       (end_kept listing (Some side) c side r)
       ∙ marked (close_each table halves (end_at side r.world)) (closings_are listing table c side mark halves r)
 

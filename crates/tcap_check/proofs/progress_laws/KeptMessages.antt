@@ -24,14 +24,14 @@ use Rattle.tcap_model.specs.declared.reason.Reason.TheVariants.{BadReply, SendRe
 use Rattle.tcap_check.specs.declared.progress.Progress.{Progress}
 use Rattle.tcap_check.specs.declared.progress.Waiting.{Waiting}
 use Rattle.tcap_record.specs.Ends.{other}
-use Rattle.tcap_model.specs.World.{OnItsWay, Sent, World, channel_from, end_at, with_end}
-use Rattle.tcap_model.specs.Run.{Event, Sends, Replies, Expires, Tells, joined, may_refuse, provider_abort, reply_to, where_so}
+use Rattle.tcap_model.specs.World.{MessageInTransit, Sent, World, channel_from, end_at, with_end}
+use Rattle.tcap_model.specs.Run.{Event, Sends, Replies, Expires, Tells, joined, may_refuse, provider_abort, reply_to, only_if}
 use Rattle.tcap_certificate.specs.Certificate.{Certificate}
 use Rattle.tcap_certificate.specs.DescribedRun.{invoke_id, invoking_half, sending_by}
-use Rattle.tcap_certificate.specs.Replay.{Replay, behind_sending, fault_at, implied, implied_over, is_nothing, lost_from_front, message_by, next_entry, or_same, refused, reply_replayed, send_replayed, sent_or_refused, stepped, with_step}
+use Rattle.tcap_certificate.specs.Replay.{Replay, after_sending, fault_at, implied, implied_over, is_nothing, lost_from_front, message_by, next_entry, or_same, refused, reply_replayed, send_replayed, sent_or_refused, stepped, with_step}
 use Rattle.tcap_certificate.specs.LossCounts.{is_lost_from}
 use Rattle.tcap_check.specs.Progress.{end_tried, first_answered, ids_ended, ids_ended_over, message_kept, or_still, reply_kept, seat_at, send_kept, sent_by, sent_or_not, with_waiting}
-use Rattle.tcap_check.specs.ReplaySteps.{is_heard, own_fate, own_taken, sent_lost, told_taken}
+use Rattle.tcap_check.specs.ReplaySteps.{is_received_from, own_fate, own_taken, sent_lost, peer_message_taken}
 use Rattle.tcap_check.specs.CheckerMeaning.{map_ok, progress_of, waiting_at}
 use Rattle.tcap_model.proofs.ChannelLaws.{get_new}
 use Rattle.tcap_check.proofs.replay_laws.ReplaySteps.{same_end}
@@ -95,7 +95,7 @@ over_sends_nothing table side message (Some name) r =
 -- ---- a send
 
 -- The fate of a message of a judged end.
-own_fate_is : (judged : Option Side) (side : Side) (fate : Fate) → is_heard judged (other side) ≡ true → fate_at judged side fate ≡ own_fate judged fate
+own_fate_is : (judged : Option Side) (side : Side) (fate : Fate) → is_received_from judged (other side) ≡ true → fate_at judged side fate ≡ own_fate judged fate
 own_fate_is None side fate so = refl
 own_fate_is (Some sides.A) sides.A fate so = refl
 own_fate_is (Some sides.A) sides.B fate so = cc
@@ -104,7 +104,7 @@ own_fate_is (Some sides.B) sides.B fate so = refl
 
 -- The message joins its channel.
 own_joined : (listing : Bool) (judged : Option Side) (c : Certificate) (side : Side) (event : Event) (message : Message) (fate : Fate) (r : Replay)
-    → is_heard judged (other side) ≡ true → ((at : Side) → is_lost_from at event ≡ false) → slice_get c.fates (next_entry r) ≡ Some fate
+    → is_received_from judged (other side) ≡ true → ((at : Side) → is_lost_from at event ≡ false) → slice_get c.fates (next_entry r) ≡ Some fate
     → progress_of listing judged c (with_step event r (joined side message r.world))
     ≡ sent_by event side (own_fate judged fate) (next_entry r) message (progress_of listing judged c r)
 own_joined listing judged c side event message fate r so none has =
@@ -112,7 +112,7 @@ own_joined listing judged c side event message fate r so none has =
     ∙ ap (λ (f : Fate). sent_by event side f (next_entry r) message (progress_of listing judged c r)) (own_fate_is judged side fate so)
 
 sent_is : (listing : Bool) (judged : Option Side) (c : Certificate) (fate : Fate) (side : Side) (message : Message) (number : ℕ) (r : Replay)
-    (o : Result End EndFault) → is_heard judged (other side) ≡ true → next_entry r ≡ number → slice_get c.fates number ≡ Some fate
+    (o : Result End EndFault) → is_received_from judged (other side) ≡ true → next_entry r ≡ number → slice_get c.fates number ≡ Some fate
     → sent_or_not side (own_fate judged fate) number message (progress_of listing judged c r) o
     ≡ map_ok (progress_of listing judged c) (sent_or_refused side message r o)
 sent_is listing judged c fate side message number r (Err reason) so is has =
@@ -125,7 +125,7 @@ sent_is listing judged c fate side message number r (Ok e) so is has =
     (sym (joins ∙ ap₂ (λ (n : ℕ) (p : Progress). sent_by (Sends side message) side (own_fate judged fate) n message p) count (end_put listing judged c side e r)))
 
 send_is : (listing : Bool) (table : Table) (judged : Option Side) (c : Certificate) (fate : Fate) (side : Side) (message : Message) (r : Replay)
-    → is_heard judged (other side) ≡ true → slice_get c.fates (next_entry r) ≡ Some fate
+    → is_received_from judged (other side) ≡ true → slice_get c.fates (next_entry r) ≡ Some fate
     → send_kept table side (own_fate judged fate) (next_entry r) message (progress_of listing judged c r)
     ≡ map_ok (progress_of listing judged c) (send_replayed table side message (implied_over table side message (invoking_half message) r))
 send_is listing table judged c fate side message r so has =
@@ -144,7 +144,7 @@ record IsAnswerable (e : End) (message abort : Message) : Type 0 where
   cause : ℕ
   id : List ℕ
   so : Bool
-  reply : reply_to e message ≡ where_so so (Some (provider_abort id cause))
+  reply : reply_to e message ≡ only_if so (Some (provider_abort id cause))
   may : may_refuse e message abort ≡ (aborts cause id abort && so)
 
 pub itself : (cause : ℕ) (id : List ℕ) → aborts cause id (provider_abort id cause) ≡ true
@@ -164,11 +164,11 @@ answerable e (Begin otid dialogue components) abort =
     may false true = refl
     may false false = refl
 
-    reply : reply_to e (Begin otid dialogue components) ≡ where_so (is_none (with_peer e otid)) (Some (provider_abort otid 4))
+    reply : reply_to e (Begin otid dialogue components) ≡ only_if (is_none (with_peer e otid)) (Some (provider_abort otid 4))
     reply = rw (itself 4 otid) (by (is_none (with_peer e otid)))
       where
-        by : (y : Bool) → where_so (is_ok (needs y faults.NoTransaction) || false) (Some (provider_abort otid 4))
-            ≡ where_so y (Some (provider_abort otid 4))
+        by : (y : Bool) → only_if (is_ok (needs y faults.NoTransaction) || false) (Some (provider_abort otid 4))
+            ≡ only_if y (Some (provider_abort otid 4))
         by true = refl
         by false = refl
 answerable e (Continue otid dtid dialogue components) abort =
@@ -180,11 +180,11 @@ answerable e (Continue otid dtid dialogue components) abort =
     may false true = refl
     may false false = refl
 
-    reply : reply_to e (Continue otid dtid dialogue components) ≡ where_so (not (is_open (with_own e dtid))) (Some (provider_abort otid 1))
+    reply : reply_to e (Continue otid dtid dialogue components) ≡ only_if (not (is_open (with_own e dtid))) (Some (provider_abort otid 1))
     reply = rw (itself 1 otid) (by (not (is_open (with_own e dtid))))
       where
-        by : (y : Bool) → where_so (is_ok (needs y faults.NoTransaction)) (Some (provider_abort otid 1))
-            ≡ where_so y (Some (provider_abort otid 1))
+        by : (y : Bool) → only_if (is_ok (needs y faults.NoTransaction)) (Some (provider_abort otid 1))
+            ≡ only_if y (Some (provider_abort otid 1))
         by true = refl
         by false = refl
 answerable e (Unidirectional dialogue components) abort =
@@ -199,7 +199,7 @@ joined_last sides.A abort w = get_new w.sent (Sent sides.A abort)
 joined_last sides.B abort w = get_new w.sent (Sent sides.B abort)
 
 module _ (listing : Bool) (table : Table) (judged : Option Side) (c : Certificate) (fate : Fate) (side : Side) (abort : Message) (taken : ℕ) (r : Replay)
-    (head : OnItsWay) (left : List OnItsWay) where
+    (head : MessageInTransit) (left : List MessageInTransit) where
   -- what is kept without the first message on its way
   abbrev kept_left : Progress
   kept_left = with_waiting (other side) (waiting_at judged (other side) c.fates left) (progress_of listing judged c (lost_from_front c (other side) r))
@@ -210,7 +210,7 @@ module _ (listing : Bool) (table : Table) (judged : Option Side) (c : Certificat
       >> Ok (sent_by (Replies side taken) side (own_fate judged fate) (next_entry r) abort kept_left)
 
   -- The Abort joins its channel after that.
-  abort_joins : (event : Event) (made : Message) → made ≡ abort → is_heard judged (other side) ≡ true → ((at : Side) → is_lost_from at event ≡ false)
+  abort_joins : (event : Event) (made : Message) → made ≡ abort → is_received_from judged (other side) ≡ true → ((at : Side) → is_lost_from at event ≡ false)
       → slice_get c.fates (next_entry (without_head (other side) c left r)) ≡ Some fate
       → next_entry (without_head (other side) c left r) ≡ next_entry r
       → (let x : Result Progress CheckFault = Ok (sent_by event side (own_fate judged fate) (next_entry r) abort kept_left) in x)
@@ -225,7 +225,7 @@ module _ (listing : Bool) (table : Table) (judged : Option Side) (c : Certificat
 
 -- The head has this number, or it does not.
 answers_head : (listing : Bool) (table : Table) (judged : Option Side) (c : Certificate) (fate : Fate) (side : Side) (abort : Message) (taken : ℕ) (r : Replay)
-    (head : OnItsWay) (left : List OnItsWay) (front : HasFront c (other side) head left r) (b : Bool) → is_heard judged (other side) ≡ true
+    (head : MessageInTransit) (left : List MessageInTransit) (front : HasFront c (other side) head left r) (b : Bool) → is_received_from judged (other side) ≡ true
     → (head.number == taken) ≡ b → slice_get c.fates (next_entry r) ≡ Some fate
     → IsAnswerable (end_at side r.world) head.message abort
     → answered listing table judged c fate side abort taken r head left ≡ map_ok (progress_of listing judged c) (reply_replayed table c side abort taken r)
@@ -235,7 +235,7 @@ answers_head listing table judged c fate sides.A abort taken r head left front t
     made : Message
     made = provider_abort can.id can.cause
 
-    by : (made_so x : Bool) → reply_to r.world.a head.message ≡ where_so made_so (Some made)
+    by : (made_so x : Bool) → reply_to r.world.a head.message ≡ only_if made_so (Some made)
         → may_refuse r.world.a head.message abort ≡ (aborts can.cause can.id abort && made_so) → aborts can.cause can.id abort ≡ x
         → answered listing table judged c fate sides.A abort taken r head left ≡ map_ok (progress_of listing judged c) (reply_replayed table c sides.A abort taken r)
     by false false reply may e = rw (front.channel, is, reply, may, e) refl
@@ -252,7 +252,7 @@ answers_head listing table judged c fate sides.B abort taken r head left front t
     made : Message
     made = provider_abort can.id can.cause
 
-    by : (made_so x : Bool) → reply_to r.world.b head.message ≡ where_so made_so (Some made)
+    by : (made_so x : Bool) → reply_to r.world.b head.message ≡ only_if made_so (Some made)
         → may_refuse r.world.b head.message abort ≡ (aborts can.cause can.id abort && made_so) → aborts can.cause can.id abort ≡ x
         → answered listing table judged c fate sides.B abort taken r head left ≡ map_ok (progress_of listing judged c) (reply_replayed table c sides.B abort taken r)
     by false false reply may e = rw (front.channel, is, reply, may, e) refl
@@ -266,7 +266,7 @@ answers_head listing table judged c fate sides.B abort taken r head left front t
 
 -- A provider's answer.
 reply_is : (listing : Bool) (table : Table) (judged : Option Side) (c : Certificate) (fate : Fate) (side : Side) (abort : Message) (taken : ℕ) (r : Replay)
-    → is_heard judged (other side) ≡ true → slice_get c.fates (next_entry r) ≡ Some fate
+    → is_received_from judged (other side) ≡ true → slice_get c.fates (next_entry r) ≡ Some fate
     → reply_kept judged side (own_fate judged fate) (next_entry r) abort taken (progress_of listing judged c r)
     ≡ map_ok (progress_of listing judged c) (reply_replayed table c side abort taken r)
 reply_is listing table judged c fate side abort taken r so has =
@@ -283,7 +283,7 @@ reply_is listing table judged c fate side abort taken r so has =
     none sides.A is = rw is refl
     none sides.B is = rw is refl
 
-    by : (messages : List OnItsWay) → channel_from (other side) before.world ≡ messages
+    by : (messages : List MessageInTransit) → channel_from (other side) before.world ≡ messages
         → first_answered side (own_fate judged fate) (next_entry r) abort taken (seat_at (other side) (progress_of listing judged c before)).waiting
         (progress_of listing judged c before)
         ≡ map_ok (progress_of listing judged c) (reply_replayed table c side abort taken r)
@@ -306,7 +306,7 @@ reply_is listing table judged c fate side abort taken r so has =
 
 -- A message that takes these messages.
 pub message_by_is : (listing : Bool) (table : Table) (judged : Option Side) (c : Certificate) (fate : Fate) (side : Side) (message : Message) (takes : List ℕ)
-    (r : Replay) → is_heard judged (other side) ≡ true → slice_get c.fates (next_entry r) ≡ Some fate
+    (r : Replay) → is_received_from judged (other side) ≡ true → slice_get c.fates (next_entry r) ≡ Some fate
     → message_kept judged table side (own_fate judged fate) (next_entry r) message takes (progress_of listing judged c r)
     ≡ map_ok (progress_of listing judged c) (message_by table c side message (sending_by c (next_entry r) (Sent side message) takes) r)
 message_by_is listing table judged c fate side message takes r so has = by message takes
@@ -339,16 +339,16 @@ message_by_is listing table judged c fate side message takes r so has = by messa
 
 -- A message of an end that is judged alone is lost.
 pub own_is : (listing : Bool) (judged : Option Side) (table : Table) (c : Certificate) (fate : Fate) (side : Side) (message : Message) (takes : List ℕ) (r : Replay)
-    → is_heard judged (other side) ≡ true → slice_get c.fates (next_entry r) ≡ Some fate
+    → is_received_from judged (other side) ≡ true → slice_get c.fates (next_entry r) ≡ Some fate
     → own_taken judged table side fate (next_entry r) message takes (progress_of listing judged c r)
     ≡ map_ok (progress_of listing judged c)
-    (behind_sending judged (message_by table c side message (sending_by c (next_entry r) (Sent side message) takes) r))
+    (after_sending judged (message_by table c side message (sending_by c (next_entry r) (Sent side message) takes) r))
 own_is listing judged table c fate side message takes r so has =
     ap (map_ok (sent_lost judged)) (message_by_is listing table judged c fate side message takes r so has)
     ∙ by judged (message_by table c side message (sending_by c (next_entry r) (Sent side message) takes) r)
   where
     by : (judged : Option Side) (s : Result Replay CheckFault)
-        → map_ok (sent_lost judged) (map_ok (progress_of listing judged c) s) ≡ map_ok (progress_of listing judged c) (behind_sending judged s)
+        → map_ok (sent_lost judged) (map_ok (progress_of listing judged c) s) ≡ map_ok (progress_of listing judged c) (after_sending judged s)
     by None (Ok next) = refl
     by None (Err reason) = refl
     by (Some at) (Ok next) = ap (λ (p : Progress). let x : Result Progress CheckFault = Ok p in x) (sent_lost_is listing at c next)
@@ -357,7 +357,7 @@ own_is listing judged table c fate side message takes r so has =
 -- A message of the peer waits after the earlier ones.
 pub told_is : (listing : Bool) (c : Certificate) (fate : Fate) (side : Side) (message : Message) (takes : List ℕ) (r : Replay)
     → slice_get c.fates (next_entry r) ≡ Some fate
-    → told_taken (other side) fate (next_entry r) message takes (progress_of listing (Some side) c r)
+    → peer_message_taken (other side) fate (next_entry r) message takes (progress_of listing (Some side) c r)
     ≡ map_ok (progress_of listing (Some side) c) (needs (is_nothing takes) (fault_at BadReply (next_entry r))
     >> Ok (with_step (Tells (other side) message) r (joined (other side) message r.world)))
 told_is listing c fate side message takes r has = by (is_nothing takes)

@@ -14,14 +14,14 @@ use Rattle.tcap_model.specs.declared.reason.Reason.TheVariants.{BadReply, FateCo
 use Rattle.tcap_certificate.specs.declared.certificate.Fate.{Fate}
 use Rattle.tcap_certificate.specs.declared.certificate.Fate.TheVariants.{Gap, Lost, By}
 use Rattle.tcap_record.specs.Ends.{other}
-use Rattle.tcap_model.specs.World.{Item, OnItsWay, Sent}
+use Rattle.tcap_model.specs.World.{Item, MessageInTransit, Sent}
 use Rattle.tcap_model.specs.Run.{Tells, joined}
 use Rattle.tcap_certificate.specs.Certificate.{Certificate}
 use Rattle.tcap_certificate.specs.DescribedRun.{FatesFit, taken_by}
-use Rattle.tcap_certificate.specs.Replay.{Replay, certificate_fits, comes_in_order, entry_by, fates_fit, fault_at, gap_by, is_gap, is_nothing, is_overtaking, item_by, mark_judged, next_entry, nothing_replayed, own_judged, own_message, tied, told_replayed, with_step}
+use Rattle.tcap_certificate.specs.Replay.{Replay, certificate_fits, comes_in_order, entry_by, fates_fit, fault_at, gap_by, is_gap, is_nothing, is_overtaking, item_by, mark_judged, next_entry, nothing_replayed, own_judged, own_message, tied, peer_replayed, with_step}
 use Rattle.tcap_check.specs.Progress.{count_kept}
 use Rattle.tcap_check.specs.CheckerMeaning.{count_ahead, count_waiting, is_alone, kept_by, progress_of, taken, taken_from, taken_next, waiting_at}
-use Rattle.tcap_check.specs.ReplaySteps.{is_heard}
+use Rattle.tcap_check.specs.ReplaySteps.{is_received_from}
 use Rattle.tcap_check.proofs.refusal_laws.PendingLaws.{IsAhead, ahead}
 use Rattle.tcap_check.proofs.replay_laws.ReplayEntries.{nothing_is}
 use Rattle.tcap_check.proofs.replay_laws.ReplayGaps.{fates_ok}
@@ -59,7 +59,7 @@ module _ (judged : Option Side) (table : Table) (c : Certificate) (r next : Repl
   n = next_entry r
 
   abbrev new : Side → ℕ
-  new side = cond (is_heard judged side) (new_by (Some fate)) 0
+  new side = cond (is_received_from judged side) (new_by (Some fate)) 0
 
   -- After the gap, not counting what the entry takes.
   behind_gap : (mid : Replay) → gap_by judged table c r ≡ Ok mid
@@ -80,7 +80,7 @@ module _ (judged : Option Side) (table : Table) (c : Certificate) (r next : Repl
       let later : IsAhead n fate = subst (λ (k : ℕ). IsAhead k fate) zero_n (ahead (length c.fates) 0 n c.fates fate fit has) in
       let number : next_entry next ≡ n + 1 = ap length sent ∙ length-append r.world.sent (Sent side message ∷ []) in
       let one = one_behind judged (n + 1) (n + 1) c.fates r.world.sent side message fate has in
-      let joins = new_behind (is_heard judged side) n fate later in
+      let joins = new_behind (is_received_from judged side) n fate later in
       let behind : count_behind judged (next_entry next) (next_entry next) c.fates next.world.sent
       ≡ count_behind judged (n + 1) (n + 1) c.fates (r.world.sent ++ Sent side message ∷ []) =
       ap (λ (k : ℕ). count_behind judged k k c.fates next.world.sent) number
@@ -91,7 +91,7 @@ module _ (judged : Option Side) (table : Table) (c : Certificate) (r next : Repl
       }
 
   -- `Waits` holds after a message of a judged end.
-  own_waits : (side : Side) (message : Message) → is_heard judged (other side) ≡ true
+  own_waits : (side : Side) (message : Message) → is_received_from judged (other side) ≡ true
       → own_judged judged table c fate side message r ≡ Ok next
       → next.world.sent ≡ r.world.sent ++ Sent side message ∷ [] → Waits judged c next
   own_waits side message so is sent =
@@ -102,13 +102,13 @@ module _ (judged : Option Side) (table : Table) (c : Certificate) (r next : Repl
       let still = gap_sends judged table c r gap.0 gap.1 in
       let took = message_waits judged table c side message (tied judged c gap.0) gap.0 made.0 so made.1 in
       let takes = ap (length {A = ℕ}) (tied_still judged c r gap.0 still) in
-      let fate_is : cond (is_heard judged side) (new_by (slice_get c.fates (next_entry gap.0))) 0 ≡ new side =
-      ap (λ (o : Option Fate). cond (is_heard judged side) (new_by o) 0) (ap (λ (items : List Item). slice_get c.fates (length items)) still ∙ has) in
+      let fate_is : cond (is_received_from judged side) (new_by (slice_get c.fates (next_entry gap.0))) 0 ≡ new side =
+      ap (λ (o : Option Fate). cond (is_received_from judged side) (new_by o) 0) (ap (λ (items : List Item). slice_get c.fates (length items)) still ∙ has) in
       let left = made.2 in
       one_more side message sent (omega (arith, waits, took, takes, fate_is, left))
 
   -- `Waits` holds after a message of the peer of an end that is judged alone.
-  told_waits : (side : Side) (message : Message) → judged ≡ Some side → told_replayed table c fate side message r ≡ Ok next
+  told_waits : (side : Side) (message : Message) → judged ≡ Some side → peer_replayed table c fate side message r ≡ Ok next
       → next.world.sent ≡ r.world.sent ++ Sent (other side) message ∷ [] → Waits judged c next
   told_waits side message one is sent =
       let so = needs_ok (not (is_overtaking (other side) fate c.fates r.world.sent)) (fault_at OutOfOrder n) _ next is in
@@ -124,7 +124,7 @@ module _ (judged : Option Side) (table : Table) (c : Certificate) (r next : Repl
       let joins : count_for judged c.fates next.world ≡ count_for judged c.fates gap.0.world + new (other side) =
       ap (λ (x : Replay). count_for judged c.fates x.world) (sym (ok_same {F = CheckFault} told next free.1))
       ∙ joined_waits judged c.fates (other side) message gap.0.world
-      ∙ ap (λ (o : Option Fate). count_for judged c.fates gap.0.world + cond (is_heard judged (other side)) (new_by o) 0) number in
+      ∙ ap (λ (o : Option Fate). count_for judged c.fates gap.0.world + cond (is_received_from judged (other side)) (new_by o) 0) number in
       one_more (other side) message sent (omega (arith, waits, none, joins))
 
   -- `Waits` holds after a quiet mark.
@@ -213,7 +213,7 @@ none_yet judged c = record { waits = none judged c.fates; marks = no_marks c.fat
     no_marks (fate ∷ fates) = tt
 
 -- As many messages on a channel are kept whole as will not be lost.
-kept_whole : (judged : Option Side) (side : Side) (fates : List Fate) (channel : List OnItsWay) → is_alone judged side ≡ false
+kept_whole : (judged : Option Side) (side : Side) (fates : List Fate) (channel : List MessageInTransit) → is_alone judged side ≡ false
     → count_kept (waiting_at judged side fates channel) ≡ length (waiting fates channel)
 kept_whole judged side fates [] so = refl
 kept_whole judged side fates (m ∷ more) so = rw so (by (slice_get fates m.number) (kept_whole judged side fates more so))

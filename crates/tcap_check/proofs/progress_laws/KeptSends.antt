@@ -8,7 +8,7 @@ use Rattle.tcap_record.specs.declared.entry.End.TheVariants as sides
 use Rattle.tcap_certificate.specs.declared.certificate.Fate.{Fate}
 use Rattle.tcap_certificate.specs.declared.certificate.Fate.TheVariants.{Gap, Lost, By}
 use Rattle.tcap_check.specs.declared.progress.Waiting.{Waiting}
-use Rattle.tcap_model.specs.World.{Item, OnItsWay, Sent, is_side}
+use Rattle.tcap_model.specs.World.{Item, MessageInTransit, Sent, is_side}
 use Rattle.tcap_model.specs.Run.{Event, joined}
 use Rattle.tcap_certificate.specs.Certificate.{Certificate}
 use Rattle.tcap_certificate.specs.Replay.{Replay, is_later, is_overtaking, next_entry, time_of, with_step}
@@ -130,12 +130,12 @@ overtakes_is listing judged c sides.B (By k) r so = rw so (overtaking sides.B (B
 
 -- ---- one more message
 
-kept_with_fate : (fate : Fate) (m : OnItsWay) → kept_by (Some fate) m ≡ record { number = m.number; message = unless_lost fate m.message }
+kept_with_fate : (fate : Fate) (m : MessageInTransit) → kept_by (Some fate) m ≡ record { number = m.number; message = unless_lost fate m.message }
 kept_with_fate (Gap g) m = refl
 kept_with_fate (By k) m = refl
 kept_with_fate Lost m = refl
 
-waiting_more : (judged : Option Side) (side : Side) (fates : List Fate) (channel : List OnItsWay) (m : OnItsWay) (fate : Fate)
+waiting_more : (judged : Option Side) (side : Side) (fates : List Fate) (channel : List MessageInTransit) (m : MessageInTransit) (fate : Fate)
     → fate_of judged side (slice_get fates m.number) ≡ Some fate
     → waiting_at judged side fates (channel ++ m ∷ [])
     ≡ waiting_at judged side fates channel ++ (record { number = m.number; message = unless_lost fate m.message }) ∷ []
@@ -218,7 +218,7 @@ pub joined_is : (listing : Bool) (judged : Option Side) (c : Certificate) (side 
     → progress_of listing judged c (with_step event r (joined side message r.world))
     ≡ sent_by event side (fate_at judged side fate) (next_entry r) message (progress_of listing judged c r)
 joined_is listing judged c sides.A event message fate r none has =
-    let m : OnItsWay = record { number = next_entry r; message = message } in
+    let m : MessageInTransit = record { number = next_entry r; message = message } in
     moved_counts listing judged r.events r.discards event
     (let x : Replay = record { events = r.events; discards = r.discards; world = joined sides.A message r.world } in progress_of listing judged c x) none
     ∙ rw (
@@ -227,7 +227,7 @@ joined_is listing judged c sides.A event message fate r none has =
       latest_peer judged sides.A message c.fates r.world.sent fate has,
     ) refl
 joined_is listing judged c sides.B event message fate r none has =
-    let m : OnItsWay = record { number = next_entry r; message = message } in
+    let m : MessageInTransit = record { number = next_entry r; message = message } in
     moved_counts listing judged r.events r.discards event
     (let x : Replay = record { events = r.events; discards = r.discards; world = joined sides.B message r.world } in progress_of listing judged c x) none
     ∙ rw (

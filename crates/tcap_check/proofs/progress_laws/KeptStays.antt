@@ -17,10 +17,10 @@ use Rattle.tcap_model.specs.Run.{Event, Closes, Expires, after}
 use Rattle.tcap_certificate.specs.Certificate.{Certificate}
 use Rattle.tcap_certificate.specs.DescribedRun.{invoke_id}
 use Rattle.tcap_certificate.specs.LossCounts.{is_lost_from}
-use Rattle.tcap_certificate.specs.Replay.{Replay, fault_at, happens, implied, implied_over, or_same, stepped, with_step}
+use Rattle.tcap_certificate.specs.Replay.{Replay, fault_at, after_event, implied, implied_over, or_same, stepped, with_step}
 use Rattle.tcap_model.proofs.RunLaws.{closing, expiry, map_some}
 use Rattle.tcap_model.proofs.WorldLaws.{sent_with_end}
-use Rattle.tcap_check.specs.declared.listed_steps.Listed.{Listed}
+use Rattle.tcap_check.specs.declared.listed_steps.ListedStep.{ListedStep}
 use Rattle.tcap_check.specs.ListedSteps.{all_replayed, entry_of, event_listed, listed_replayed, side_of, why_refused}
 use Rattle.tcap_check.proofs.replay_laws.ReplayGaps.{listed_so}
 
@@ -89,7 +89,7 @@ end_step_stays event at e r next w none w_is is = record {
 
 abbrev IsUnseen : Event → Type 0
 IsUnseen event = (table : Table) (c : Certificate) (reason : Reason) (entry : ℕ) (r next : Replay)
-    → happens table c event reason entry r ≡ Ok next → Stays r next
+    → after_event table c event reason entry r ≡ Ok next → Stays r next
 
 pub closes_stays : (table : Table) (at : Side) (name : HalfName) (r next : Replay)
     → stepped table (Closes at name) r ≡ Some next → Stays r next
@@ -99,8 +99,8 @@ closes_stays table at name r next is =
     let hidden = closing table at name r.world found.0 found.1 in
     end_step_stays event at hidden.made r next found.0 (λ side. refl) hidden.next_is found.2
 
-closes_unseen : (at : Side) (name : HalfName) → IsUnseen (Closes at name)
-closes_unseen at name table c reason entry r next is =
+closes_internal : (at : Side) (name : HalfName) → IsUnseen (Closes at name)
+closes_internal at name table c reason entry r next is =
     closes_stays table at name r next (some_ok (stepped table (Closes at name) r) (fault_at reason entry) next is)
 
 expires_stays : (table : Table) (at : Side) (name : HalfName) (id : ℤ) (r next : Replay)
@@ -111,11 +111,11 @@ expires_stays table at name id r next is =
     let hidden = expiry table at name id r.world found.0 found.1 in
     end_step_stays event at hidden.made r next found.0 (λ side. refl) hidden.next_is found.2
 
-expires_unseen : (at : Side) (name : HalfName) (id : ℤ) → IsUnseen (Expires at name id)
-expires_unseen at name id table c reason entry r next is =
+expires_internal : (at : Side) (name : HalfName) (id : ℤ) → IsUnseen (Expires at name id)
+expires_internal at name id table c reason entry r next is =
     expires_stays table at name id r next (some_ok (stepped table (Expires at name id) r) (fault_at reason entry) next is)
 
-pub listed_stay : (table : Table) (c : Certificate) (listed : List Listed) (r next : Replay)
+pub listed_stay : (table : Table) (c : Certificate) (listed : List ListedStep) (r next : Replay)
     → all_replayed table c listed r ≡ Ok next → Stays r next
 listed_stay table c [] r next is = stays_same r next (ok_same {F = CheckFault} r next is)
 listed_stay table c (x ∷ more) r next is =
@@ -123,7 +123,7 @@ listed_stay table c (x ∷ more) r next is =
     let found = then_ok (ok_or (event_listed r.world.sent x) (fault_at FateRange (entry_of x))) _ then.0 then.1 in
     let named = some_ok (event_listed r.world.sent x) (fault_at FateRange (entry_of x)) found.0 found.1 in
     stays_then r then.0 next
-    (listed_so IsUnseen r.world.sent x (closes_unseen (side_of x)) (expires_unseen (side_of x)) found.0 named table c (why_refused x) (entry_of x) r then.0
+    (listed_so IsUnseen r.world.sent x (closes_internal (side_of x)) (expires_internal (side_of x)) found.0 named table c (why_refused x) (entry_of x) r then.0
     found.2) (listed_stay table c more then.0 next then.2)
 
 -- ---- expiries that a message implies

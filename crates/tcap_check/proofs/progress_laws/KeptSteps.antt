@@ -19,13 +19,13 @@ use Rattle.tcap_model.specs.declared.reason.Reason.TheVariants.{BadReply, NotQui
 use Rattle.tcap_certificate.specs.declared.certificate.Fate.{Fate}
 use Rattle.tcap_certificate.specs.declared.certificate.Fate.TheVariants.{Gap, Lost, By}
 use Rattle.tcap_record.specs.Ends.{other}
-use Rattle.tcap_model.specs.World.{Item, OnItsWay, Sent, World, channel_from, end_at, with_channel, with_end}
+use Rattle.tcap_model.specs.World.{Item, MessageInTransit, Sent, World, channel_from, end_at, with_channel, with_end}
 use Rattle.tcap_model.specs.Run.{Sends, Receives, Replies, Loses, Closes, Quiet, after, joined}
 use Rattle.tcap_certificate.specs.Certificate.{Certificate}
 use Rattle.tcap_certificate.specs.DescribedRun.{invoking_half, sending_by}
-use Rattle.tcap_certificate.specs.Replay.{Replay, all_lost_from, behind_sending, closed_at_mark, closed_before, deliveries_by, discarded, fault_at, gap_by, happens, heard, implied_over, is_abort, lost_from_front, lost_last, message_by, next_entry, received, send_replayed, sent_or_refused, stepped, with_step}
+use Rattle.tcap_certificate.specs.Replay.{Replay, all_lost_from, after_sending, closed_at_mark, closed_before, deliveries_by, discarded, fault_at, gap_by, after_event, delivered, implied_over, is_abort, lost_from_front, lost_last, message_by, next_entry, received, send_replayed, sent_or_refused, stepped, with_step}
 use Rattle.tcap_check.proofs.replay_laws.ReplaySteps.{discard_is, waiting, sending_so}
-use Rattle.tcap_check.specs.ReplaySteps.{is_heard}
+use Rattle.tcap_check.specs.ReplaySteps.{is_received_from}
 use Rattle.tcap_model.proofs.RunLaws.{delivery, loss, map_some, quiet as quiet_step, reply}
 use Rattle.tcap_check.proofs.progress_laws.KeptCounts.{count_behind, count_for, counts_same, is_next, joined_waits, losses_wait, new_by, not_next, taken_waits}
 use Rattle.tcap_check.proofs.progress_laws.KeptDeliveries.{due_is}
@@ -55,7 +55,7 @@ end_waits judged fates side e w = counts_same judged fates w (with_end side e w)
 
 module _ (judged : Option Side) (table : Table) (c : Certificate) where
   -- A message that is received was waiting.
-  receives_wait : (side : Side) (number : ℕ) (before next : Replay) (r : Replay) → is_heard judged (other side) ≡ true
+  receives_wait : (side : Side) (number : ℕ) (before next : Replay) (r : Replay) → is_received_from judged (other side) ≡ true
       → before ≡ lost_from_front c (other side) r → stepped table (Receives side number) before ≡ Some next
       → count_for judged c.fates next.world + 1 ≡ count_for judged c.fates r.world
   receives_wait side number before next r so same is =
@@ -68,14 +68,14 @@ module _ (judged : Option Side) (table : Table) (c : Certificate) where
       ∙ taken_waits judged c (other side) r d.head d.more so (ap (λ (x : Replay). channel_from (other side) x.world) (sym same) ∙ d.channel)
 
   -- A message that is answered was waiting, and the answer joins.
-  replies_wait : (side : Side) (message : Message) (number : ℕ) (r next : Replay) → is_heard judged (other side) ≡ true
+  replies_wait : (side : Side) (message : Message) (number : ℕ) (r next : Replay) → is_received_from judged (other side) ≡ true
       → message_by table c side message (Some (Replies side number)) r ≡ Ok next
       → count_for judged c.fates next.world + 1
-      ≡ count_for judged c.fates r.world + cond (is_heard judged side) (new_by (slice_get c.fates (next_entry r))) 0
+      ≡ count_for judged c.fates r.world + cond (is_received_from judged side) (new_by (slice_get c.fates (next_entry r))) 0
   replies_wait side message number r next so is =
       let event = Replies side number in
       let before = lost_from_front c (other side) r in
-      let happened = then_ok (happens table c event BadReply (next_entry r) r) _ next is in
+      let happened = then_ok (after_event table c event BadReply (next_entry r) r) _ next is in
       let is_it = needs_ok (is_abort message (slice_get happened.0.world.sent (next_entry r))) (fault_at BadReply (next_entry r)) _ next happened.2 in
       let last : happened.0 ≡ next = ok_same {F = CheckFault} happened.0 next is_it.1 in
       let step = some_ok (stepped table event before) (fault_at BadReply (next_entry r)) happened.0 happened.1 in
@@ -85,11 +85,11 @@ module _ (judged : Option Side) (table : Table) (c : Certificate) where
       let sent : left.sent ≡ r.world.sent =
       sent_with_channel (other side) a.more before.world ∙ sent_with_channel (other side) _ r.world in
       let next_is : count_for judged c.fates next.world
-      ≡ count_for judged c.fates left + cond (is_heard judged side) (new_by (slice_get c.fates (next_entry r))) 0 =
+      ≡ count_for judged c.fates left + cond (is_received_from judged side) (new_by (slice_get c.fates (next_entry r))) 0 =
       ap (λ (x : Replay). count_for judged c.fates x.world) (sym (found.2 ∙ last))
       ∙ ap (count_for judged c.fates) a.next_is
       ∙ joined_waits judged c.fates side a.abort left
-      ∙ ap (λ (x : List Item). count_for judged c.fates left + cond (is_heard judged side) (new_by (slice_get c.fates (length x))) 0) sent in
+      ∙ ap (λ (x : List Item). count_for judged c.fates left + cond (is_received_from judged side) (new_by (slice_get c.fates (length x))) 0) sent in
       let was = taken_waits judged c (other side) r a.head a.more so a.channel in
       omega (arith, next_is, was)
 
@@ -105,12 +105,12 @@ module _ (judged : Option Side) (table : Table) (c : Certificate) where
       )
     where
       none : (judged : Option Side) (w : World) → w.from_a ≡ [] → w.from_b ≡ [] → count_for judged c.fates w ≡ 0
-      none None w a b = ap₂ (λ (x y : List OnItsWay). length (waiting c.fates x) + length (waiting c.fates y)) a b
-      none (Some sides.A) w a b = ap (λ (x : List OnItsWay). length (waiting c.fates x)) b
-      none (Some sides.B) w a b = ap (λ (x : List OnItsWay). length (waiting c.fates x)) a
+      none None w a b = ap₂ (λ (x y : List MessageInTransit). length (waiting c.fates x) + length (waiting c.fates y)) a b
+      none (Some sides.A) w a b = ap (λ (x : List MessageInTransit). length (waiting c.fates x)) b
+      none (Some sides.B) w a b = ap (λ (x : List MessageInTransit). length (waiting c.fates x)) a
 
 -- A message that an end receives, or discards if it is judged alone, was waiting.
-heard_waits : (table : Table) (c : Certificate) (side : Side) (n : ℕ) (r next : Replay) → heard table c side n r ≡ Ok next
+heard_waits : (table : Table) (c : Certificate) (side : Side) (n : ℕ) (r next : Replay) → delivered table c side n r ≡ Ok next
     → count_for (Some side) c.fates next.world + 1 ≡ count_for (Some side) c.fates r.world
 heard_waits table c side n r next is =
     by (stepped table (Receives side n) before) refl
@@ -180,10 +180,10 @@ deliveries_wait judged table c gap n (fate ∷ fates) (Sent sender message ∷ i
     still true rest = omega (arith, rest)
     still false rest = rest
 
-    due : (g : ℕ) (b : Bool) → (g == gap) ≡ b → (so : Bool) → is_heard judged sender ≡ so → ((mid : Replay) → Rest mid)
+    due : (g : ℕ) (b : Bool) → (g == gap) ≡ b → (so : Bool) → is_received_from judged sender ≡ so → ((mid : Replay) → Rest mid)
         → (cond (b && so) (received judged table c sender n r) (Ok r) >>= deliveries_by judged table c gap (n + 1) fates items) ≡ Ok next
-        → last + cond (is_heard judged sender && nat_le gap g) (old + 1) old
-        ≡ count_for judged c.fates r.world + cond (is_heard judged sender && nat_le (gap + 1) g) (new + 1) new
+        → last + cond (is_received_from judged sender && nat_le gap g) (old + 1) old
+        ≡ count_for judged c.fates r.world + cond (is_received_from judged sender && nat_le (gap + 1) g) (new + 1) new
     due g true e true told on goes =
         let one = then_ok (received judged table c sender n r) _ next goes in
         let took = received_waits judged table c sender n r one.0 one.1 in
@@ -199,11 +199,11 @@ deliveries_wait judged table c gap n (fate ∷ fates) (Sent sender message ∷ i
         → last + count_behind judged gap gap (fate ∷ fates) (Sent sender message ∷ items)
         ≡ count_for judged c.fates r.world + count_behind judged (gap + 1) gap (fate ∷ fates) (Sent sender message ∷ items)
     by (Gap g) on e =
-        due g (g == gap) refl (is_heard judged sender) refl on
+        due g (g == gap) refl (is_received_from judged sender) refl on
         (ap (λ (x : Bool). cond x (received judged table c sender n r) (Ok r) >>= deliveries_by judged table c gap (n + 1) fates items)
         (sym (due_is judged gap g sender)) ∙ e)
-    by (By k) on e = still (is_heard judged sender && nat_le gap k) (on r e)
-    by Lost on e = still (is_heard judged sender && false) (on r e)
+    by (By k) on e = still (is_received_from judged sender && nat_le gap k) (on r e)
+    by Lost on e = still (is_received_from judged sender && false) (on r e)
 
 -- The gap before the next entry.
 pub gap_waits : (judged : Option Side) (table : Table) (c : Certificate) (r next : Replay) → gap_by judged table c r ≡ Ok next
@@ -222,14 +222,14 @@ gap_waits judged table c r next is =
 sends_wait : (judged : Option Side) (table : Table) (c : Certificate) (side : Side) (message : Message) (r next : Replay)
     → send_replayed table side message (implied_over table side message (invoking_half message) r) ≡ Ok next
     → count_for judged c.fates next.world
-    ≡ count_for judged c.fates r.world + cond (is_heard judged side) (new_by (slice_get c.fates (next_entry r))) 0
+    ≡ count_for judged c.fates r.world + cond (is_received_from judged side) (new_by (slice_get c.fates (next_entry r))) 0
 sends_wait judged table c side message r next is = by (send table (end_at side mid.world) message) is
   where
     mid : Replay
     mid = implied_over table side message (invoking_half message) r
 
     new_at : List Item → ℕ
-    new_at items = cond (is_heard judged side) (new_by (slice_get c.fates (length items))) 0
+    new_at items = cond (is_received_from judged side) (new_by (slice_get c.fates (length items))) 0
 
     by : (o : Result End EndFault) → sent_or_refused side message mid o ≡ Ok next
         → count_for judged c.fates next.world ≡ count_for judged c.fates r.world + new_at r.world.sent
@@ -246,10 +246,10 @@ sends_wait judged table c side message r next is = by (send table (end_at side m
 
 -- A message of a judged end joins, and what it takes was waiting.
 pub message_waits : (judged : Option Side) (table : Table) (c : Certificate) (side : Side) (message : Message) (takes : List ℕ)
-    (r next : Replay) → is_heard judged (other side) ≡ true
+    (r next : Replay) → is_received_from judged (other side) ≡ true
     → message_by table c side message (sending_by c (next_entry r) (Sent side message) takes) r ≡ Ok next
     → count_for judged c.fates next.world + length takes
-    ≡ count_for judged c.fates r.world + cond (is_heard judged side) (new_by (slice_get c.fates (next_entry r))) 0
+    ≡ count_for judged c.fates r.world + cond (is_received_from judged side) (new_by (slice_get c.fates (next_entry r))) 0
 message_waits judged table c side message takes r next so is =
     sending_so (λ takes o. message_by table c side message o r ≡ Ok next
     → count_for judged c.fates next.world + length takes ≡ joins) c (next_entry r) side message
@@ -257,11 +257,11 @@ message_waits judged table c side message takes r next so is =
     (λ taken e. replies_wait judged table c side message taken r next so e) (λ takes e. cc) takes is
   where
     joins : ℕ
-    joins = count_for judged c.fates r.world + cond (is_heard judged side) (new_by (slice_get c.fates (next_entry r))) 0
+    joins = count_for judged c.fates r.world + cond (is_received_from judged side) (new_by (slice_get c.fates (next_entry r))) 0
 
 -- A message of an end that is judged alone does not count, so its loss changes nothing.
 pub sent_waits : (judged : Option Side) (c : Certificate) (step : Result Replay CheckFault) (next : Replay)
-    → behind_sending judged step ≡ Ok next
+    → after_sending judged step ≡ Ok next
     → (made : Replay) × (step ≡ Ok made) × (count_for judged c.fates next.world ≡ count_for judged c.fates made.world)
 sent_waits None c step next is = (next, is, refl)
 sent_waits (Some judged) c step next is =
@@ -269,7 +269,7 @@ sent_waits (Some judged) c step next is =
       made.0,
       made.1,
       ap (λ (x : Replay). count_for (Some judged) c.fates x.world) (sym (ok_same {F = CheckFault} (all_lost_from judged made.0) next made.2))
-          ∙ ap (λ (x : List OnItsWay). length (waiting c.fates x)) (peer_stays judged _ made.0.world),
+          ∙ ap (λ (x : List MessageInTransit). length (waiting c.fates x)) (peer_stays judged _ made.0.world),
     )
 
 -- ---- a quiet mark

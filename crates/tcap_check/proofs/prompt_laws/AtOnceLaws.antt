@@ -11,11 +11,11 @@ use Rattle.tcap_end.specs.End.{End}
 use Rattle.tcap_end.specs.Message.{send}
 use Rattle.tcap_end.specs.Table.{Table}
 use Rattle.tcap_record.specs.Ends.{other}
-use Rattle.tcap_model.specs.World.{Item, OnItsWay, Sent, World, channel_from, empty, with_end}
-use Rattle.tcap_model.specs.Run.{Event, Sends, Receives, Replies, Loses, Expires, Closes, Quiet, Tells, IsRunOf, Runs, after, joined, numbers_of, numbers_sent, numbers_taken, played, then_so}
+use Rattle.tcap_model.specs.World.{Item, MessageInTransit, Sent, World, channel_from, empty, with_end}
+use Rattle.tcap_model.specs.Run.{Event, Sends, Receives, Replies, Loses, Expires, Closes, Quiet, Tells, IsRunOf, Runs, after, joined, numbers_of, numbers_sent, numbers_taken, played, option_then}
 use Rattle.tcap_certificate.specs.Certificate.{Certificate, IsPrompt, prompt}
 use Rattle.tcap_certificate.specs.DescribedRun.{Follows, IsPlain, deliveries, is_loss, losses_from, without_losses}
-use Rattle.tcap_check.specs.GivenRun.{DeliversAtOnce, IsSeen, is_over_or_sends}
+use Rattle.tcap_check.specs.GivenRun.{DeliversAtOnce, IsVisible, is_over_or_sends}
 use Rattle.tcap_model.proofs.ListLaws.{all_weaker}
 use Rattle.tcap_model.proofs.RunLaws.{IsDelivery, delivery, grows, quiet, reply, sending}
 use Rattle.tcap_model.proofs.RunLaws.{played_on}
@@ -34,7 +34,7 @@ nothing_more : {A : Type 0} (xs ys : List A) → xs ++ ys ≡ xs → ys ≡ []
 nothing_more [] ys is = is
 nothing_more (x ∷ xs) ys is = nothing_more xs ys cc
 
-no_numbers : (messages : List OnItsWay) → numbers_of messages ≡ [] → messages ≡ []
+no_numbers : (messages : List MessageInTransit) → numbers_of messages ≡ [] → messages ≡ []
 no_numbers [] is = refl
 no_numbers (m ∷ messages) is = cc
 
@@ -81,7 +81,7 @@ plays_sent table (event ∷ events) w final is plain =
   where
     by : (o : Option World) → after table event w ≡ o
         → ((next : World) → played table events next ≡ Some final → final.sent ≡ next.sent ++ sent_in events)
-        → then_so o (played table events) ≡ Some final → final.sent ≡ w.sent ++ sent_in (event ∷ events)
+        → option_then o (played table events) ≡ Some final → final.sent ≡ w.sent ++ sent_in (event ∷ events)
     by None at on is = cc
     by (Some next) at on is =
         on next is ∙ ap (λ (items : List Item). items ++ sent_in events) (step_sent table event w next at plain.0)
@@ -125,7 +125,7 @@ followed_at_once table c items events is_prompt run follows before behind w spli
 -- Nothing is on its way, or one message, whose delivery comes next.
 abbrev Waits : World → List Event → Type 0
 Waits w here = ((w.from_a ≡ []) × (w.from_b ≡ []) × (here ≡ []))
-    ⊎ ((side : Side) × (on : OnItsWay) × (channel_from side w ≡ on ∷ []) × (channel_from (other side) w ≡ [])
+    ⊎ ((side : Side) × (on : MessageInTransit) × (channel_from side w ≡ on ∷ []) × (channel_from (other side) w ≡ [])
     × (here ≡ Receives (other side) on.number ∷ []))
 
 -- nothing is on its way
@@ -181,17 +181,17 @@ adds_item w next final here item events none so sent (left, final_is, on) =
 sent_waits : (side : Side) (m : Message) (made : End) (w : World) → IsFree w
     → Waits (joined side m (with_end side made w)) (delivery_of (length w.sent) (Sent side m))
 sent_waits sides.A m made w free =
-    let on : OnItsWay = record { number = length w.sent; message = m } in
-    inr (sides.A, on, ap (λ (more : List OnItsWay). more ++ on ∷ []) free.0, free.1, refl)
+    let on : MessageInTransit = record { number = length w.sent; message = m } in
+    inr (sides.A, on, ap (λ (more : List MessageInTransit). more ++ on ∷ []) free.0, free.1, refl)
 sent_waits sides.B m made w free =
-    let on : OnItsWay = record { number = length w.sent; message = m } in
-    inr (sides.B, on, ap (λ (more : List OnItsWay). more ++ on ∷ []) free.1, free.0, refl)
+    let on : MessageInTransit = record { number = length w.sent; message = m } in
+    inr (sides.B, on, ap (λ (more : List MessageInTransit). more ++ on ∷ []) free.1, free.0, refl)
 
-alone : (on head : OnItsWay) (more : List OnItsWay) → on ∷ [] ≡ head ∷ more → (on.number ≡ head.number) × (more ≡ [])
-alone on head more is = let same : on ≡ head = cc in (ap (λ (m : OnItsWay). m.number) same, cc)
+alone : (on head : MessageInTransit) (more : List MessageInTransit) → on ∷ [] ≡ head ∷ more → (on.number ≡ head.number) × (more ≡ [])
+alone on head more is = let same : on ≡ head = cc in (ap (λ (m : MessageInTransit). m.number) same, cc)
 
 -- After the message is received, nothing is on its way, and nothing was sent.
-received_free : (table : Table) (side receiver : Side) (on : OnItsWay) (number : ℕ) (w next : World)
+received_free : (table : Table) (side receiver : Side) (on : MessageInTransit) (number : ℕ) (w next : World)
     → channel_from side w ≡ on ∷ []
     → channel_from (other side) w ≡ [] → IsDelivery table receiver number w next
     → IsFree next × (next.sent ≡ w.sent) × (Receives (other side) on.number ≡ Receives receiver number)
@@ -212,7 +212,7 @@ received_free table sides.B sides.A on number w next full free d =
 
 -- One step of such a run, and the rest after it.
 one_step : (table : Table) (event : Event) (events : List Event) (w next final : World) (here : List Event)
-    → (is_over_or_sends (event ∷ events) ≡ true → IsFree w) → IsSeen event → after table event w ≡ Some next
+    → (is_over_or_sends (event ∷ events) ≡ true → IsFree w) → IsVisible event → after table event w ≡ Some next
     → Waits w here
     → ((later : List Event) → Waits next later → IsLeft next final later events) → IsLeft w final here (event ∷ events)
 one_step table (Sends side m) events w next final here free seen is waits on =
@@ -259,7 +259,7 @@ one_step table (Tells side m) events w next final here free seen is waits on = a
 
 -- The rest of a run that delivers at once is prompt.
 walked : (table : Table) (events before : List Event) (w final : World) (here : List Event) → Runs table before w
-    → played table events w ≡ Some final → AllByRecursion IsSeen events → DeliversAtOnce table (before ++ events)
+    → played table events w ≡ Some final → AllByRecursion IsVisible events → DeliversAtOnce table (before ++ events)
     → Waits w here
     → IsLeft w final here events
 walked table [] before w final here ran is seen at_once waits =
@@ -278,15 +278,15 @@ walked table (event ∷ events) before w final here ran is seen at_once waits =
         → ((next : World) (later : List Event) → Runs table (before ++ event ∷ []) next
         → played table events next ≡ Some final
         → Waits next later → IsLeft next final later events)
-        → then_so o (played table events) ≡ Some final → IsLeft w final here (event ∷ events)
+        → option_then o (played table events) ≡ Some final → IsLeft w final here (event ∷ events)
     by None at on is = cc
     by (Some next) at on is =
         let ran_on : Runs table (before ++ event ∷ []) next =
-        played_on table before (event ∷ []) empty w ran ∙ ap (λ (o : Option World). then_so o (played table [])) at in
+        played_on table before (event ∷ []) empty w ran ∙ ap (λ (o : Option World). option_then o (played table [])) at in
         one_step table event events w next final here (λ over. at_once before (event ∷ events) w refl over ran)
         seen.0 at waits (λ later waits_on. on next later ran_on is waits_on)
 
-seen_stays : (event : Event) → IsSeen event → is_loss event ≡ false
+seen_stays : (event : Event) → IsVisible event → is_loss event ≡ false
 seen_stays (Loses side number) seen = absurd seen
 seen_stays (Sends side m) seen = refl
 seen_stays (Receives side number) seen = refl
@@ -296,7 +296,7 @@ seen_stays (Closes side name) seen = refl
 seen_stays Quiet seen = refl
 seen_stays (Tells side m) seen = refl
 
-no_losses : (side : Side) (events : List Event) → AllByRecursion IsSeen events → losses_from side events ≡ []
+no_losses : (side : Side) (events : List Event) → AllByRecursion IsVisible events → losses_from side events ≡ []
 no_losses side [] seen = refl
 no_losses side (Loses sender number ∷ events) seen = absurd seen.0
 no_losses side (Sends sender m ∷ events) seen = no_losses side events seen.1
@@ -309,14 +309,14 @@ no_losses side (Tells sender m ∷ events) seen = no_losses side events seen.1
 
 -- A prompt certificate describes each run that delivers at once and has no hidden step.
 pub at_once_follows : (table : Table) (items : List Item) (events : List Event) → IsRunOf items table events
-    → AllByRecursion IsSeen events
+    → AllByRecursion IsVisible events
     → DeliversAtOnce table events → Follows (prompt (length items)) items events
 at_once_follows table items events (w, runs, sent) seen at_once = record {
   counted = counted;
   fates = fates_in (length items) 0 (length items) (omega arith);
   closings = tt;
   expiries = tt;
-  gaps = rw (none_left_out events (all_weaker IsSeen (λ event. is_loss event ≡ false) events seen_stays seen))
+  gaps = rw (none_left_out events (all_weaker IsVisible (λ event. is_loss event ≡ false) events seen_stays seen))
       (prompt_follows c items 0 [] [] items events is_prompt counted refl refl
       (sym (none_before 0 0 c.fates items is_prompt.0 (omega arith))) is);
   losses = λ side. no_losses side events seen ∙ sym (none_lost side 0 0 c.fates items is_prompt.0);

@@ -10,7 +10,7 @@ use Rattle.tcap_record.specs.declared.entry.End.{End as Side}
 use Rattle.tcap_record.specs.declared.entry.End.TheVariants as sides
 use Rattle.tcap_record.specs.Ends.{other}
 use Rattle.tcap_model.specs.World.{Item, Sent}
-use Rattle.tcap_model.specs.Run.{Event, Sends, Receives, Replies, Loses, Expires, Closes, Quiet, Tells, numbers_sent, numbers_taken, where_so}
+use Rattle.tcap_model.specs.Run.{Event, Sends, Receives, Replies, Loses, Expires, Closes, Quiet, Tells, numbers_sent, numbers_taken, only_if}
 use Rattle.tcap_certificate.specs.declared.certificate.Fate.{Fate}
 use Rattle.tcap_certificate.specs.declared.certificate.Fate.TheVariants.{Gap, Lost, By}
 use Rattle.tcap_certificate.specs.Certificate.{Certificate, IsPrompt, prompt_fates, prompt_from}
@@ -136,7 +136,7 @@ sends_is c n (Sent side (Abort dtid (Some (Cause cause)))) event none is =
     let bad : None ≡ Some event = rw none at is in cc
 sends_is c n Item.Quiet event none is = (by (slice_get c.fates n) (rw none at is), refl)
   where
-    quiet : (b : Bool) → where_so b (Some Quiet) ≡ Some event → event ≡ Quiet
+    quiet : (b : Bool) → only_if b (Some Quiet) ≡ Some event → event ≡ Quiet
     quiet true is = cc
     quiet false is = cc
 

@@ -7,7 +7,7 @@ use Rattle.tcap_record.specs.Ends.{other}
 use Rattle.tcap_end.specs.declared.fault.EndFault.{EndFault}
 use Rattle.tcap_end.specs.declared.half.HalfName.{HalfName}
 use Rattle.tcap_end.specs.End.{End, quiet}
-use Rattle.tcap_end.specs.HiddenSteps.{close, expire, open_halves, quiet_unseen}
+use Rattle.tcap_end.specs.HiddenSteps.{close, expire, open_halves, quiet_after_closings}
 use Rattle.tcap_end.specs.Table.{Table}
 use Rattle.tcap_end.specs.Step.{needs, ◌>>◌, ◌>>=◌}
 use Rattle.tcap_model.specs.declared.reason.Reason.TheVariants.{BadReply, NotQuiet}
@@ -19,14 +19,14 @@ use Rattle.tcap_check.specs.declared.progress.Progress.{Progress}
 use Rattle.tcap_check.specs.declared.progress.Waiting.{Waiting}
 use Rattle.tcap_certificate.specs.Certificate.{Certificate}
 use Rattle.tcap_check.specs.CheckerMeaning.{taken}
-use Rattle.tcap_check.specs.ReplaySteps.{closed_or_not, deliveries_kept, delivery_kept, first_heard, gap_kept, halves_closed, halves_quieted, heard_from, mark_taken, message_heard, message_received, received_or_not}
+use Rattle.tcap_check.specs.ReplaySteps.{closed_or_not, deliveries_kept, delivery_kept, first_delivered, gap_kept, halves_closed, halves_quieted, received_sender, mark_taken, message_delivered, message_received, received_or_not}
 use Rattle.tcap_check.specs.EntryOutlines.{half_closed, invocation_ended}
-use Rattle.tcap_check.specs.Progress.{both_quiet, end_moved, first_answered, front_lost, is_empty, last_lost, map_ok, may_be_answered, quiet_kept, seat_at, sent_by, with_told, with_waiting, all_kept, listed_kept}
+use Rattle.tcap_check.specs.Progress.{both_quiet, end_moved, first_answered, front_lost, is_empty, last_lost, map_ok, may_be_answered, quiet_kept, seat_at, sent_by, with_steps, with_waiting, all_kept, listed_kept}
 use Rattle.tcap_certificate.specs.Replay.{fault_at, is_nothing, due_in}
 use Rattle.tcap_check.specs.RunSoFar.{refusal_to_send}
 use Rattle.tcap_check.proofs.refusal_laws.ReasonGaps.{needs_err, then_err}
-use Rattle.tcap_check.specs.declared.listed_steps.Listed.{Listed}
-use Rattle.tcap_check.specs.declared.listed_steps.Listed.TheVariants as listings
+use Rattle.tcap_check.specs.declared.listed_steps.ListedStep.{ListedStep}
+use Rattle.tcap_check.specs.declared.listed_steps.ListedStep.TheVariants as listings
 use Rattle.tcap_check.specs.ListedSteps.{listed_for}
 
 -- The fault is not that an end may not send a message.
@@ -49,7 +49,7 @@ named_no : {N : Type 0} (side : Side) (event : N → Event) (answer : N → Resu
 named_no side event answer none refused fault p None is never_none never = same_no none fault (cc) never_none
 named_no side event answer none refused fault p (Some name) is never_none never = moved_no side (event name) refused fault p (answer name) is never
 
-one_no : (table : Table) (entries : List Outline) (since : ℕ) (x : Listed) (p : Progress) (fault : CheckFault)
+one_no : (table : Table) (entries : List Outline) (since : ℕ) (x : ListedStep) (p : Progress) (fault : CheckFault)
     → listed_kept table entries since x p ≡ Err fault → NoSend fault
 one_no table entries since (listings.Closes x) p fault is =
     named_no x.side (Closes x.side) (close table (seat_at x.side p).end) _ _ fault p (half_closed entries since x) is refl refl
@@ -57,7 +57,7 @@ one_no table entries since (listings.Expires x) p fault is =
     named_no x.side (λ (n : HalfName × ℤ). Expires x.side n.0 n.1) (λ n. expire table (seat_at x.side p).end n.0 n.1) _ _ fault p
     (invocation_ended entries since x) is refl refl
 
-listed_no : (table : Table) (entries : List Outline) (since : ℕ) (xs : List Listed) (p : Progress) (fault : CheckFault)
+listed_no : (table : Table) (entries : List Outline) (since : ℕ) (xs : List ListedStep) (p : Progress) (fault : CheckFault)
     → all_kept table entries since xs p ≡ Err fault → NoSend fault
 listed_no table entries since [] p fault is = cc
 listed_no table entries since (x ∷ xs) p fault is =
@@ -76,24 +76,24 @@ heard_no None side number p (Err reason) fault is = same_no (fault_at BadReply n
 heard_no (Some judged) side number p (Err reason) fault is = cc
 
 found_no : (table : Table) (number : ℕ) (messages : List Waiting) (e : End) (fault : CheckFault)
-    → first_heard table number messages e ≡ Err fault → NoSend fault
+    → first_delivered table number messages e ≡ Err fault → NoSend fault
 found_no table number [] e fault is = same_no (fault_at BadReply number) fault (cc) refl
 found_no table number (first ∷ more) e fault is =
-    by (needs_err (first.number == number) (fault_at BadReply number) (message_heard table number first.message e) fault is)
+    by (needs_err (first.number == number) (fault_at BadReply number) (message_delivered table number first.message e) fault is)
   where
-    of : (o : Option Message) → message_heard table number o e ≡ Err fault → NoSend fault
+    of : (o : Option Message) → message_delivered table number o e ≡ Err fault → NoSend fault
     of None none = same_no (fault_at BadReply number) fault (cc) refl
     of (Some message) none = cc
 
     by : (((first.number == number) ≡ false) × (fault_at BadReply number ≡ fault))
-        ⊎ (((first.number == number) ≡ true) × (message_heard table number first.message e ≡ Err fault)) → NoSend fault
+        ⊎ (((first.number == number) ≡ true) × (message_delivered table number first.message e ≡ Err fault)) → NoSend fault
     by (inl (other, same)) = same_no (fault_at BadReply number) fault same refl
     by (inr (this, none)) = of first.message none
 
 received_no : (judged : Option Side) (table : Table) (sender : Side) (number : ℕ) (p : Progress) (fault : CheckFault)
     → message_received judged table sender number p ≡ Err fault → NoSend fault
 received_no judged table sender number p fault is =
-    by (then_err (first_heard table number messages e) (received_or_not judged (other sender) number left) fault is)
+    by (then_err (first_delivered table number messages e) (received_or_not judged (other sender) number left) fault is)
   where
     before : Progress
     before = front_lost judged sender p
@@ -107,8 +107,8 @@ received_no judged table sender number p fault is =
     left : Progress
     left = with_waiting sender (drop 1 messages) before
 
-    by : (first_heard table number messages e ≡ Err fault)
-        ⊎ ((o : Result End EndFault) × (first_heard table number messages e ≡ Ok o) × (received_or_not judged (other sender) number left o ≡ Err fault))
+    by : (first_delivered table number messages e ≡ Err fault)
+        ⊎ ((o : Result End EndFault) × (first_delivered table number messages e ≡ Ok o) × (received_or_not judged (other sender) number left o ≡ Err fault))
         → NoSend fault
     by (inl none) = found_no table number messages e fault none
     by (inr (o, found, refused)) = heard_no judged (other sender) number left o fault refused
@@ -121,7 +121,7 @@ deliveries_no judged table entries (number ∷ numbers) p fault is =
     (then_err (delivery_kept judged table number from p) (deliveries_kept judged table entries numbers) fault is)
   where
     from : Option Side
-    from = heard_from judged (slice_get entries number)
+    from = received_sender judged (slice_get entries number)
 
     of : (o : Option Side) → delivery_kept judged table number o p ≡ Err fault → NoSend fault
     of None none = cc
@@ -138,7 +138,7 @@ pub gap_no : (judged : Option Side) (table : Table) (c : Certificate) (entries :
 gap_no judged table c entries since p fault is =
     by (then_err (all_kept table entries since listed p) (deliveries_kept judged table entries due) fault is)
   where
-    listed : List Listed
+    listed : List ListedStep
     listed = listed_for judged c (length entries)
 
     due : List ℕ
@@ -194,8 +194,8 @@ halves_no : (judged : Option Side) (table : Table) (number : ℕ) (p : Progress)
     → NoSend fault
 halves_no None table number p fault is = cc
 halves_no (Some side) table number p fault is =
-    closed_no side number p (quiet_unseen table (seat_at side p).end) fault
-    (map_err (with_told (map (Closes side) (open_halves (seat_at side p).end))) (halves_quieted side table number p) fault is)
+    closed_no side number p (quiet_after_closings table (seat_at side p).end) fault
+    (map_err (with_steps (map (Closes side) (open_halves (seat_at side p).end))) (halves_quieted side table number p) fault is)
 
 pub mark_no : (judged : Option Side) (table : Table) (number : ℕ) (takes : List ℕ) (p : Progress) (fault : CheckFault)
     → mark_taken judged table number takes p ≡ Err fault → NoSend fault

@@ -16,7 +16,7 @@ use Rattle.tcap_certificate.specs.declared.certificate.Fate.TheVariants.{Gap, Lo
 use Rattle.tcap_certificate.specs.Certificate.{Certificate}
 use Rattle.tcap_model.specs.Entries.{AreItems, IsItem}
 use Rattle.tcap_certificate.specs.DescribedRun.{FatesFit, without_losses}
-use Rattle.tcap_certificate.specs.Replay.{Replay, is_heard, next_entry, gap_by, item_by}
+use Rattle.tcap_certificate.specs.Replay.{Replay, is_received_from, next_entry, gap_by, item_by}
 use Rattle.tcap_model.proofs.RunLaws.{played_on, closing, delivery, expiry, loss, quiet as quiet_step, reply, same_side, sending, some_is, telling, then_some}
 use Rattle.tcap_check.proofs.one_end_laws.AloneCounts.{IsOwn}
 use Rattle.tcap_check.proofs.replay_laws.ReplaySteps.{Extends, IsIn}
@@ -67,7 +67,7 @@ IsOver gaps replies Lost = ⊥
 
 -- Each message to a judged end whose fate is over was taken.
 abbrev pub AreTaken : Option Side → Certificate → ℕ → ℕ → List Item → List Event → Type 0
-AreTaken judged c gaps replies items events = (n : ℕ) (side : Side) (message : Message) (fate : Fate) → is_heard judged side ≡ true
+AreTaken judged c gaps replies items events = (n : ℕ) (side : Side) (message : Message) (fate : Fate) → is_received_from judged side ≡ true
     → slice_get items n ≡ Some (Sent side message) → slice_get c.fates n ≡ Some fate → IsOver gaps replies fate
     → IsIn n (numbers_taken side events)
 
@@ -162,7 +162,7 @@ not_yet number n Lost ahead same over = over
 -- After the next item, each message whose fate is over was taken, if this holds for the messages before the item.
 pub taken_next : (judged : Option Side) (c : Certificate) (count : ℕ) (item : Item) (r next : Replay) → FatesFit count 0 c.fates
     → next.world.sent ≡ r.world.sent ++ item ∷ []
-    → ((n : ℕ) (side : Side) (message : Message) (fate : Fate) → is_heard judged side ≡ true
+    → ((n : ℕ) (side : Side) (message : Message) (fate : Fate) → is_received_from judged side ≡ true
     → slice_get r.world.sent n ≡ Some (Sent side message) → slice_get c.fates n ≡ Some fate
     → IsOver (next_entry r + 1) (next_entry r + 1) fate → IsIn n (numbers_taken side next.events))
     → AreTaken judged c (next_entry next) (next_entry next) next.world.sent next.events

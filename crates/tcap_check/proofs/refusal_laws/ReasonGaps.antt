@@ -22,9 +22,9 @@ use Rattle.tcap_model.specs.Run.{Event, Receives}
 use Rattle.tcap_certificate.specs.Certificate.{Certificate}
 use Rattle.tcap_model.specs.Entries.{AreItems, IsItem}
 use Rattle.tcap_check.specs.GivenRun.{IsAt, IsOutside, IsReason}
-use Rattle.tcap_certificate.specs.Replay.{Replay, all_fit, certificate_fits, deliveries_by, delivery_by, discarded, fate_fits, fates_fit, fault_at, gap_by, happens, is_due, is_judged, lost_before, lost_from_front, next_entry, received, stepped}
-use Rattle.tcap_check.specs.declared.listed_steps.Listed.{Listed}
-use Rattle.tcap_check.specs.declared.listed_steps.Listed.TheVariants as listings
+use Rattle.tcap_certificate.specs.Replay.{Replay, all_fit, certificate_fits, deliveries_by, delivery_by, discarded, fate_fits, fates_fit, fault_at, gap_by, after_event, is_due, is_judged, lost_before, lost_from_front, next_entry, received, stepped}
+use Rattle.tcap_check.specs.declared.listed_steps.ListedStep.{ListedStep}
+use Rattle.tcap_check.specs.declared.listed_steps.ListedStep.TheVariants as listings
 use Rattle.tcap_check.specs.ListedSteps.{all_replayed, entry_of, event_listed, listed_for, listed_in, listed_replayed, side_of, why_refused}
 use Rattle.tcap_check.proofs.replay_laws.ReplayGaps.{gap_is_listed}
 use Rattle.tcap_check.proofs.replay_laws.ReplayLaws.{one_replays}
@@ -199,11 +199,11 @@ in_made f y (x ∷ xs) (inl same) = (x, inl refl, same)
 in_made f y (x ∷ xs) (inr more) = let found = in_made f y xs more in (found.0, inr found.1, found.2)
 
 -- A listed event of a judged end that names nothing, after the items before its gap, is out of range.
-names_none : (judged : Option Side) (table : Table) (c : Certificate) (front rest : List Entry) (items : List Item) (x : Listed)
+names_none : (judged : Option Side) (table : Table) (c : Certificate) (front rest : List Entry) (items : List Item) (x : ListedStep)
     → AreItems front items → IsIn x (listed_for judged c (length front)) → event_listed items x ≡ None
     → IsReason judged table c (front ++ rest) (entry_of x) reasons.FateRange
 names_none judged table c front rest items x are is none =
-    let found = in_filter (λ (y : Listed). is_judged judged (side_of y)) x (listed_in c (length front)) is in
+    let found = in_filter (λ (y : ListedStep). is_judged judged (side_of y)) x (listed_in c (length front)) is in
     by (in_either x (map listings.Closes closings) (map listings.Expires expiries) found.0) found.1
   where
     closings : List Closing
@@ -220,7 +220,7 @@ names_none judged table c front rest items x are is none =
     by (inl closes) so =
         let (y, found, same) = in_made listings.Closes x closings closes in
         let there = in_filter (λ (z : Closing). z.gap == length front) y c.close found in
-        subst (λ (z : Listed). IsReason judged table c (front ++ rest) (entry_of z) reasons.FateRange) (sym same)
+        subst (λ (z : ListedStep). IsReason judged table c (front ++ rest) (entry_of z) reasons.FateRange) (sym same)
         (inr (inl (
           y,
           contained y c.close there.0,
@@ -228,14 +228,14 @@ names_none judged table c front rest items x are is none =
           inr (
             items,
             before y.gap there.1,
-            ap (λ (z : Listed). is_judged judged (side_of z)) (sym same) ∙ so,
+            ap (λ (z : ListedStep). is_judged judged (side_of z)) (sym same) ∙ so,
             ap (event_listed items) (sym same) ∙ none,
           ),
         )))
     by (inr expires) so =
         let (y, found, same) = in_made listings.Expires x expiries expires in
         let there = in_filter (λ (z : Expiry). z.gap == length front) y c.expire found in
-        subst (λ (z : Listed). IsReason judged table c (front ++ rest) (entry_of z) reasons.FateRange) (sym same)
+        subst (λ (z : ListedStep). IsReason judged table c (front ++ rest) (entry_of z) reasons.FateRange) (sym same)
         (inr (inr (
           y,
           contained y c.expire there.0,
@@ -243,21 +243,21 @@ names_none judged table c front rest items x are is none =
           inr (
             items,
             before y.gap there.1,
-            ap (λ (z : Listed). is_judged judged (side_of z)) (sym same) ∙ so,
+            ap (λ (z : ListedStep). is_judged judged (side_of z)) (sym same) ∙ so,
             ap (event_listed items) (sym same) ∙ none,
           ),
         )))
 
 -- The refusal of a listed event that cannot happen shows nothing.
-refused_says : (judged : Option Side) (table : Table) (c : Certificate) (entries : List Entry) (number : ℕ) (x : Listed)
+refused_says : (judged : Option Side) (table : Table) (c : Certificate) (entries : List Entry) (number : ℕ) (x : ListedStep)
     → IsReason judged table c entries number (why_refused x)
 refused_says judged table c entries number (listings.Closes x) = tt
 refused_says judged table c entries number (listings.Expires x) = tt
 
 -- What the refusal of the listed events of a gap shows.
 listed_gap_say : (judged : Option Side) (table : Table) (c : Certificate) (entries : List Entry) (items : List Item)
-    (listed : List Listed) (r : Replay) (fault : CheckFault)
-    → ((x : Listed) → IsIn x listed → event_listed items x ≡ None → IsReason judged table c entries (entry_of x) reasons.FateRange)
+    (listed : List ListedStep) (r : Replay) (fault : CheckFault)
+    → ((x : ListedStep) → IsIn x listed → event_listed items x ≡ None → IsReason judged table c entries (entry_of x) reasons.FateRange)
     → r.world.sent ≡ items → all_replayed table c listed r ≡ Err fault → Says judged table c entries fault
 listed_gap_say judged table c entries items [] r fault nones so is = cc
 listed_gap_say judged table c entries items (x ∷ listed) r fault nones so is =
@@ -266,7 +266,7 @@ listed_gap_say judged table c entries items (x ∷ listed) r fault nones so is =
   where
     one : (ok_or (event_listed r.world.sent x) (fault_at reasons.FateRange (entry_of x)) ≡ Err fault)
         ⊎ ((event : Event) × (ok_or (event_listed r.world.sent x) (fault_at reasons.FateRange (entry_of x)) ≡ Ok event)
-        × (happens table c event (why_refused x) (entry_of x) r ≡ Err fault)) → Says judged table c entries fault
+        × (after_event table c event (why_refused x) (entry_of x) r ≡ Err fault)) → Says judged table c entries fault
     one (inl refuses) =
         let none = none_err (event_listed r.world.sent x) (fault_at reasons.FateRange (entry_of x)) fault refuses in
         says judged table c entries reasons.FateRange (entry_of x) fault none.1
@@ -334,10 +334,10 @@ gap_says judged table c front rest r fault are is =
     items : List Item
     items = r.world.sent
 
-    listed : List Listed
+    listed : List ListedStep
     listed = listed_for judged c (next_entry r)
 
-    nones : (x : Listed) → IsIn x listed → event_listed items x ≡ None
+    nones : (x : ListedStep) → IsIn x listed → event_listed items x ≡ None
         → IsReason judged table c (front ++ rest) (entry_of x) reasons.FateRange
     nones x found =
         names_none judged table c front rest items x are

@@ -22,7 +22,7 @@ use Rattle.tcap_certificate.specs.Certificate.{Certificate}
 use Rattle.tcap_model.specs.Entries.{IsItem}
 use Rattle.tcap_certificate.specs.DescribedRun.{invoking_half, sending_by}
 use Rattle.tcap_check.specs.GivenRun.{IsAt}
-use Rattle.tcap_certificate.specs.Replay.{Replay, behind_sending, comes_in_order, fault_at, gap_by, happens, implied_over, is_abort, is_heard, is_later, is_nothing, is_overtaking, lost_before, message_by, message_judged, next_entry, own_judged, own_message, refused, sent_or_refused, stepped, tied, time_of, told_replayed, with_step}
+use Rattle.tcap_certificate.specs.Replay.{Replay, after_sending, comes_in_order, fault_at, gap_by, after_event, implied_over, is_abort, is_received_from, is_later, is_nothing, is_overtaking, lost_before, message_by, message_judged, next_entry, own_judged, own_message, refused, sent_or_refused, stepped, tied, time_of, peer_replayed, with_step}
 use Rattle.tcap_check.proofs.refusal_laws.PendingLaws.{SendsSoFar}
 use Rattle.tcap_model.proofs.RunLaws.{same_side}
 use Rattle.tcap_model.proofs.WorldLaws.{itself}
@@ -49,8 +49,8 @@ message_says judged table c entries side message r fault is =
     answered next (inr (fits, differ)) = cc
 
     replied : (number : ℕ)
-        → (happens table c (Replies side number) reasons.BadReply (next_entry r) r ≡ Err fault)
-        ⊎ ((next : Replay) × (happens table c (Replies side number) reasons.BadReply (next_entry r) r ≡ Ok next)
+        → (after_event table c (Replies side number) reasons.BadReply (next_entry r) r ≡ Err fault)
+        ⊎ ((next : Replay) × (after_event table c (Replies side number) reasons.BadReply (next_entry r) r ≡ Ok next)
         × ((needs (is_abort message (slice_get next.world.sent (next_entry r))) (fault_at reasons.BadReply (next_entry r)) >> Ok next)
         ≡ Err fault))
         → Says judged table c entries fault
@@ -71,7 +71,7 @@ message_says judged table c entries side message r fault is =
         let mid = implied_over table side message (invoking_half message) r in
         sent mid (send table (end_at side mid.world) message) refuses
     by (Some (Replies replier number)) refuses =
-        replied number (then_err (happens table c (Replies side number) reasons.BadReply (next_entry r) r) _ fault refuses)
+        replied number (then_err (after_event table c (Replies side number) reasons.BadReply (next_entry r) r) _ fault refuses)
     by (Some (Receives receiver number)) refuses = bad refuses
     by (Some (Loses sender number)) refuses = bad refuses
     by (Some (Expires sender name id)) refuses = bad refuses
@@ -105,7 +105,7 @@ overtaking side fate (first ∷ fates) (Sent sender message ∷ items) is =
 -- A message to a judged end that overtakes an earlier one shows this.
 overtakes_says : (judged : Option Side) (table : Table) (c : Certificate) (front rest : List Entry) (entry : Entry) (fate : Fate)
     (side : Side) (message : Message) (r : Replay) (fault : CheckFault) → SendsSoFar judged table c front (next_entry r) r
-    → IsItem entry (Sent side message) → slice_get c.fates (next_entry r) ≡ Some fate → is_heard judged side ≡ true
+    → IsItem entry (Sent side message) → slice_get c.fates (next_entry r) ≡ Some fate → is_received_from judged side ≡ true
     → not (is_overtaking side fate c.fates r.world.sent) ≡ false → fault_at reasons.OutOfOrder (next_entry r) ≡ fault
     → Says judged table c (front ++ entry ∷ rest) fault
 overtakes_says judged table c front rest entry fate side message r fault old is has heard overtakes same =
@@ -122,7 +122,7 @@ overtakes_says judged table c front rest entry fate side message r fault old is 
 comes_refused : (judged : Option Side) (side : Side) (fate : Fate) (c : Certificate) (r : Replay) (fault : CheckFault)
     → comes_in_order judged side fate c r ≡ Err fault
     → (not (is_overtaking side fate c.fates r.world.sent) ≡ false) × (fault_at reasons.OutOfOrder (next_entry r) ≡ fault)
-    × (is_heard judged side ≡ true)
+    × (is_received_from judged side ≡ true)
 comes_refused None side fate c r fault is = by (not (is_overtaking side fate c.fates r.world.sent)) is
   where
     by : (b : Bool) → needs b (fault_at reasons.OutOfOrder (next_entry r)) ≡ Err fault
@@ -132,7 +132,7 @@ comes_refused None side fate c r fault is = by (not (is_overtaking side fate c.f
 comes_refused (Some judged) side fate c r fault is = cc
 
 -- If the loss just after a send is refused, the send is.
-unsent : (judged : Option Side) (sent : Result Replay CheckFault) (fault : CheckFault) → behind_sending judged sent ≡ Err fault
+unsent : (judged : Option Side) (sent : Result Replay CheckFault) (fault : CheckFault) → after_sending judged sent ≡ Err fault
     → sent ≡ Err fault
 unsent None sent fault is = is
 unsent (Some judged) (Ok next) fault is = cc
@@ -150,7 +150,7 @@ own_says judged table c front rest entry fate side message r fault old is has re
     all = front ++ entry ∷ rest
 
     sent : Replay → Result Replay CheckFault
-    sent mid = behind_sending judged (own_message judged table c side message mid)
+    sent mid = after_sending judged (own_message judged table c side message mid)
 
     behind : (gap_by judged table c r ≡ Err fault)
         ⊎ ((mid : Replay) × (gap_by judged table c r ≡ Ok mid) × (sent mid ≡ Err fault))
@@ -170,7 +170,7 @@ own_says judged table c front rest entry fate side message r fault old is has re
 -- A message of the peer of an end that is judged alone.
 told_says : (side : Side) (table : Table) (c : Certificate) (front rest : List Entry) (entry : Entry) (fate : Fate) (message : Message)
     (r : Replay) (fault : CheckFault) → SendsSoFar (Some side) table c front (next_entry r) r → IsItem entry (Sent (other side) message)
-    → slice_get c.fates (next_entry r) ≡ Some fate → told_replayed table c fate side message r ≡ Err fault
+    → slice_get c.fates (next_entry r) ≡ Some fate → peer_replayed table c fate side message r ≡ Err fault
     → Says (Some side) table c (front ++ entry ∷ rest) fault
 told_says side table c front rest entry fate message r fault old is has refuses =
     by (needs_err (not (is_overtaking (other side) fate c.fates r.world.sent)) (fault_at reasons.OutOfOrder (next_entry r)) _ fault refuses)

@@ -15,7 +15,7 @@ use Rattle.tcap_model.specs.declared.reason.Reason.TheVariants as reasons
 use Rattle.tcap_certificate.specs.declared.certificate.Fate.{Fate}
 use Rattle.tcap_certificate.specs.declared.certificate.Fate.TheVariants.{Gap}
 use Rattle.tcap_record.specs.Ends.{other}
-use Rattle.tcap_model.specs.World.{Item, OnItsWay, channel_from, end_at}
+use Rattle.tcap_model.specs.World.{Item, MessageInTransit, channel_from, end_at}
 use Rattle.tcap_model.specs.Run.{Quiet, after, after_quiet}
 use Rattle.tcap_certificate.specs.Certificate.{Certificate}
 use Rattle.tcap_model.specs.Entries.{AreItems, IsItem, item_of}
@@ -27,7 +27,7 @@ use Rattle.tcap_check.proofs.refusal_laws.FollowingLaws.{follows_all}
 use Rattle.tcap_check.proofs.refusal_laws.PendingLaws.{SendsSoFar, alone_behind, peer_is_nothing}
 use Rattle.tcap_check.proofs.refusal_laws.ReasonGaps.{Says, as_many, gap_says, needs_err, next_at, none_err, says, taken_front, then_err}
 use Rattle.tcap_end.specs.declared.half.HalfName.{HalfName}
-use Rattle.tcap_end.specs.HiddenSteps.{close_each, open_halves, quiet_unseen}
+use Rattle.tcap_end.specs.HiddenSteps.{close_each, open_halves, quiet_after_closings}
 use Rattle.tcap_end.proofs.AnsweringLaws.{ok_same}
 use Rattle.tcap_check.specs.CheckerMeaning.{taken}
 use Rattle.tcap_check.proofs.checker_laws.EntryLaws.{gap_is_heard, taken_is_heard}
@@ -63,7 +63,7 @@ closed_refused (Some side) table c front rest r mid fault took goes refuses =
 alone_open : (side : Side) (table : Table) (c : Certificate) (mark : ℕ) (r closed : Replay)
     → closed_before (Some side) table mark r ≡ Ok closed
     → quiet (end_at side (lost_last (Some side) c closed).world) ≡ Err faults.StillOpen
-    → quiet_unseen table (end_at side r.world) ≡ Err faults.StillOpen
+    → quiet_after_closings table (end_at side r.world) ≡ Err faults.StillOpen
 alone_open side table c mark r closed is not_closed =
     by (close_each table halves (end_at side r.world)) refl (closings_are false table c side mark halves r)
   where
@@ -71,7 +71,7 @@ alone_open side table c mark r closed is not_closed =
     halves = open_halves (end_at side r.world)
 
     by : (o : Result End EndFault) → close_each table halves (end_at side r.world) ≡ o → Closings false table c side mark halves r o
-        → quiet_unseen table (end_at side r.world) ≡ Err faults.StillOpen
+        → quiet_after_closings table (end_at side r.world) ≡ Err faults.StillOpen
     by (Err reason) at none = let both = sym none ∙ is in cc
     by (Ok e) at made =
         let same : made.behind ≡ closed = ok_same {F = CheckFault} made.behind closed (sym made.closes ∙ is) in
@@ -105,7 +105,7 @@ still_open (Some one) table c front rest r mid closed side took goes closes old 
     by : (one at : Side) → SendsSoFar (Some one) table c front (next_entry r + 1) (lost_last (Some one) c closed)
         → closed_before (Some one) table (next_entry r) mid ≡ Ok closed
         → quiet (end_at at (lost_last (Some one) c closed).world) ≡ Err faults.StillOpen
-        → quiet_unseen table (end_at one mid.world) ≡ Err faults.StillOpen
+        → quiet_after_closings table (end_at one mid.world) ≡ Err faults.StillOpen
     by sides.A sides.A old closes e = alone_open sides.A table c (next_entry r) mid closed closes e
     by sides.A sides.B old closes e = absurd (peer_quiet sides.A table c front (next_entry r + 1) (lost_last (Some sides.A) c closed) old e)
     by sides.B sides.A old closes e = absurd (peer_quiet sides.B table c front (next_entry r + 1) (lost_last (Some sides.B) c closed) old e)
@@ -156,7 +156,7 @@ mark_refused judged table c front rest r mid fault old took goes refuses =
         same = ap length (last_sent judged table c closed ∙ (before_stays judged table (next_entry r) mid closed closes).sent
             ∙ gap_sends judged table c r mid goes)
 
-        which : ((side : Side) × (head : OnItsWay) × (more : List OnItsWay) × (channel_from side last.world ≡ head ∷ more))
+        which : ((side : Side) × (head : MessageInTransit) × (more : List MessageInTransit) × (channel_from side last.world ≡ head ∷ more))
             ⊎ ((side : Side) × (quiet (end_at side last.world) ≡ Err faults.StillOpen)) → Why
         which (inl (side, head, more, channel)) =
             inl (busy_pends judged table c front rest (next_entry r) closed side head more stands same

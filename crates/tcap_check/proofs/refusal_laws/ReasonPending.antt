@@ -18,12 +18,12 @@ use Rattle.tcap_certificate.specs.declared.fault.CheckFault.{CheckFault}
 use Rattle.tcap_certificate.specs.declared.certificate.Fate.{Fate}
 use Rattle.tcap_certificate.specs.declared.certificate.Fate.TheVariants.{Gap, Lost, By}
 use Rattle.tcap_record.specs.Ends.{other}
-use Rattle.tcap_model.specs.World.{Item, OnItsWay, Sent, World, channel_from, end_at}
-use Rattle.tcap_model.specs.Run.{after_quiet, then_so}
+use Rattle.tcap_model.specs.World.{Item, MessageInTransit, Sent, World, channel_from, end_at}
+use Rattle.tcap_model.specs.Run.{after_quiet, option_then}
 use Rattle.tcap_certificate.specs.Certificate.{Certificate}
 use Rattle.tcap_certificate.specs.DescribedRun.{FatesFit, taken_by}
 use Rattle.tcap_check.specs.GivenRun.{IsAt, IsPending}
-use Rattle.tcap_certificate.specs.Replay.{Replay, closed_before, is_heard, is_nothing, is_sent_by, lost_from_both, lost_from_front, lost_front, lost_last, next_entry, tied}
+use Rattle.tcap_certificate.specs.Replay.{Replay, closed_before, is_received_from, is_nothing, is_sent_by, lost_from_both, lost_from_front, lost_front, lost_last, next_entry, tied}
 use Rattle.tcap_model.specs.SinceMark.{WasSent}
 use Rattle.tcap_model.proofs.ChannelLaws.{were_sent}
 use Rattle.tcap_check.proofs.replay_laws.ReplaySteps.{head_stays, IsIn, both_replay}
@@ -72,7 +72,7 @@ sent_by side (Some (Sent sender message)) is =
 
 -- The next entry takes a message to a judged end.
 abbrev IsTied : Option Side → Certificate → Replay → Type 0
-IsTied judged c r = (side : Side) × (message : Message) × (n : ℕ) × (is_heard judged side ≡ true)
+IsTied judged c r = (side : Side) × (message : Message) × (n : ℕ) × (is_received_from judged side ≡ true)
     × (slice_get r.world.sent n ≡ Some (Sent side message)) × (slice_get c.fates n ≡ Some (By (next_entry r)))
 
 -- If the next entry takes messages, there is one.
@@ -130,7 +130,7 @@ taken_pends judged table c front rest r fit old is = by (one_tied judged table c
 
 -- If nothing is on its way, a mark is refused because of one of the ends.
 one_open : (a b : Bool) (sent : List Item)
-    → then_so (result_ok (needs a faults.StillOpen >> Ok nothing))
+    → option_then (result_ok (needs a faults.StillOpen >> Ok nothing))
     (λ p.
     option_map (λ q. let w : World = record { a = p; b = q; from_a = []; from_b = []; sent = sent } in w)
     (result_ok (needs b faults.StillOpen >> Ok nothing)))
@@ -146,15 +146,15 @@ refused_open is = ap (λ (t : Bool). let o : Result End EndFault = needs t fault
 
 -- If a mark cannot come, a message is on its way, or a half is open.
 pub not_quiet : (w : World) → after_quiet w ≡ None
-    → ((side : Side) × (head : OnItsWay) × (more : List OnItsWay) × (channel_from side w ≡ head ∷ more))
+    → ((side : Side) × (head : MessageInTransit) × (more : List MessageInTransit) × (channel_from side w ≡ head ∷ more))
     ⊎ ((side : Side) × (quiet (end_at side w) ≡ Err faults.StillOpen))
 not_quiet w is = by w.from_a w.from_b is
   where
     Busy : World → Type 0
-    Busy v = ((side : Side) × (head : OnItsWay) × (more : List OnItsWay) × (channel_from side v ≡ head ∷ more))
+    Busy v = ((side : Side) × (head : MessageInTransit) × (more : List MessageInTransit) × (channel_from side v ≡ head ∷ more))
         ⊎ ((side : Side) × (quiet (end_at side v) ≡ Err faults.StillOpen))
 
-    by : (a b : List OnItsWay) → after_quiet (record w { from_a = a; from_b = b }) ≡ None → Busy (record w { from_a = a; from_b = b })
+    by : (a b : List MessageInTransit) → after_quiet (record w { from_a = a; from_b = b }) ≡ None → Busy (record w { from_a = a; from_b = b })
     by (m ∷ a) b is = inl (sides.A, m, a, refl)
     by [] (m ∷ b) is = inl (sides.B, m, b, refl)
     by [] [] is = opened (one_open (all_closed w.a.begun && all_closed w.a.accepted) (all_closed w.b.begun && all_closed w.b.accepted)
@@ -172,7 +172,7 @@ not_there f (Some x) is = cc
 -- ---- messages on their way
 
 -- On the channel to a judged end, the messages after the losses at the front are left.
-left_behind : (judged : Option Side) (c : Certificate) (side : Side) (r : Replay) → is_heard judged side ≡ true
+left_behind : (judged : Option Side) (c : Certificate) (side : Side) (r : Replay) → is_received_from judged side ≡ true
     → channel_from side (lost_last judged c r).world
     ≡ drop (length (lost_front c.fates (channel_from side r.world))) (channel_from side r.world)
 left_behind None c sides.A r heard = refl
@@ -183,7 +183,7 @@ left_behind (Some sides.B) c sides.A r heard = refl
 left_behind (Some sides.B) c sides.B r heard = cc
 
 -- On the channel to an end that is not judged, nothing is left.
-none_behind : (judged : Option Side) (c : Certificate) (side : Side) (r : Replay) → IsHeard judged r → is_heard judged side ≡ false
+none_behind : (judged : Option Side) (c : Certificate) (side : Side) (r : Replay) → IsHeard judged r → is_received_from judged side ≡ false
     → channel_from side (lost_last judged c r).world ≡ []
 none_behind None c side r empty unheard = cc
 none_behind (Some sides.A) c sides.A r empty unheard = empty
@@ -219,13 +219,13 @@ last_sent (Some side) table c r = sent_with_channel (other side) _ r.world
 
 -- A message to a judged end that is on its way, and is not lost by its fate, is pending.
 head_pends : (judged : Option Side) (table : Table) (c : Certificate) (front rest : List Entry) (number : ℕ) (r : Replay) (side : Side)
-    (head : OnItsWay) (more : List OnItsWay) → SendsSoFar judged table c front (number + 1) r → next_entry r ≡ number
-    → is_heard judged side ≡ true → channel_from side r.world ≡ head ∷ more → (slice_get c.fates head.number ≡ Some Lost → ⊥)
+    (head : MessageInTransit) (more : List MessageInTransit) → SendsSoFar judged table c front (number + 1) r → next_entry r ≡ number
+    → is_received_from judged side ≡ true → channel_from side r.world ≡ head ∷ more → (slice_get c.fates head.number ≡ Some Lost → ⊥)
     → IsPending judged c (front ++ rest) number
 head_pends judged table c front rest number r side head more old same heard channel kept = by (slice_get_cases c.fates head.number).1
   where
     listed : slice_get r.world.sent head.number ≡ Some (Sent side head.message)
-    listed = (subst (λ (x : List OnItsWay). AllByRecursion (WasSent r.world side) x) channel
+    listed = (subst (λ (x : List MessageInTransit). AllByRecursion (WasSent r.world side) x) channel
         (were_sent table r.events r.world old.runs side)).0.listed
 
     within : head.number < next_entry r
@@ -264,12 +264,12 @@ head_pends judged table c front rest number r side head more old same heard chan
 
 -- So a message is pending if a mark is refused because of it.
 pub busy_pends : (judged : Option Side) (table : Table) (c : Certificate) (front rest : List Entry) (number : ℕ) (r : Replay) (side : Side)
-    (head : OnItsWay) (more : List OnItsWay) → SendsSoFar judged table c front (number + 1) (lost_last judged c r)
+    (head : MessageInTransit) (more : List MessageInTransit) → SendsSoFar judged table c front (number + 1) (lost_last judged c r)
     → next_entry (lost_last judged c r) ≡ number → IsHeard judged r → channel_from side (lost_last judged c r).world ≡ head ∷ more
     → IsPending judged c (front ++ rest) number
-busy_pends judged table c front rest number r side head more old same empty channel = by (is_heard judged side) refl
+busy_pends judged table c front rest number r side head more old same empty channel = by (is_received_from judged side) refl
   where
-    by : (b : Bool) → is_heard judged side ≡ b → IsPending judged c (front ++ rest) number
+    by : (b : Bool) → is_received_from judged side ≡ b → IsPending judged c (front ++ rest) number
     by true heard =
         head_pends judged table c front rest number (lost_last judged c r) side head more old same heard channel
         (head_stays c.fates (channel_from side r.world) head more (sym (left_behind judged c side r heard) ∙ channel))

@@ -21,13 +21,13 @@ use Rattle.tcap_certificate.specs.DescribedRun.{invoking_half, is_loss, sending_
 use Rattle.tcap_certificate.specs.Replay.{Replay, closed_at_mark, delivery_by, fault_at, gap_by, implied_over, is_due, is_gap, is_judged, is_nothing, is_overtaking, lost_from_front, lost_last, next_entry, received, stepped, tied}
 use Rattle.tcap_check.specs.CheckerMeaning.{is_alone}
 use Rattle.tcap_check.specs.PartialReplay.{as_far, behind_or, deliveries_so_far, fated_so_far, gap_so_far, halves_so_far, losses_before, mark_so_far, message_so_far, next_so_far, quiet_so_far, sending_so_far, listed_so_far}
-use Rattle.tcap_check.specs.RunSoFar.{TellsSo}
+use Rattle.tcap_check.specs.RunSoFar.{IsRunWithDiscards}
 use Rattle.tcap_check.proofs.one_end_laws.AloneReplays.{closed_leads, gap_leads, heard_leads, stepped_adds}
 use Rattle.tcap_check.proofs.replay_laws.DiscardReasons.{tells_front, tells_heard, tells_kept, tells_step}
 use Rattle.tcap_check.proofs.replay_laws.ReplayInvariants.{closed_keeps, gap_keeps, over_keeps, one_keeps}
 use Rattle.tcap_check.proofs.replay_laws.ReplayLaws.{gap_replays, implied_by, one_replays}
 use Rattle.tcap_check.proofs.replay_laws.ReplaySteps.{Extends, extends_nothing, extends_then, losing_replays, stepped_extends}
-use Rattle.tcap_check.specs.declared.listed_steps.Listed.{Listed}
+use Rattle.tcap_check.specs.declared.listed_steps.ListedStep.{ListedStep}
 use Rattle.tcap_check.specs.ListedSteps.{all_replayed, listed_for, listed_replayed}
 
 -- ---- extended replays
@@ -35,7 +35,7 @@ use Rattle.tcap_check.specs.ListedSteps.{all_replayed, listed_for, listed_replay
 -- Steps lead from one replay to the other and send nothing. The discards still account for the losses.
 abbrev pub GoesOn : Option Side → Table → Certificate → Replay → Replay → Type 0
 GoesOn judged table c r next = (more : List Event) × Extends table r more next × (next.world.sent ≡ r.world.sent)
-    × (TellsSo judged table c r → TellsSo judged table c next)
+    × (IsRunWithDiscards judged table c r → IsRunWithDiscards judged table c next)
 
 module _ (judged : Option Side) (table : Table) (c : Certificate) where
   abbrev Goes : Replay → Replay → Type 0
@@ -80,16 +80,16 @@ module _ (judged : Option Side) (table : Table) (c : Certificate) where
 
   -- ---- a gap
 
-  one_goes : (x : Listed) (r next : Replay) → listed_replayed table c x r ≡ Ok next → Goes r next
+  one_goes : (x : ListedStep) (r next : Replay) → listed_replayed table c x r ≡ Ok next → Goes r next
   one_goes x r next is =
       let found = one_replays table c x r next is in (
         found.2.steps,
         found.2.extends,
         found.2.sent ∙ append-nil r.world.sent,
-        one_keeps judged table c (TellsSo judged table c) (tells_kept judged table c) x r next is,
+        one_keeps judged table c (IsRunWithDiscards judged table c) (tells_kept judged table c) x r next is,
       )
 
-  listed_go : (xs : List Listed) (r next : Replay) → all_replayed table c xs r ≡ Ok next → Goes r next
+  listed_go : (xs : List ListedStep) (r next : Replay) → all_replayed table c xs r ≡ Ok next → Goes r next
   listed_go [] r next is = same_on r next is
   listed_go (x ∷ more) r next is =
       let then = then_ok (listed_replayed table c x r) (all_replayed table c more) next is in
@@ -146,7 +146,7 @@ deliveries_far table c judged gap n (fate ∷ fates) (item ∷ items) r =
 
 gap_far : (table : Table) (c : Certificate) (judged : Option Side) (r : Replay) → GoesOn judged table c r (gap_so_far judged table c r)
 gap_far table c judged r =
-    let listed : List Listed = listed_for judged c (next_entry r) in
+    let listed : List ListedStep = listed_for judged c (next_entry r) in
     let last = deliveries_so_far judged table c (next_entry r) 0 c.fates r.world.sent in
     or_goes judged table c r (listed_so_far table c listed r) (all_replayed table c listed r) last
     (as_far_goes judged table c (listed_replayed table c) (one_goes judged table c) listed r)
@@ -160,14 +160,14 @@ gap_goes table c None r next is =
       found.2.steps,
       found.2.extends,
       found.2.sent ∙ append-nil r.world.sent,
-      gap_keeps None table c (TellsSo None table c) (tells_kept None table c) r next is,
+      gap_keeps None table c (IsRunWithDiscards None table c) (tells_kept None table c) r next is,
     )
 gap_goes table c (Some side) r next is =
     let found = gap_leads side table c r next is in (
       found.steps,
       found.extends,
       found.sent ∙ append-nil r.world.sent,
-      gap_keeps (Some side) table c (TellsSo (Some side) table c) (tells_kept (Some side) table c) r next is,
+      gap_keeps (Some side) table c (IsRunWithDiscards (Some side) table c) (tells_kept (Some side) table c) r next is,
     )
 
 -- ---- an entry
@@ -179,7 +179,7 @@ implied_goes table c judged side message r =
       found.2.steps,
       found.2.extends,
       found.2.sent ∙ append-nil r.world.sent,
-      over_keeps judged table c (TellsSo judged table c) (tells_kept judged table c) side message (invoking_half message) r,
+      over_keeps judged table c (IsRunWithDiscards judged table c) (tells_kept judged table c) side message (invoking_half message) r,
     )
 
 message_far : (table : Table) (c : Certificate) (judged : Option Side) (side : Side) (message : Message) (o : Option Event) (r : Replay)
@@ -212,7 +212,7 @@ closed_goes table c side mark names r next is =
       found.steps,
       found.extends,
       found.sent ∙ append-nil r.world.sent,
-      closed_keeps (Some side) table c (TellsSo (Some side) table c) (tells_kept (Some side) table c) side mark names r next is,
+      closed_keeps (Some side) table c (IsRunWithDiscards (Some side) table c) (tells_kept (Some side) table c) side mark names r next is,
     )
 
 mark_far : (table : Table) (c : Certificate) (judged : Option Side) (r : Replay) → GoesOn judged table c r (mark_so_far judged table c r)

@@ -25,10 +25,10 @@ use Rattle.tcap_check.specs.declared.outline.Outline.{Outline}
 use Rattle.tcap_check.specs.declared.progress.Progress.{Progress}
 use Rattle.tcap_check.specs.declared.replaying.Replaying.{Replaying}
 use Rattle.tcap_certificate.specs.Certificate.{Certificate}
-use Rattle.tcap_check.specs.CheckerMeaning.{Kept, TookListed, entry_kept, gap_before, item_kept, kept_ended, kept_next, kept_of, kept_with, taken, tied_now}
+use Rattle.tcap_check.specs.CheckerMeaning.{ReplayState, HasTakenListing, entry_kept, gap_before, item_kept, kept_ended, kept_next, kept_of, kept_with, taken, tied_now}
 use Rattle.tcap_check.specs.GivenRun.{IsAt}
 use Rattle.tcap_check.specs.ReplayInvariants.{checking_of, kept_in}
-use Rattle.tcap_check.specs.ReplaySteps.{gap_kept, mark_taken, told_taken}
+use Rattle.tcap_check.specs.ReplaySteps.{gap_kept, mark_taken, peer_message_taken}
 use Rattle.tcap_check.specs.Progress.{IsMemory, YieldsInMemory, front_lost, last_lost, map_ok, reply_kept, seat_at, sent_by}
 use Rattle.tcap_certificate.specs.Replay.{Replay, all_fit, certificate_fits, fate_fits, fates_fit, fault_at, is_gap, is_nothing}
 use Rattle.tcap_check.specs.RunSoFar.{IsRefusedThere, ShowsAmong, ShowsItem, ShowsSend, of_side, refusal_to_send}
@@ -85,10 +85,10 @@ reply_shows judged table side from fate number at taken abort message p q left r
     (answered_no from fate at abort taken (seat_at (other from) before).waiting before) yields
 
 pub told_shows : (table : Table) (side from : Side) (fate : Fate) (number at : ℕ) (told message : Message) (takes : List ℕ) (p q left : Progress)
-    (result : Result (Unit {0}) CheckFault) → YieldsInMemory (told_taken from fate at told takes p) result q
+    (result : Result (Unit {0}) CheckFault) → YieldsInMemory (peer_message_taken from fate at told takes p) result q
     → ShowsSend table side number message result left
 told_shows table side from fate number at told message takes p q left result yields =
-    step_shows (told_taken from fate at told takes p) table side number message result q left by yields
+    step_shows (peer_message_taken from fate at told takes p) table side number message result q left by yields
   where
     sent : Result Progress CheckFault
     sent = Ok (sent_by (Tells from told) from fate at told p)
@@ -97,12 +97,12 @@ told_shows table side from fate number at told message takes p q left result yie
     of fault (inl (_, same)) = same_no (fault_at BadReply at) fault same refl
     of fault (inr (_, none)) = cc
 
-    by : (fault : CheckFault) → told_taken from fate at told takes p ≡ Err fault → NoSend fault
+    by : (fault : CheckFault) → peer_message_taken from fate at told takes p ≡ Err fault → NoSend fault
     by fault is = of fault (needs_err (is_nothing takes) (fault_at BadReply at) sent fault is)
 
 -- ---- entries
 
-next_no : (judged : Option Side) (table : Table) (c : Certificate) (k : Kept) (fault : CheckFault)
+next_no : (judged : Option Side) (table : Table) (c : Certificate) (k : ReplayState) (fault : CheckFault)
     → kept_next judged table c (Ok Item.Quiet) k ≡ Err fault → NoSend fault
 next_no judged table c k fault is =
     by (then_err (ok_or (slice_get c.fates number) (fault_at FateCount number)) (λ fate. entry_kept judged table c fate (Ok Item.Quiet) k) fault is)
@@ -135,7 +135,7 @@ next_no judged table c k fault is =
     by (inr (fate, found, none)) =
         of fate (then_err (fits fate >> before) mark fault (map_err (kept_with c Item.Quiet k) (item_kept judged table c fate Item.Quiet k) fault none))
 
-pub mark_shows : (judged : Option Side) (table : Table) (c : Certificate) (k behind : Kept) (number : ℕ) (left : Progress)
+pub mark_shows : (judged : Option Side) (table : Table) (c : Certificate) (k behind : ReplayState) (number : ℕ) (left : Progress)
     (result : Result (Unit {0}) CheckFault) → YieldsInMemory (kept_next judged table c (Ok Item.Quiet) k) result behind
     → ShowsItem table number (Ok Item.Quiet) result left
 mark_shows judged table c k behind number left (Ok done) yields = tt
@@ -143,7 +143,7 @@ mark_shows judged table c k behind number left (Err fault) yields =
     in_memory_no (kept_next judged table c (Ok Item.Quiet) k) fault behind (next_no judged table c k) yields
 
 -- an entry that is no item
-pub refused_shows : (judged : Option Side) (table : Table) (c : Certificate) (k : Kept) (reason : Reason) (fault : CheckFault)
+pub refused_shows : (judged : Option Side) (table : Table) (c : Certificate) (k : ReplayState) (reason : Reason) (fault : CheckFault)
     → refusal_to_send reason ≡ None → kept_next judged table c (Err reason) k ≡ Err fault → refusal_to_send fault.reason ≡ None
 refused_shows judged table c k reason fault never is =
     by (then_err (ok_or (slice_get c.fates number) (fault_at FateCount number)) (λ fate. entry_kept judged table c fate (Err reason) k) fault is)
@@ -196,22 +196,22 @@ entry_shows table entries entry number fault left there shows = by (item_of entr
 -- ---- the whole record
 
 -- As many outlines are kept as entries were taken.
-pub count_taken : (x : Replaying) (entries : List Entry) → TookListed true (checking_of x) (map item_of entries)
+pub count_taken : (x : Replaying) (entries : List Entry) → HasTakenListing true (checking_of x) (map item_of entries)
     → length x.entries.items ≡ length entries
 count_taken x entries took = by (taken x.judged x.table.now x.certificate.now (map item_of entries)) refl took
   where
     by : (o : Result Replay CheckFault) → taken x.judged x.table.now x.certificate.now (map item_of entries) ≡ o
-        → (let a : Result Kept CheckFault = Ok (kept_in x) in a) ≡ map_ok (kept_of true x.judged x.certificate.now) o
+        → (let a : Result ReplayState CheckFault = Ok (kept_in x) in a) ≡ map_ok (kept_of true x.judged x.certificate.now) o
         → length x.entries.items ≡ length entries
     by (Err fault) at same = cc
     by (Ok r) at same =
         let is : kept_in x ≡ kept_of true x.judged x.certificate.now r = cc in
-        ap (λ (k : Kept). length k.entries) is ∙ outlines_count x.certificate.now 0 r.world.sent
+        ap (λ (k : ReplayState). length k.entries) is ∙ outlines_count x.certificate.now 0 r.world.sent
         ∙ sym (as_many entries r.world.sent (taken_stands x.judged x.table.now x.certificate.now entries r at).are)
 
 -- If all entries before this one were taken, and it is refused, then it is refused at its number.
 pub next_shows : (table : Table) (all lent : List Entry) (place : ℕ) (entry : Entry) (x : Replaying) (fault : CheckFault) (left : Progress)
-    → lent ≡ all → place < length lent → entry ≡ get_or lent place entry → TookListed true (checking_of x) (map item_of (take place all))
+    → lent ≡ all → place < length lent → entry ≡ get_or lent place entry → HasTakenListing true (checking_of x) (map item_of (take place all))
     → (let o : Result (Unit {0}) CheckFault = Err fault in ShowsItem table (length x.entries.items) (item_of entry) o left)
     → IsRefusedThere table all fault left.a.end left.b.end
 next_shows table all lent place entry x fault left same less is took shows =
@@ -221,7 +221,7 @@ next_shows table all lent place entry x fault left same less is took shows =
     (ap (λ (es : List Entry). slice_get es place) (sym same) ∙ slice_get-get_or lent place entry less ∙ ap (λ (e : Entry). Some e) (sym is))
     (subst (λ (n : ℕ). let o : Result (Unit {0}) CheckFault = Err fault in ShowsItem table n (item_of entry) o left) number shows)
 
-pub end_shows : (judged : Option Side) (table : Table) (c : Certificate) (k : Kept) (entries : List Entry) (left : Progress)
+pub end_shows : (judged : Option Side) (table : Table) (c : Certificate) (k : ReplayState) (entries : List Entry) (left : Progress)
     (result : Result (Unit {0}) CheckFault) → YieldsInMemory (kept_ended judged table c k) result left → ShowsAmong table entries result left
 end_shows judged table c k entries left (Ok done) yields = tt
 end_shows judged table c k entries left (Err fault) yields = rw (in_memory_no (kept_ended judged table c k) fault left never yields) tt

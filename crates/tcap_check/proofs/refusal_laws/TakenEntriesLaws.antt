@@ -19,15 +19,15 @@ use Rattle.tcap_check.specs.declared.progress.Progress.{Progress}
 use Rattle.tcap_check.specs.declared.replaying.Replaying.{Replaying}
 use Rattle.tcap_check.specs.declared.step.Step.{Step}
 use Rattle.tcap_certificate.specs.Certificate.{Certificate}
-use Rattle.tcap_check.specs.CheckerMeaning.{Kept, TookListed, gap_before, kept_next, kept_of, map_ok, progress_of, taken, taken_from, taken_next, tied_now, Checking, Took}
+use Rattle.tcap_check.specs.CheckerMeaning.{ReplayState, HasTakenListing, gap_before, kept_next, kept_of, map_ok, progress_of, taken, taken_from, taken_next, tied_now, CheckerState, HasTaken}
 use Rattle.tcap_certificate.specs.DescribedRun.{FatesFit, taken_by, without_losses}
-use Rattle.tcap_check.specs.ReplaySteps.{told_among}
+use Rattle.tcap_check.specs.ReplaySteps.{sent_among}
 use Rattle.tcap_check.specs.RefusedReplay.{IsListing, end_left, entry_left, gap_left, mark_left}
 use Rattle.tcap_check.specs.ReplayInvariants.{IsSameBesideProgress, checking_of, kept_in}
 use Rattle.tcap_certificate.specs.Replay.{Replay, certificate_fits, entry_by, fates_fit, fault_at, gap_by, is_gap, next_entry, nothing_replayed, item_by}
 use Rattle.tcap_check.specs.PartialReplay.{next_so_far}
-use Rattle.tcap_check.specs.RunSoFar.{IsListed, IsSoFar, StandsAmong, UnlessMemory, stopped_at}
-use Rattle.tcap_check.specs.ReportedSteps.{Told, told_of}
+use Rattle.tcap_check.specs.RunSoFar.{IsListed, IsSoFar, IsPartialReplay, UnlessMemory, stopped_at}
+use Rattle.tcap_check.specs.ReportedSteps.{ListedRun, listed_run_of}
 use Rattle.tcap_check.proofs.checker_laws.CheckerLaws.{checking, took_err}
 use Rattle.tcap_check.proofs.replay_laws.DiscardReasons.{taken_tells}
 use Rattle.tcap_check.proofs.progress_laws.KeptLeft.{left_behind, end_far, entry_far}
@@ -78,13 +78,13 @@ taken_stands judged table c entries r is =
     (ap (λ (o : Result (Unit {0}) CheckFault). o >> goes) (sym fits) ∙ is)
 
 -- What is kept of entries is what is kept of their replay.
-took_replay : (judged : Option Side) (table : Table) (c : Certificate) (k : Kept) (entries : List Entry)
-    → TookListed true (checking judged table c None k) (map item_of entries)
+took_replay : (judged : Option Side) (table : Table) (c : Certificate) (k : ReplayState) (entries : List Entry)
+    → HasTakenListing true (checking judged table c None k) (map item_of entries)
     → (r : Replay) × (taken judged table c (map item_of entries) ≡ Ok r) × (kept_of true judged c r ≡ k)
 took_replay judged table c k entries took = by (taken judged table c (map item_of entries)) refl took
   where
     by : (o : Result Replay CheckFault) → taken judged table c (map item_of entries) ≡ o
-        → (let a : Result Kept CheckFault = Ok k in a) ≡ map_ok (kept_of true judged c) o
+        → (let a : Result ReplayState CheckFault = Ok k in a) ≡ map_ok (kept_of true judged c) o
         → (r : Replay) × (taken judged table c (map item_of entries) ≡ Ok r) × (kept_of true judged c r ≡ k)
     by (Err fault) at same = cc
     by (Ok r) at same = let is : k ≡ kept_of true judged c r = cc in (r, at, sym is)
@@ -92,10 +92,10 @@ took_replay judged table c k entries took = by (taken judged table c (map item_o
 -- Steps of a replay are listed, and still are after a gap.
 pub listed_kept : (judged : Option Side) (c : Certificate) (r : Replay) (p : Progress) → p ≡ progress_of true judged c r → IsListing p
 listed_kept judged c r p is none =
-    let told : Told = record { events = r.events; discards = r.discards } in
+    let told : ListedRun = record { events = r.events; discards = r.discards } in
     some_or_none p.steps told (sym (ap (λ (x : Progress). x.steps) is)) none
   where
-    some_or_none : (o : Option Told) (x : Told) → Some x ≡ o → o ≡ None → ⊥
+    some_or_none : (o : Option ListedRun) (x : ListedRun) → Some x ≡ o → o ≡ None → ⊥
     some_or_none (Some y) x is none = cc
     some_or_none None x is none = cc
 
@@ -109,9 +109,9 @@ listed_behind x q (r, same) is =
     by (Ok next) e = let at : q ≡ progress_of true x.judged x.certificate.now next = cc in listed_kept x.judged x.certificate.now next q at
 
 -- The messages that the next entry takes depend only on the entries.
-tied_alike : (judged : Option Side) (c : Certificate) (k l : Kept) → k.entries ≡ l.entries → tied_now judged c k ≡ tied_now judged c l
+tied_alike : (judged : Option Side) (c : Certificate) (k l : ReplayState) → k.entries ≡ l.entries → tied_now judged c k ≡ tied_now judged c l
 tied_alike None c k l same = ap (λ (es : List Outline). taken_by (length es) 0 c.fates) same
-tied_alike (Some judged) c k l same = ap (λ (es : List Outline). told_among (other judged) es (taken_by (length es) 0 c.fates)) same
+tied_alike (Some judged) c k l same = ap (λ (es : List Outline). sent_among (other judged) es (taken_by (length es) 0 c.fates)) same
 
 -- What is left of a quiet mark after its gap.
 pub mark_after : (x y : Replaying) (fate : Fate) → IsSameBesideProgress x y → slice_get x.certificate.now.fates (length x.entries.items) ≡ Some fate
@@ -130,19 +130,19 @@ mark_after x y fate same has is passed =
 -- An entry that is refused is not replayed.
 pub refused_next : (x : Replaying) (entry : Result Item Reason) (fault : CheckFault)
     → kept_next x.judged x.table.now x.certificate.now entry (kept_in x) ≡ Err fault → (before : List (Result Item Reason))
-    → TookListed true (checking_of x) before → taken x.judged x.table.now x.certificate.now (before ++ entry ∷ []) ≡ Err fault
+    → HasTakenListing true (checking_of x) before → taken x.judged x.table.now x.certificate.now (before ++ entry ∷ []) ≡ Err fault
 refused_next x entry fault is before took =
     by (taken x.judged x.table.now x.certificate.now (before ++ entry ∷ [])) refl
     (took_err true x.judged x.table.now x.certificate.now (kept_in x) (kept_in x) entry fault is before took)
   where
     by : (o : Result Replay CheckFault) → taken x.judged x.table.now x.certificate.now (before ++ entry ∷ []) ≡ o
-        → (let a : Result Kept CheckFault = Err fault in a) ≡ map_ok (kept_of true x.judged x.certificate.now) o → o ≡ Err fault
+        → (let a : Result ReplayState CheckFault = Err fault in a) ≡ map_ok (kept_of true x.judged x.certificate.now) o → o ≡ Err fault
     by (Ok r) at same = cc
     by (Err other) at same = cc
 
 -- The progress is what is kept of these entries' replay, for the ends, table and certificate of x.
 abbrev pub Among : Replaying → List Entry → Progress → Type 0
-Among x entries p = StandsAmong x.table.now x.certificate.now x.judged entries p
+Among x entries p = IsPartialReplay x.table.now x.certificate.now x.judged entries p
 
 -- Both replays have the same judged ends, table and certificate.
 pub record GoesAlike (x y : Replaying) : Type 0 where
@@ -153,7 +153,7 @@ pub record GoesAlike (x y : Replaying) : Type 0 where
 -- The progress if the next entry is refused.
 pub among_refused : (x y : Replaying) (entries : List Entry) (count : ℕ) (entry : Entry) (fault : CheckFault) (left : Progress) → GoesAlike x y
     → count < length entries → drop count entries ≡ entry ∷ drop (count + 1) entries
-    → TookListed true (checking_of y) (map item_of (take count entries))
+    → HasTakenListing true (checking_of y) (map item_of (take count entries))
     → taken y.judged y.table.now y.certificate.now (map item_of (take (count + 1) entries)) ≡ Err fault
     → (IsListed y → left ≡ entry_left y.judged y.table.now y.certificate.now (item_of entry) (kept_in y)) → Among x entries left
 among_refused x y entries count entry fault left alike less next took refused leaves =
@@ -176,7 +176,7 @@ none_behind (entry ∷ entries) = none_behind entries
 
 -- The progress after the last entry.
 pub among_ends : (x y : Replaying) (entries : List Entry) (o : Result (Unit {0}) CheckFault) (left : Progress) → GoesAlike x y
-    → TookListed true (checking_of y) (map item_of entries)
+    → HasTakenListing true (checking_of y) (map item_of entries)
     → UnlessMemory o (left ≡ end_left y.judged y.table.now y.certificate.now (kept_in y)) → UnlessMemory o (Among x entries left)
 among_ends x y entries o left alike took leaves = by o leaves
   where
@@ -216,7 +216,7 @@ in_memory (Err fault) P so other = so (λ is. other (ap (λ (f : CheckFault). le
 
 -- What is kept of a replay up to a refusal is a run that sends the first entries, with the ends after it.
 stands_so_far : (table : Table) (c : Certificate) (judged : Option Side) (entries : List Entry) (p : Progress) (steps : List Step)
-    → StandsAmong table c judged entries p → IfSome p.steps (λ told. told_of steps ≡ told)
+    → IsPartialReplay table c judged entries p → IfSome p.steps (λ told. listed_run_of steps ≡ told)
     → IsSoFar judged table c entries steps p.a.end p.b.end
 stands_so_far table c judged entries p steps among tell =
     let front = among.goes.front in
@@ -228,7 +228,7 @@ stands_so_far table c judged entries p steps among tell =
       goes = among.goes;
       left = left;
       left_is = refl;
-      told = subst (λ (x : Progress). IfSome x.steps (λ (t : Told). told_of steps ≡ t)) among.stands tell;
+      told = subst (λ (x : Progress). IfSome x.steps (λ (t : ListedRun). listed_run_of steps ≡ t)) among.stands tell;
       more = on.0;
       begins = on.1.events;
       leads = runs_on table front left on.0 first.runs on.1;
@@ -241,7 +241,7 @@ stands_so_far table c judged entries p steps among tell =
 -- What is kept of a replay since its creation is a run so far.
 pub replay_so_far : (x : Replaying) (judged : Option Side) (table : Table) (c : Certificate) (entries : List Entry) (kept left : Progress)
     (steps : List Step) → x.judged ≡ judged → x.table.now ≡ table → x.certificate.now ≡ c
-    → left ≡ kept → Among x entries kept → IfSome left.steps (λ told. told_of steps ≡ told)
+    → left ≡ kept → Among x entries kept → IfSome left.steps (λ told. listed_run_of steps ≡ told)
     → IsSoFar judged table c entries steps left.a.end left.b.end
 replay_so_far x judged table c entries kept left steps who at by is among tell =
     rw (sym who, sym at, sym by) (stands_so_far x.table.now x.certificate.now x.judged entries left steps
@@ -318,12 +318,12 @@ replay_is_sent judged table c items r is =
         (length r.events, (r.events, run, keeps, refl))
     by (Some side) from so run = (r.events, run, own_keeps side r.events so)
 
-never_kept : (o : Result Kept CheckFault) (fault : CheckFault) → o ≡ Err fault → IsTrue (is_ok o) → ⊥
+never_kept : (o : Result ReplayState CheckFault) (fault : CheckFault) → o ≡ Err fault → IsTrue (is_ok o) → ⊥
 never_kept (Ok k) fault is so = cc
 never_kept (Err other) fault is so = cc
 
 -- Entries that a checker took, and did not refuse, were replayed.
-pub took_may_be_sent : (s : Checking) (entries : List (Result Item Reason)) → Took s entries → IsTrue (is_ok s.so_far)
+pub took_may_be_sent : (s : CheckerState) (entries : List (Result Item Reason)) → HasTaken s entries → IsTrue (is_ok s.so_far)
     → (items : List Item) × (map ok_item items ≡ entries) × MayBeSent s.judged items s.table
 took_may_be_sent s entries took passed = by (taken s.judged s.table s.certificate entries) refl took
   where

@@ -8,7 +8,7 @@ use Rattle.tcap_record.specs.declared.entry.End.{End as Side}
 use Rattle.tcap_record.specs.declared.entry.End.TheVariants as sides
 use Rattle.tcap_end.specs.Table.{Table}
 use Rattle.tcap_record.specs.Ends.{other}
-use Rattle.tcap_model.specs.World.{Item, OnItsWay, Sent, World, channel_from, is_side}
+use Rattle.tcap_model.specs.World.{Item, MessageInTransit, Sent, World, channel_from, is_side}
 use Rattle.tcap_model.specs.Run.{Event, Receives, Replies, Runs, numbers_of, numbers_sent, numbers_taken, takes_from}
 use Rattle.tcap_certificate.specs.DescribedRun.{is_loss, without_losses}
 use Rattle.tcap_model.proofs.ChannelLaws.{are_whole, in_order}
@@ -81,11 +81,11 @@ taken_sent table events w side n runs is =
     (found.0, ap (slice_get w.sent) same ∙ found.3)
 
 -- What was taken from a channel is no longer on it.
-pub taken_is_gone : (table : Table) (events : List Event) (w : World) (side : Side) (head : OnItsWay) (more : List OnItsWay)
+pub taken_is_gone : (table : Table) (events : List Event) (w : World) (side : Side) (head : MessageInTransit) (more : List MessageInTransit)
     → Runs table events w → channel_from side w ≡ head ∷ more → IsIn head.number (numbers_taken side events) → ⊥
 taken_is_gone table events w side head more runs channel is =
     parts_apart head.number (numbers_taken side events) (numbers_of (head ∷ more))
-    (subst (λ (x : List OnItsWay). IsStrictlySortedBy nat_cmp (numbers_taken side events ++ numbers_of x)) channel
+    (subst (λ (x : List MessageInTransit). IsStrictlySortedBy nat_cmp (numbers_taken side events ++ numbers_of x)) channel
     (in_order table events w runs side)) is (inl refl)
 
 pub takes_received : (side : Side) (n : ℕ) → takes_from side (Receives (other side) n) ≡ n ∷ []

@@ -16,7 +16,7 @@ use Rattle.tcap_end.specs.Table.{Table}
 use Rattle.tcap_end.proofs.AnsweringLaws.{ok_same, some_ok, then_ok}
 use Rattle.tcap_model.specs.declared.reason.Reason.{Reason}
 use Rattle.tcap_model.specs.declared.reason.Reason.TheVariants.{BadReply}
-use Rattle.tcap_model.specs.World.{Item, OnItsWay, Sent, World, channel_from, empty, end_at, is_side, with_channel, with_end}
+use Rattle.tcap_model.specs.World.{Item, MessageInTransit, Sent, World, channel_from, empty, end_at, is_side, with_channel, with_end}
 use Rattle.tcap_model.specs.Run.{Event, Loses, Receives, Runs, after, numbers_of, played}
 use Rattle.tcap_model.proofs.ListLaws.{all_more, all_weaker, contains_first}
 use Rattle.tcap_model.proofs.RunLaws.{loss, map_some, played_on, same_side, some_is}
@@ -25,10 +25,10 @@ use Rattle.tcap_certificate.specs.declared.certificate.Fate.TheVariants.{Gap, Lo
 use Rattle.tcap_certificate.specs.declared.fault.CheckFault.{CheckFault}
 use Rattle.tcap_certificate.specs.Certificate.{Certificate}
 use Rattle.tcap_certificate.specs.DescribedRun.{is_loss, losses_from, lost_from}
-use Rattle.tcap_certificate.specs.Replay.{Replay, all_lost_from, certificate_fits, discarded, discards_by, entries_by, fault_at, heard, if_lost, is_heard, lost_front, lost_from_front, lost_last, nothing_replayed, run_by, stepped, why_not_first, with_discards, with_step}
+use Rattle.tcap_certificate.specs.Replay.{Replay, all_lost_from, certificate_fits, discarded, discards_by, entries_by, fault_at, delivered, if_lost, is_received_from, lost_front, lost_from_front, lost_last, nothing_replayed, run_by, stepped, first_receive_refusal, with_discards, with_step}
 use Rattle.tcap_check.specs.CheckerMeaning.{taken, taken_from}
-use Rattle.tcap_check.specs.RunSoFar.{DiscardsSo, IsDiscardOf, TellsSo}
-use Rattle.tcap_check.specs.ReportedSteps.{IsDiscarded, IsTold, MayAllBeDiscarded}
+use Rattle.tcap_check.specs.RunSoFar.{ExplainsLosses, IsDiscardOf, IsRunWithDiscards}
+use Rattle.tcap_check.specs.ReportedSteps.{IsDiscarded, IsReportedLoss, MayAllBeDiscarded}
 use Rattle.tcap_check.proofs.given_run_laws.GivenRuns.{both_ok}
 use Rattle.tcap_check.proofs.replay_laws.ReplaySteps.{Extends, losing_replays, stepped_extends, head_stays}
 use Rattle.tcap_check.proofs.one_end_laws.AloneReplays.{all_lost_leads}
@@ -59,7 +59,7 @@ discarded_before (Some side) table c events more all number reason are (d, meant
 )
 
 -- The losses at the front of a channel are of messages whose fates are losses.
-front_lost : (fates : List Fate) (sender peer : Side) (channel : List OnItsWay) (number : ℕ)
+front_lost : (fates : List Fate) (sender peer : Side) (channel : List MessageInTransit) (number : ℕ)
     → Contains (map (Loses sender) (lost_front fates channel)) (Loses peer number) → slice_get fates number ≡ Some Lost
 front_lost fates sender peer [] number there = absurd (none_in (Loses peer number) there)
 front_lost fates sender peer (first ∷ more) number there =
@@ -93,7 +93,7 @@ not_peers side (n ∷ numbers) number there =
     by rest (inr later) = rest later
 
 -- The head of a channel after its losses has another fate.
-front_stays : (c : Certificate) (sender : Side) (r : Replay) (head : OnItsWay) (more : List OnItsWay)
+front_stays : (c : Certificate) (sender : Side) (r : Replay) (head : MessageInTransit) (more : List MessageInTransit)
     → channel_from sender (lost_from_front c sender r).world ≡ head ∷ more → slice_get c.fates head.number ≡ Some Lost → ⊥
 front_stays c sides.A r head more is = head_stays c.fates r.world.from_a head more is
 front_stays c sides.B r head more is = head_stays c.fates r.world.from_b head more is
@@ -114,10 +114,10 @@ module _ (judged : Option Side) (table : Table) (c : Certificate) where
       all_weaker (λ (x : ℕ × EndFault). IsDiscardOf judged table c events x.0 x.1) (λ (x : ℕ × EndFault). IsDiscardOf judged table c all x.0 x.1)
       discards (λ x. discarded_before judged table c events more all x.0 x.1 are)
 
-  -- More steps keep `TellsSo` if each of their losses of a message to a judged end has a loss as its fate.
+  -- More steps keep `IsRunWithDiscards` if each of their losses of a message to a judged end has a loss as its fate.
   more_tells : (steps : List Event) (r next : Replay) → Runs table next.events next.world → next.events ≡ r.events ++ steps → next.discards ≡ r.discards
-      → ((sender : Side) (number : ℕ) → is_heard judged sender ≡ true → Contains steps (Loses sender number) → slice_get c.fates number ≡ Some Lost)
-      → TellsSo judged table c r → TellsSo judged table c next
+      → ((sender : Side) (number : ℕ) → is_received_from judged sender ≡ true → Contains steps (Loses sender number) → slice_get c.fates number ≡ Some Lost)
+      → IsRunWithDiscards judged table c r → IsRunWithDiscards judged table c next
   more_tells steps r next runs events same lost (before, (refused, told)) = (
     runs,
     (
@@ -127,56 +127,56 @@ module _ (judged : Option Side) (table : Table) (c : Certificate) where
     ),
   )
     where
-      by : (sender : Side) (number : ℕ) → is_heard judged sender ≡ true
-          → Contains r.events (Loses sender number) ⊎ Contains steps (Loses sender number) → IsTold c next.discards number
-      by sender number so (inl old) = subst (λ (x : List (ℕ × EndFault)). IsTold c x number) (sym same) (told sender number so old)
+      by : (sender : Side) (number : ℕ) → is_received_from judged sender ≡ true
+          → Contains r.events (Loses sender number) ⊎ Contains steps (Loses sender number) → IsReportedLoss c next.discards number
+      by sender number so (inl old) = subst (λ (x : List (ℕ × EndFault)). IsReportedLoss c x number) (sym same) (told sender number so old)
       by sender number so (inr new) = inl (lost sender number so new)
 
   pub tells_step : (event : Event) (r next : Replay) → is_loss event ≡ false → stepped table event r ≡ Some next
-      → TellsSo judged table c r → TellsSo judged table c next
+      → IsRunWithDiscards judged table c r → IsRunWithDiscards judged table c next
   tells_step event r next plain is so =
       let extends = stepped_extends table event r next is in
       let found = map_some _ (after table event r.world) next is in
       more_tells (event ∷ []) r next (runs_on (event ∷ []) r next extends so.0) extends.events
       (ap (λ (x : Replay). x.discards) (sym found.2))
-      (λ sender number heard there. by sender number (contains_first event [] (Loses sender number) there)) so
+      (λ sender number delivered there. by sender number (contains_first event [] (Loses sender number) there)) so
     where
       by : (sender : Side) (number : ℕ) → (event ≡ Loses sender number) ⊎ Contains [] (Loses sender number) → slice_get c.fates number ≡ Some Lost
       by sender number (inl same) = let so : is_loss event ≡ true = ap is_loss same in cc
       by sender number (inr later) = absurd (none_in (Loses sender number) later)
 
-  pub tells_front : (sender : Side) (r : Replay) → TellsSo judged table c r → TellsSo judged table c (lost_from_front c sender r)
+  pub tells_front : (sender : Side) (r : Replay) → IsRunWithDiscards judged table c r → IsRunWithDiscards judged table c (lost_from_front c sender r)
   tells_front sender r so =
       let losses = losing_replays table c sender r in
       more_tells (map (Loses sender) (lost_front c.fates (channel_from sender r.world))) r (lost_from_front c sender r)
       (runs_on losses.steps r (lost_from_front c sender r) losses.extends so.0) refl refl
-      (λ peer number heard. front_lost c.fates sender peer (channel_from sender r.world) number) so
+      (λ peer number delivered. front_lost c.fates sender peer (channel_from sender r.world) number) so
 
 -- ---- steps if one end is judged alone
 
 module _ (side : Side) (table : Table) (c : Certificate) where
   abbrev Tells : Replay → Type 0
-  Tells r = TellsSo (Some side) table c r
+  Tells r = IsRunWithDiscards (Some side) table c r
 
   all_tells : (r : Replay) → Tells r → Tells (all_lost_from side r)
   all_tells r so =
       let losses = all_lost_leads side table r in
       more_tells (Some side) table c (map (Loses side) (numbers_of (channel_from side r.world))) r (all_lost_from side r)
       (runs_on (Some side) table c losses.steps r (all_lost_from side r) losses.extends so.0) refl refl
-      (λ sender number heard there. absurd (not_peers side (numbers_of (channel_from side r.world)) number
+      (λ sender number delivered there. absurd (not_peers side (numbers_of (channel_from side r.world)) number
       (subst (λ (x : Side). Contains (map (Loses side) (numbers_of (channel_from side r.world))) (Loses x number))
-      (sym (same_side (other side) sender heard)) there))) so
+      (sym (same_side (other side) sender delivered)) there))) so
 
   -- If the oldest message on its way is not received, the end gives a reason.
-  refused_for : (number : ℕ) (head : OnItsWay) (more : List OnItsWay) (r : Replay) → channel_from (other side) r.world ≡ head ∷ more
+  refused_for : (number : ℕ) (head : MessageInTransit) (more : List MessageInTransit) (r : Replay) → channel_from (other side) r.world ≡ head ∷ more
       → head.number ≡ number → stepped table (Receives side number) r ≡ None
       → (reason : EndFault) × (receive table (end_at side r.world) head.message ≡ Err reason)
-      × (why_not_first table (end_at side r.world) (channel_from (other side) r.world) ≡ reason ∷ [])
+      × (first_receive_refusal table (end_at side r.world) (channel_from (other side) r.world) ≡ reason ∷ [])
   refused_for number head more r channel number_is none = by (receive table (end_at side r.world) head.message) refl
     where
       by : (o : Result End EndFault) → receive table (end_at side r.world) head.message ≡ o
           → (reason : EndFault) × (receive table (end_at side r.world) head.message ≡ Err reason)
-          × (why_not_first table (end_at side r.world) (channel_from (other side) r.world) ≡ reason ∷ [])
+          × (first_receive_refusal table (end_at side r.world) (channel_from (other side) r.world) ≡ reason ∷ [])
       by (Ok e) at =
           let there : stepped table (Receives side number) r
           ≡ Some (with_step (Receives side number) r (with_end side e (with_channel (other side) more r.world))) =
@@ -184,7 +184,7 @@ module _ (side : Side) (table : Table) (c : Certificate) where
           cc
       by (Err reason) at = (reason, at, rw (channel, at) refl)
 
-  -- A discard with its reason keeps `TellsSo`.
+  -- A discard with its reason keeps `IsRunWithDiscards`.
   noted_tells : (number : ℕ) (reason : EndFault) (r next : Replay) → Runs table next.events next.world
       → next.events ≡ r.events ++ Loses (other side) number ∷ [] → next.discards ≡ r.discards ++ (number, reason) ∷ []
       → IsDiscardOf (Some side) table c next.events number reason → Tells r → Tells next
@@ -194,18 +194,18 @@ module _ (side : Side) (table : Table) (c : Certificate) where
       subst (AreRefused (Some side) table c next.events) (sym discards)
           (all_more (λ (x : ℕ × EndFault). IsDiscardOf (Some side) table c next.events x.0 x.1) r.discards (number, reason)
           (still_refused (Some side) table c r.events (Loses (other side) number ∷ []) next.events r.discards events refused) this),
-      λ sender n heard there. subst (λ (x : List (ℕ × EndFault)). IsTold c x n) (sym discards)
-          (by sender n heard (Contains-append_cases r.events (Loses (other side) number ∷ []) (Loses sender n)
+      λ sender n delivered there. subst (λ (x : List (ℕ × EndFault)). IsReportedLoss c x n) (sym discards)
+          (by sender n delivered (Contains-append_cases r.events (Loses (other side) number ∷ []) (Loses sender n)
           (subst (λ (x : List Event). Contains x (Loses sender n)) events there))),
     ),
   )
     where
-      old : (n : ℕ) → IsTold c r.discards n → IsTold c (r.discards ++ (number, reason) ∷ []) n
+      old : (n : ℕ) → IsReportedLoss c r.discards n → IsReportedLoss c (r.discards ++ (number, reason) ∷ []) n
       old n (inl lost) = inl lost
       old n (inr noted) = inr (noted.0, Contains-append_left r.discards ((number, reason) ∷ []) (n, noted.0) noted.1)
 
       new : (sender : Side) (n : ℕ) → (Loses (other side) number ≡ Loses sender n) ⊎ Contains [] (Loses sender n)
-          → IsTold c (r.discards ++ (number, reason) ∷ []) n
+          → IsReportedLoss c (r.discards ++ (number, reason) ∷ []) n
       new sender n (inl same) =
           let this : number ≡ n = cc in
           inr (
@@ -215,11 +215,11 @@ module _ (side : Side) (table : Table) (c : Certificate) where
           )
       new sender n (inr later) = absurd (none_in (Loses sender n) later)
 
-      by : (sender : Side) (n : ℕ) → is_heard (Some side) sender ≡ true
+      by : (sender : Side) (n : ℕ) → is_received_from (Some side) sender ≡ true
           → Contains r.events (Loses sender n) ⊎ Contains (Loses (other side) number ∷ []) (Loses sender n)
-          → IsTold c (r.discards ++ (number, reason) ∷ []) n
-      by sender n heard (inl first) = old n (told sender n heard first)
-      by sender n heard (inr last) = new sender n (contains_first (Loses (other side) number) [] (Loses sender n) last)
+          → IsReportedLoss c (r.discards ++ (number, reason) ∷ []) n
+      by sender n delivered (inl first) = old n (told sender n delivered first)
+      by sender n delivered (inr last) = new sender n (contains_first (Loses (other side) number) [] (Loses sender n) last)
 
   -- The discards after one more.
   discards_are : (number : ℕ) (reasons : List EndFault) (reason : EndFault) (r lost next : Replay) (w : World)
@@ -229,13 +229,13 @@ module _ (side : Side) (table : Table) (c : Certificate) where
       ap (λ (x : Replay). x.discards) (sym is) ∙ ap (λ (x : Replay). x.discards ++ map (λ y. (number, y)) reasons) (sym step)
       ∙ ap (λ (x : List EndFault). r.discards ++ map (λ y. (number, y)) x) are
 
-  -- The discard of a message that the end cannot receive keeps `TellsSo`.
+  -- The discard of a message that the end cannot receive keeps `IsRunWithDiscards`.
   discarded_tells : (number : ℕ) (r next : Replay) → stepped table (Receives side number) r ≡ None
-      → ((head : OnItsWay) (more : List OnItsWay) → channel_from (other side) r.world ≡ head ∷ more → slice_get c.fates head.number ≡ Some Lost → ⊥)
+      → ((head : MessageInTransit) (more : List MessageInTransit) → channel_from (other side) r.world ≡ head ∷ more → slice_get c.fates head.number ≡ Some Lost → ⊥)
       → discarded table side number r ≡ Some next → Tells r → Tells next
   discarded_tells number r next none stays is so =
       let event = Loses (other side) number in
-      let reasons = why_not_first table (end_at side r.world) (channel_from (other side) r.world) in
+      let reasons = first_receive_refusal table (end_at side r.world) (channel_from (other side) r.world) in
       let found = map_some _ (stepped table event r) next is in
       let step = map_some _ (after table event r.world) found.0 found.1 in
       let l = loss table (other side) number r.world step.0 step.1 in
@@ -259,7 +259,7 @@ module _ (side : Side) (table : Table) (c : Certificate) where
       (discards_are number reasons why.0 r found.0 next step.0 step.2 found.2 why.2)
       (this, λ lost. stays l.head l.more l.channel (ap (slice_get c.fates) l.number_is ∙ lost)) so
 
-  pub tells_heard : (number : ℕ) (r next : Replay) → heard table c side number r ≡ Ok next → Tells r → Tells next
+  pub tells_heard : (number : ℕ) (r next : Replay) → delivered table c side number r ≡ Ok next → Tells r → Tells next
   tells_heard number r next is so =
       by (stepped table (Receives side number) before) refl
       (some_ok (option_or (stepped table (Receives side number) before) (discarded table side number before)) (fault_at BadReply number) next is)
@@ -277,7 +277,7 @@ module _ (side : Side) (table : Table) (c : Certificate) where
 
 -- ---- the whole replay
 
-pub tells_kept : (judged : Option Side) (table : Table) (c : Certificate) → IsKept judged table c (TellsSo judged table c)
+pub tells_kept : (judged : Option Side) (table : Table) (c : Certificate) → IsKept judged table c (IsRunWithDiscards judged table c)
 tells_kept None table c = record {
   step = tells_step None table c;
   front = tells_front None table c;
@@ -287,40 +287,40 @@ tells_kept None table c = record {
 tells_kept (Some alone) table c = record {
   step = tells_step (Some alone) table c;
   front = tells_front (Some alone) table c;
-  all = λ side r who so. subst (λ (x : Side). TellsSo (Some alone) table c (all_lost_from x r)) (some_is who) (all_tells alone table c r so);
+  all = λ side r who so. subst (λ (x : Side). IsRunWithDiscards (Some alone) table c (all_lost_from x r)) (some_is who) (all_tells alone table c r so);
   hears = λ side number gap r next who at is so.
-      tells_heard alone table c number r next (ap (λ (x : Side). heard table c x number r) (some_is who) ∙ is) so;
+      tells_heard alone table c number r next (ap (λ (x : Side). delivered table c x number r) (some_is who) ∙ is) so;
 }
 
-nothing_tells : (judged : Option Side) (table : Table) (c : Certificate) → TellsSo judged table c nothing_replayed
-nothing_tells judged table c = (refl, (tt, λ sender number heard there. absurd (none_in (Loses sender number) there)))
+nothing_tells : (judged : Option Side) (table : Table) (c : Certificate) → IsRunWithDiscards judged table c nothing_replayed
+nothing_tells judged table c = (refl, (tt, λ sender number delivered there. absurd (none_in (Loses sender number) there)))
 
--- `TellsSo` holds for entries that were taken.
+-- `IsRunWithDiscards` holds for entries that were taken.
 pub taken_tells : (judged : Option Side) (table : Table) (c : Certificate) (entries : List (Result Item Reason)) (r : Replay)
-    → taken judged table c entries ≡ Ok r → TellsSo judged table c r
+    → taken judged table c entries ≡ Ok r → IsRunWithDiscards judged table c r
 taken_tells judged table c entries r is =
     let fits = both_ok (certificate_fits c) (taken_from judged table c entries nothing_replayed) r is in
-    taken_keeps judged table c (TellsSo judged table c) (tells_kept judged table c) entries nothing_replayed r fits.2 (nothing_tells judged table c)
+    taken_keeps judged table c (IsRunWithDiscards judged table c) (tells_kept judged table c) entries nothing_replayed r fits.2 (nothing_tells judged table c)
 
 -- The discards of the whole replay account for its losses.
 run_tells : (judged : Option Side) (table : Table) (c : Certificate) (entries : List (Result Item Reason)) (events : List Event)
     (discards : List (ℕ × EndFault)) → run_by judged table c entries ≡ Ok events → discards_by judged table c entries ≡ Ok discards
-    → DiscardsSo judged table c events discards
+    → ExplainsLosses judged table c events discards
 run_tells judged table c entries events discards run noted =
     let runs = both_ok (certificate_fits c) _ events run in
     let notes = both_ok (certificate_fits c) _ discards noted in
     let made = then_ok (entries_by judged table c entries nothing_replayed) _ events runs.2 in
     let same = then_ok (entries_by judged table c entries nothing_replayed) _ discards notes.2 in
     let last = lost_last judged c made.0 in
-    let tells = TellsSo judged table c in
+    let tells = IsRunWithDiscards judged table c in
     let so = last_keeps judged table c tells (tells_kept judged table c) made.0
     (entries_keep judged table c tells (tells_kept judged table c) entries nothing_replayed made.0 made.1 (nothing_tells judged table c)) in
     let events_are : last.events ≡ events = ok_same {F = CheckFault} last.events events made.2 in
     let discards_are : last.discards ≡ discards =
     ap (λ (x : Replay). (lost_last judged c x).discards) (ok_same {F = CheckFault} made.0 same.0 (sym made.1 ∙ same.1))
     ∙ ok_same {F = CheckFault} (lost_last judged c same.0).discards discards same.2 in
-    subst (λ (x : List (ℕ × EndFault)). DiscardsSo judged table c events x) discards_are
-    (subst (λ (x : List Event). DiscardsSo judged table c x last.discards) events_are so.1)
+    subst (λ (x : List (ℕ × EndFault)). ExplainsLosses judged table c events x) discards_are
+    (subst (λ (x : List Event). ExplainsLosses judged table c x last.discards) events_are so.1)
 
 -- Each discard in the run for an end is of a message that the end cannot receive then, for this reason.
 pub all_refused : (side : Side) (table : Table) (c : Certificate) (entries : List (Result Item Reason)) (events : List Event)
@@ -333,7 +333,7 @@ all_refused side table c entries events discards run noted =
 -- Each lost message of the peer is among the discards, or has a loss as its fate.
 pub all_told : (side : Side) (table : Table) (c : Certificate) (entries : List (Result Item Reason)) (events : List Event)
     (discards : List (ℕ × EndFault)) → run_by (Some side) table c entries ≡ Ok events → discards_by (Some side) table c entries ≡ Ok discards
-    → (number : ℕ) → Contains events (Loses (other side) number) → IsTold c discards number
+    → (number : ℕ) → Contains events (Loses (other side) number) → IsReportedLoss c discards number
 all_told side table c entries events discards run noted number there =
     (run_tells (Some side) table c entries events discards run noted).1 (other side) number (itself (other side)) there
 

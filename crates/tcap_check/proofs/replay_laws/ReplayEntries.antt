@@ -19,7 +19,7 @@ use Rattle.tcap_certificate.specs.Certificate.{Certificate}
 use Rattle.tcap_certificate.specs.DescribedRun.{FatesFit, FollowsFrom, gap_events, quiet_by, sending, sending_by, taken_by, without_losses}
 use Rattle.tcap_model.specs.declared.reason.Reason.{Reason}
 use Rattle.tcap_model.specs.declared.reason.Reason.TheVariants.{FateCount, FateRange, NotQuiet, OutOfOrder}
-use Rattle.tcap_certificate.specs.Replay.{Replay, entries_by, entry_by, fault_at, gap_by, happens, is_gap, is_nothing, is_overtaking, item_by, lost_from_both, mark_judged, next_entry, own_judged, stepped}
+use Rattle.tcap_certificate.specs.Replay.{Replay, entries_by, entry_by, fault_at, gap_by, after_event, is_gap, is_nothing, is_overtaking, item_by, lost_from_both, mark_judged, next_entry, own_judged, stepped}
 use Rattle.tcap_model.proofs.RunLaws.{grows, map_some}
 use Rattle.tcap_check.proofs.replay_laws.ReplaySteps.{Extends, Replays, both_replay, extends_then, replays_then, stepped_replays, without_both}
 use Rattle.tcap_check.proofs.replay_laws.ReplayLaws.{IsSentBy, gap_replays, message_replays}
@@ -34,7 +34,7 @@ pub record IsReplayedBy (table : Table) (c : Certificate) (item : Item) (r next 
   pub sent : IsSentBy table c item mid next
 
 -- A quiet mark.
-pub quiet_happens : (table : Table) (c : Certificate) (entry : ℕ) (r next : Replay) → happens table c Quiet NotQuiet entry r ≡ Ok next
+pub quiet_happens : (table : Table) (c : Certificate) (entry : ℕ) (r next : Replay) → after_event table c Quiet NotQuiet entry r ≡ Ok next
     → Replays table r (Quiet ∷ []) (Item.Quiet ∷ []) next
 quiet_happens table c entry r next is =
     let before = lost_from_both c r in

@@ -12,7 +12,7 @@ use Rattle.tcap_end.specs.Step.{◌>>=◌}
 use Rattle.tcap_end.specs.Table.{Table}
 use Rattle.tcap_end.proofs.AnsweringLaws.{then_ok, needs_ok}
 use Rattle.tcap_model.specs.declared.reason.Reason.TheVariants.{FateRange, HiddenRefused}
-use Rattle.tcap_model.specs.Run.{Event, Closes, Expires, then_so, Sends, Receives, Replies, Loses, Quiet, Tells, where_so}
+use Rattle.tcap_model.specs.Run.{Event, Closes, Expires, option_then, Sends, Receives, Replies, Loses, Quiet, Tells, only_if}
 use Rattle.tcap_model.specs.SinceMark.{originating}
 use Rattle.tcap_model.specs.World.{Item, Sent, is_side, has_quiet}
 use Rattle.tcap_model.proofs.RunLaws.{some_is, then_some, where_some, same_events}
@@ -21,9 +21,9 @@ use Rattle.tcap_certificate.specs.declared.certificate.Expiry.{Expiry}
 use Rattle.tcap_certificate.specs.declared.fault.CheckFault.{CheckFault}
 use Rattle.tcap_certificate.specs.Certificate.{Certificate}
 use Rattle.tcap_certificate.specs.DescribedRun.{closing_by, closing_event, deliveries, expiry_by, expiry_event, gap_events, half_begun, invoke_id, named_entry, IsImplied, invoking_half, FatesFit}
-use Rattle.tcap_certificate.specs.Replay.{Replay, closings_judged, closings_replayed, deliveries_by, expiries_judged, expiries_replayed, fault_at, gap_by, happens, next_entry, all_fit, fate_fits, fates_fit}
-use Rattle.tcap_check.specs.declared.listed_steps.Listed.{Listed}
-use Rattle.tcap_check.specs.declared.listed_steps.Listed.TheVariants as listings
+use Rattle.tcap_certificate.specs.Replay.{Replay, closings_judged, closings_replayed, deliveries_by, expiries_judged, expiries_replayed, fault_at, gap_by, after_event, next_entry, all_fit, fate_fits, fates_fit}
+use Rattle.tcap_check.specs.declared.listed_steps.ListedStep.{ListedStep}
+use Rattle.tcap_check.specs.declared.listed_steps.ListedStep.TheVariants as listings
 use Rattle.tcap_check.specs.ListedSteps.{all_replayed, event_listed, listed_for, listed_in, listed_judged, listed_replayed, side_of}
 use Rattle.tcap_check.proofs.progress_laws.KeptBasics.{then_same, then_then}
 use Rattle.tcap_msg.specs.declared.message.Message.{Message}
@@ -61,7 +61,7 @@ closings_all : (table : Table) (c : Certificate) (xs : List Closing) (r : Replay
 closings_all table c [] r = refl
 closings_all table c (x ∷ more) r =
     sym (then_then (ok_or (closing_event r.world.sent x) (fault_at FateRange x.entry))
-    (λ event. happens table c event (HiddenRefused faults.CannotClose) x.entry r) (closings_replayed table c more))
+    (λ event. after_event table c event (HiddenRefused faults.CannotClose) x.entry r) (closings_replayed table c more))
     ∙ then_same (listed_replayed table c (listings.Closes x) r) (closings_replayed table c more) (all_replayed table c (map listings.Closes more))
     (closings_all table c more)
 
@@ -71,12 +71,12 @@ expiries_all : (table : Table) (c : Certificate) (xs : List Expiry) (r : Replay)
 expiries_all table c [] r = refl
 expiries_all table c (x ∷ more) r =
     sym (then_then (ok_or (expiry_event r.world.sent x) (fault_at FateRange x.entry))
-    (λ event. happens table c event (HiddenRefused faults.CannotExpire) x.entry r) (expiries_replayed table c more))
+    (λ event. after_event table c event (HiddenRefused faults.CannotExpire) x.entry r) (expiries_replayed table c more))
     ∙ then_same (listed_replayed table c (listings.Expires x) r) (expiries_replayed table c more) (all_replayed table c (map listings.Expires more))
     (expiries_all table c more)
 
 -- Joined lists are replayed one after the other.
-all_then : (table : Table) (c : Certificate) (xs ys : List Listed) (r : Replay)
+all_then : (table : Table) (c : Certificate) (xs ys : List ListedStep) (r : Replay)
     → (all_replayed table c xs r >>= all_replayed table c ys) ≡ all_replayed table c (xs ++ ys) r
 all_then table c [] ys r = refl
 all_then table c (x ∷ xs) ys r =
@@ -90,9 +90,9 @@ judged_is : (judged : Option Side) (xs : List Closing) (ys : List Expiry)
     ≡ map listings.Closes (closings_judged judged xs) ++ map listings.Expires (expiries_judged judged ys)
 judged_is None xs ys = filter_all (map listings.Closes xs ++ map listings.Expires ys)
 judged_is (Some side) xs ys =
-    filter-append (λ (x : Listed). is_side side (side_of x)) (map listings.Closes xs) (map listings.Expires ys)
-    ∙ ap₂ (λ (us vs : List Listed). us ++ vs) (filter_map (λ (x : Listed). is_side side (side_of x)) listings.Closes xs)
-    (filter_map (λ (x : Listed). is_side side (side_of x)) listings.Expires ys)
+    filter-append (λ (x : ListedStep). is_side side (side_of x)) (map listings.Closes xs) (map listings.Expires ys)
+    ∙ ap₂ (λ (us vs : List ListedStep). us ++ vs) (filter_map (λ (x : ListedStep). is_side side (side_of x)) listings.Closes xs)
+    (filter_map (λ (x : ListedStep). is_side side (side_of x)) listings.Expires ys)
 
 -- If both ends are judged, these are all listed events.
 pub judged_all : (c : Certificate) (gap : ℕ) → listed_for None c gap ≡ listed_in c gap
@@ -109,7 +109,7 @@ gap_is_listed judged table c r =
     (λ closed. ap (λ (o : Result Replay CheckFault). o >>= delivered) (expiries_all table c expiries closed))
     ∙ sym (then_then (all_replayed table c closes r) (all_replayed table c expires) delivered)
     ∙ ap (λ (o : Result Replay CheckFault). o >>= delivered) (all_then table c closes expires r)
-    ∙ ap (λ (xs : List Listed). all_replayed table c xs r >>= delivered)
+    ∙ ap (λ (xs : List ListedStep). all_replayed table c xs r >>= delivered)
     (sym (judged_is judged (filter (λ x. x.gap == next_entry r) c.close) (filter (λ x. x.gap == next_entry r) c.expire)))
   where
     closings : List Closing
@@ -118,10 +118,10 @@ gap_is_listed judged table c r =
     expiries : List Expiry
     expiries = expiries_judged judged (filter (λ x. x.gap == next_entry r) c.expire)
 
-    closes : List Listed
+    closes : List ListedStep
     closes = map listings.Closes closings
 
-    expires : List Listed
+    expires : List ListedStep
     expires = map listings.Expires expiries
 
     delivered : Replay → Result Replay CheckFault
@@ -168,12 +168,12 @@ expiry_so P items x expires event is = let found = then_some (named_entry items 
     by (Sent sender message) e =
         let so = where_some (is_side x.side sender) _ event e in
         let named = then_some (originating message) _ event so.1 in
-        let id = then_some (then_so (slice_get (components_in message) x.component) invoke_id) _ event named.2 in
+        let id = then_some (option_then (slice_get (components_in message) x.component) invoke_id) _ event named.2 in
         subst P (some_is id.2) (expires (names.Own named.0) id.0)
     by Item.Quiet e = cc
 
 -- What holds for the closings and the expiries of its end holds for a listed event.
-pub listed_so : (P : Event → Type 0) (items : List Item) (x : Listed) → ((name : HalfName) → P (Closes (side_of x) name))
+pub listed_so : (P : Event → Type 0) (items : List Item) (x : ListedStep) → ((name : HalfName) → P (Closes (side_of x) name))
     → ((name : HalfName) (id : ℤ) → P (Expires (side_of x) name id)) → (event : Event) → event_listed items x ≡ Some event → P event
 listed_so P items (listings.Closes x) closes expires = closing_so P items x closes
 listed_so P items (listings.Expires x) closes expires = expiry_so P items x expires
@@ -199,7 +199,7 @@ gap_split P c items gap here closes expires is =
     let parts = some_parts here (map (event_listed items) (listed_in c gap)) (deliveries gap 0 c.fates items) (is ∙ gap_events_are c items gap) in
     (parts.0, all_so parts.0 (listed_in c gap) parts.1, parts.2)
   where
-    all_so : (events : List Event) (listed : List Listed) → map Some events ≡ map (event_listed items) listed → AllByRecursion P events
+    all_so : (events : List Event) (listed : List ListedStep) → map Some events ≡ map (event_listed items) listed → AllByRecursion P events
     all_so [] listed are = tt
     all_so (event ∷ events) [] are = cc
     all_so (event ∷ events) (x ∷ listed) are =
@@ -242,7 +242,7 @@ named_before items rest entry =
     ap₂ (λ (shown : List Item) (o : Option Item). cond (has_quiet (drop entry shown)) None o)
     (take-append_seam items rest ∙ sym (take-length items)) (by (nat_lt entry (length items)) refl)
   where
-    by : (b : Bool) → nat_lt entry (length items) ≡ b → where_so b (slice_get (items ++ rest) entry) ≡ where_so b (slice_get items entry)
+    by : (b : Bool) → nat_lt entry (length items) ≡ b → only_if b (slice_get (items ++ rest) entry) ≡ only_if b (slice_get items entry)
     by true e = get_before items rest entry (ltb-true entry (length items) e)
     by false e = refl
 
@@ -297,9 +297,9 @@ pub gap_events_before : (c : Certificate) (count : ℕ) (items rest : List Item)
 gap_events_before c count items rest fit =
     let gap = length items in
     let closings = map_filter_same (λ (x : Closing). x.gap == gap) (closing_event (items ++ rest)) (closing_event items) c.close
-    (λ x e. ap (λ (o : Option Item). then_so o (closing_by x)) (named_at items rest x.gap x.entry (eqb-true x.gap gap e))) in
+    (λ x e. ap (λ (o : Option Item). option_then o (closing_by x)) (named_at items rest x.gap x.entry (eqb-true x.gap gap e))) in
     let expiries = map_filter_same (λ (x : Expiry). x.gap == gap) (expiry_event (items ++ rest)) (expiry_event items) c.expire
-    (λ x e. ap (λ (o : Option Item). then_so o (expiry_by x)) (named_at items rest x.gap x.entry (eqb-true x.gap gap e))) in
+    (λ x e. ap (λ (o : Option Item). option_then o (expiry_by x)) (named_at items rest x.gap x.entry (eqb-true x.gap gap e))) in
     let listed = ap₂ (λ (xs ys : List (Option Event)). xs ++ ys) closings expiries in
     ap₂ (λ (xs : List (Option Event)) (ys : List Event). xs ++ map Some ys) listed (deliveries_before count gap 0 c.fates items rest (omega arith) fit)
 

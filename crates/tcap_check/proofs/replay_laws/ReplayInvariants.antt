@@ -24,9 +24,9 @@ use Rattle.tcap_certificate.specs.declared.fault.CheckFault.{CheckFault}
 use Rattle.tcap_certificate.specs.Certificate.{Certificate}
 use Rattle.tcap_certificate.specs.DescribedRun.{invoke_id, invoking_half, is_loss, sending_by}
 use Rattle.tcap_check.specs.CheckerMeaning.{taken_from, taken_next}
-use Rattle.tcap_certificate.specs.Replay.{Replay, all_lost_from, behind_sending, closed_at_mark, closed_before, comes_in_order, deliveries_by, delivery_by, entries_by, entry_by, fault_at, gap_by, happens, heard, implied, implied_over, is_abort, is_due, is_gap, is_nothing, is_overtaking, item_by, lost_before, lost_from_front, lost_last, mark_judged, message_by, next_entry, or_same, own_judged, received, sent_or_refused, stepped, tied, told_replayed, with_step, certificate_fits, discarded, discards_by, nothing_replayed, why_not_first}
+use Rattle.tcap_certificate.specs.Replay.{Replay, all_lost_from, after_sending, closed_at_mark, closed_before, comes_in_order, deliveries_by, delivery_by, entries_by, entry_by, fault_at, gap_by, after_event, delivered, implied, implied_over, is_abort, is_due, is_gap, is_nothing, is_overtaking, item_by, lost_before, lost_from_front, lost_last, mark_judged, message_by, next_entry, or_same, own_judged, received, sent_or_refused, stepped, tied, peer_replayed, with_step, certificate_fits, discarded, discards_by, nothing_replayed, first_receive_refusal}
 use Rattle.tcap_check.proofs.given_run_laws.GivenRuns.{both_ok}
-use Rattle.tcap_check.specs.declared.listed_steps.Listed.{Listed}
+use Rattle.tcap_check.specs.declared.listed_steps.ListedStep.{ListedStep}
 use Rattle.tcap_check.specs.ListedSteps.{all_replayed, entry_of, event_listed, listed_for, listed_replayed, why_refused}
 use Rattle.tcap_check.proofs.replay_laws.ReplayGaps.{gap_parts, listed_so}
 use Rattle.tcap_check.proofs.replay_laws.ReplaySteps.{AreFrom, from_next, first_from, from_start}
@@ -41,7 +41,7 @@ pub record IsKept (judged : Option Side) (table : Table) (c : Certificate) (Hold
   pub front : (sender : Side) (r : Replay) → Holds r → Holds (lost_from_front c sender r)
   pub all : (side : Side) (r : Replay) → judged ≡ Some side → Holds r → Holds (all_lost_from side r)
   pub hears : (side : Side) (number gap : ℕ) (r next : Replay) → judged ≡ Some side → slice_get c.fates number ≡ Some (Gap gap)
-      → heard table c side number r ≡ Ok next → Holds r → Holds next
+      → delivered table c side number r ≡ Ok next → Holds r → Holds next
 
 module _ (judged : Option Side) (table : Table) (c : Certificate) (Holds : Replay → Type 0) (kept : IsKept judged table c Holds) where
   -- If `Holds` is true of the first replay, it is true of the second.
@@ -71,21 +71,21 @@ module _ (judged : Option Side) (table : Table) (c : Certificate) (Holds : Repla
       by (Some side) = kept.front (other side) r holds
 
   happens_keeps : (event : Event) (reason : Reason) (entry : ℕ) (r next : Replay) → is_loss event ≡ false
-      → happens table c event reason entry r ≡ Ok next → Keeps r next
+      → after_event table c event reason entry r ≡ Ok next → Keeps r next
   happens_keeps event reason entry r next plain is holds =
       let before = lost_before c event r in
       kept.step event before next plain (some_ok (stepped table event before) (fault_at reason entry) next is) (losses_keep event r holds)
 
   -- ---- a gap
 
-  pub one_keeps : (x : Listed) (r next : Replay) → listed_replayed table c x r ≡ Ok next → Keeps r next
+  pub one_keeps : (x : ListedStep) (r next : Replay) → listed_replayed table c x r ≡ Ok next → Keeps r next
   one_keeps x r next is holds =
       let event = then_ok (ok_or (event_listed r.world.sent x) (fault_at FateRange (entry_of x))) _ next is in
       let named = some_ok (event_listed r.world.sent x) (fault_at FateRange (entry_of x)) event.0 event.1 in
       let plain = listed_so (λ e. is_loss e ≡ false) r.world.sent x (λ name. refl) (λ name id. refl) event.0 named in
       happens_keeps event.0 (why_refused x) (entry_of x) r next plain event.2 holds
 
-  pub listed_keep : (listed : List Listed) (r next : Replay) → all_replayed table c listed r ≡ Ok next → Keeps r next
+  pub listed_keep : (listed : List ListedStep) (r next : Replay) → all_replayed table c listed r ≡ Ok next → Keeps r next
   listed_keep [] r next is holds = same_keeps r next is holds
   listed_keep (x ∷ more) r next is holds =
       let then = then_ok (listed_replayed table c x r) _ next is in
@@ -154,7 +154,7 @@ module _ (judged : Option Side) (table : Table) (c : Certificate) (Holds : Repla
           same_keeps made next is (kept.step (Sends side message) mid made refl (rw at refl) holds)
       by (Err reason) at is holds = cc
   message_keeps side message (Some (Replies replier number)) r next is holds =
-      let one = then_ok (happens table c (Replies side number) BadReply (next_entry r) r) _ next is in
+      let one = then_ok (after_event table c (Replies side number) BadReply (next_entry r) r) _ next is in
       let same = needs_ok (is_abort message (slice_get one.0.world.sent (next_entry r))) (fault_at BadReply (next_entry r)) _ next one.2 in
       same_keeps one.0 next same.1 (happens_keeps (Replies side number) BadReply (next_entry r) r one.0 refl one.1 holds)
   message_keeps side message (Some (Receives at n)) r next is holds = cc
@@ -174,7 +174,7 @@ module _ (judged : Option Side) (table : Table) (c : Certificate) (Holds : Repla
       by judged refl (message_by table c side message event gap.0) gap.2
       (λ made sent. message_keeps side message event gap.0 made sent (gap_keeps r gap.0 gap.1 holds))
     where
-      by : (who : Option Side) → judged ≡ who → (sent : Result Replay CheckFault) → behind_sending who sent ≡ Ok next
+      by : (who : Option Side) → judged ≡ who → (sent : Result Replay CheckFault) → after_sending who sent ≡ Ok next
           → ((made : Replay) → sent ≡ Ok made → Holds made) → Holds next
       by None same sent e holds = holds next e
       by (Some end) same sent e holds =
@@ -207,7 +207,7 @@ module _ (judged : Option Side) (table : Table) (c : Certificate) (Holds : Repla
   -- ---- entries
 
   told_keeps : (side : Side) (fate : Fate) (message : Message) (r next : Replay) → judged ≡ Some side
-      → told_replayed table c fate side message r ≡ Ok next → Keeps r next
+      → peer_replayed table c fate side message r ≡ Ok next → Keeps r next
   told_keeps side fate message r next who is holds =
       let so = needs_ok (not (is_overtaking (other side) fate c.fates r.world.sent)) (fault_at OutOfOrder (next_entry r)) _ next is in
       let gap = then_ok (gap_by (Some side) table c r) _ next so.1 in
@@ -224,7 +224,7 @@ module _ (judged : Option Side) (table : Table) (c : Certificate) (Holds : Repla
       by None who e = own_keeps fate sender message r next (ap (λ (x : Option Side). own_judged x table c fate sender message r) who ∙ e)
       by (Some side) who e = of (is_side side sender) e
         where
-          of : (b : Bool) → cond b (own_judged (Some side) table c fate side message r) (told_replayed table c fate side message r) ≡ Ok next
+          of : (b : Bool) → cond b (own_judged (Some side) table c fate side message r) (peer_replayed table c fate side message r) ≡ Ok next
               → Keeps r next
           of true e = own_keeps fate side message r next (ap (λ (x : Option Side). own_judged x table c fate side message r) who ∙ e)
           of false e = told_keeps side fate message r next who e
@@ -270,14 +270,14 @@ module _ (judged : Option Side) (table : Table) (c : Certificate) where
       → discarded table side number r ≡ Some next → AllMay r → AllMay next
   discarded_may side number r next this is may =
       let found = map_some _ (stepped table (Loses (other side) number) r) next is in
-      let reasons = why_not_first table (end_at side r.world) (channel_from (other side) r.world) in
+      let reasons = first_receive_refusal table (end_at side r.world) (channel_from (other side) r.world) in
       subst AllMay found.2
       (all_both (λ (x : ℕ × EndFault). MayBeDiscarded judged c x.0) found.0.discards (map (λ reason. (number, reason)) reasons)
       (step_may (Loses (other side) number) r found.0 found.1 may) (each_may number reasons this))
 
   -- A message is received or discarded.
   heard_may : (side : Side) (number : ℕ) (r next : Replay) → MayBeDiscarded judged c number
-      → heard table c side number r ≡ Ok next → AllMay r → AllMay next
+      → delivered table c side number r ≡ Ok next → AllMay r → AllMay next
   heard_may side number r next this is may =
       by (stepped table (Receives side number) before) refl
       (some_ok (option_or (stepped table (Receives side number) before) (discarded table side number before)) (fault_at BadReply number) next is)

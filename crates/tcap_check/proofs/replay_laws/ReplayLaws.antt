@@ -32,9 +32,9 @@ use Rattle.tcap_certificate.specs.declared.fault.CheckFault.{CheckFault}
 use Rattle.tcap_model.specs.declared.reason.Reason.{Reason}
 use Rattle.tcap_model.specs.declared.reason.Reason.TheVariants.{BadReply, FateRange}
 use Rattle.tcap_model.proofs.ChannelLaws.{get_new}
-use Rattle.tcap_certificate.specs.Replay.{Replay, deliveries_by, fault_at, gap_by, happens, implied, implied_over, is_abort, lost_before, lost_from_front, message_by, next_entry, or_same, own_message, reply_replayed, send_replayed, sent_or_refused, stepped, with_step}
+use Rattle.tcap_certificate.specs.Replay.{Replay, deliveries_by, fault_at, gap_by, after_event, implied, implied_over, is_abort, lost_before, lost_from_front, message_by, next_entry, or_same, own_message, reply_replayed, send_replayed, sent_or_refused, stepped, with_step}
 use Rattle.tcap_check.proofs.replay_laws.ReplaySteps.{Replays, before_replays, losing_replays, replays_nothing, replays_then, stepped_replays, sending_so}
-use Rattle.tcap_check.specs.declared.listed_steps.Listed.{Listed}
+use Rattle.tcap_check.specs.declared.listed_steps.ListedStep.{ListedStep}
 use Rattle.tcap_check.specs.ListedSteps.{all_replayed, entry_of, event_listed, listed_for, listed_replayed, side_of, why_refused}
 use Rattle.tcap_check.proofs.replay_laws.ReplayGaps.{gap_events_are, gap_parts, judged_all, listed_so}
 
@@ -65,7 +65,7 @@ receives_in_gap side number = record {
 
 -- One such event, with the losses before it.
 pub gap_event : (table : Table) (c : Certificate) (event : Event) (reason : Reason) (entry : ℕ) (r next : Replay) → IsGapEvent event
-    → happens table c event reason entry r ≡ Ok next → Replays table r (event ∷ []) [] next
+    → after_event table c event reason entry r ≡ Ok next → Replays table r (event ∷ []) [] next
 gap_event table c event reason entry r next in_gap is =
     let before = lost_before c event r in
     let step = some_ok (stepped table event before) (fault_at reason entry) next is in
@@ -74,7 +74,7 @@ gap_event table c event reason entry r next in_gap is =
     replays_then table r before next [] (event ∷ []) [] [] (before_replays table c event r) (stepped_replays table event [] before next in_gap.plain step sent)
 
 -- One listed event, after the items sent so far.
-pub one_replays : (table : Table) (c : Certificate) (x : Listed) (r next : Replay) → listed_replayed table c x r ≡ Ok next
+pub one_replays : (table : Table) (c : Certificate) (x : ListedStep) (r next : Replay) → listed_replayed table c x r ≡ Ok next
     → (event : Event) × (event_listed r.world.sent x ≡ Some event) × Replays table r (event ∷ []) [] next
 one_replays table c x r next is =
     let found = then_ok (ok_or (event_listed r.world.sent x) (fault_at FateRange (entry_of x))) _ next is in
@@ -83,7 +83,7 @@ one_replays table c x r next is =
     (found.0, named, gap_event table c found.0 (why_refused x) (entry_of x) r next in_gap found.2)
 
 -- All listed events.
-pub listed_replay : (table : Table) (c : Certificate) (listed : List Listed) (items : List Item) (r next : Replay) → r.world.sent ≡ items
+pub listed_replay : (table : Table) (c : Certificate) (listed : List ListedStep) (items : List Item) (r next : Replay) → r.world.sent ≡ items
     → all_replayed table c listed r ≡ Ok next
     → (events : List Event) × (map Some events ≡ map (event_listed items) listed) × Replays table r events [] next
 listed_replay table c [] items r next so is = let same : r ≡ next = cc in ([], refl, subst (Replays table r [] []) same (replays_nothing table r))
@@ -108,12 +108,12 @@ deliveries_replay table c gap number (Gap g ∷ fates) (Sent side message ∷ it
     by : (b : Bool)
         → ((mid : Replay) → deliveries_by None table c gap (number + 1) fates items mid ≡ Ok next
         → Replays table mid (deliveries gap (number + 1) fates items) [] next)
-        → (cond b (happens table c (Receives (other side) number) BadReply number r) (Ok r)
+        → (cond b (after_event table c (Receives (other side) number) BadReply number r) (Ok r)
         >>= deliveries_by None table c gap (number + 1) fates items) ≡ Ok next
         → Replays table r
         (cond b (Receives (other side) number ∷ deliveries gap (number + 1) fates items) (deliveries gap (number + 1) fates items)) [] next
     by true on is =
-        let one = then_ok (happens table c (Receives (other side) number) BadReply number r) _ next is in
+        let one = then_ok (after_event table c (Receives (other side) number) BadReply number r) _ next is in
         replays_then table r one.0 next (Receives (other side) number ∷ []) (deliveries gap (number + 1) fates items) [] []
         (gap_event table c (Receives (other side) number) BadReply number r one.0 (receives_in_gap (other side) number) one.1)
         (on one.0 one.2)
@@ -221,7 +221,7 @@ pub reply_replays : (table : Table) (c : Certificate) (side : Side) (abort : Mes
 reply_replays table c side abort number r next is =
     let event = Replies side number in
     let before = lost_from_front c (other side) r in
-    let step = then_ok (happens table c event BadReply (next_entry r) r) _ next is in
+    let step = then_ok (after_event table c event BadReply (next_entry r) r) _ next is in
     let so = needs_ok (is_abort abort (slice_get step.0.world.sent (next_entry r))) (fault_at BadReply (next_entry r)) _ next step.2 in
     let last : step.0 ≡ next = ok_same {F = CheckFault} step.0 next so.1 in
     let made : stepped table event before ≡ Some step.0 = some_ok (stepped table event before) (fault_at BadReply (next_entry r)) step.0 step.1 in

@@ -7,7 +7,7 @@ use Rattle.std.proofs.lemmas.Bool.{eqb-true, eq-eqb}
 use Rattle.tcap_record.specs.declared.entry.End.{End as Side}
 use Rattle.tcap_record.specs.Ends.{other}
 use Rattle.tcap_model.specs.Run.{Event, Receives, Sends, Replies, Loses, Expires, Closes, Quiet, Tells, after, played}
-use Rattle.tcap_model.specs.World.{Item, Sent, OnItsWay, end_at, World, channel_from, with_channel}
+use Rattle.tcap_model.specs.World.{Item, Sent, MessageInTransit, end_at, World, channel_from, with_channel}
 use Rattle.tcap_certificate.specs.declared.certificate.Fate.{Fate}
 use Rattle.tcap_certificate.specs.declared.certificate.Fate.TheVariants.{Gap, Lost, By}
 use Rattle.tcap_certificate.specs.DescribedRun.{deliveries, taken_by, is_loss, without_losses, sending_by}
@@ -113,17 +113,17 @@ taken_are all (By k ∷ fates) reply n are =
 -- ---- the messages on a channel whose fates are not losses
 
 -- the messages with this one, unless it is lost
-abbrev pub waiting_by : Option Fate → OnItsWay → List OnItsWay → List OnItsWay
+abbrev pub waiting_by : Option Fate → MessageInTransit → List MessageInTransit → List MessageInTransit
 waiting_by (Some Lost) m messages = messages
 waiting_by _ m messages = m ∷ messages
 
 -- the messages of a channel that are not lost, oldest first
-abbrev pub waiting : List Fate → List OnItsWay → List OnItsWay
+abbrev pub waiting : List Fate → List MessageInTransit → List MessageInTransit
 waiting fates [] = []
 waiting fates (m ∷ more) = waiting_by (slice_get fates m.number) m (waiting fates more)
 
 -- The losses at the front do not change which messages of a channel wait.
-pub behind_lost : (fates : List Fate) (channel : List OnItsWay)
+pub behind_lost : (fates : List Fate) (channel : List MessageInTransit)
     → waiting fates (drop (length (lost_front fates channel)) channel) ≡ waiting fates channel
 behind_lost fates [] = refl
 behind_lost fates (first ∷ more) = by (slice_get fates first.number) refl (behind_lost fates more)
@@ -138,14 +138,14 @@ behind_lost fates (first ∷ more) = by (slice_get fates first.number) refl (beh
     by (Some Lost) at rest = rest
 
 -- The head of a channel after the losses at its front is not lost.
-pub head_stays : (fates : List Fate) (channel : List OnItsWay) (head : OnItsWay) (more : List OnItsWay)
+pub head_stays : (fates : List Fate) (channel : List MessageInTransit) (head : MessageInTransit) (more : List MessageInTransit)
     → drop (length (lost_front fates channel)) channel ≡ head ∷ more → slice_get fates head.number ≡ Some Lost → ⊥
 head_stays fates [] head more is lost = cc
 head_stays fates (first ∷ channel) head more is lost = by (slice_get fates first.number) refl (head_stays fates channel head more) is
   where
     stays : (o : Option Fate) → slice_get fates first.number ≡ o → (o ≡ Some Lost → ⊥) → first ∷ channel ≡ head ∷ more → ⊥
     stays o at kept is =
-        let same : head ≡ first = cc in kept (sym at ∙ ap (λ (m : OnItsWay). slice_get fates m.number) (sym same) ∙ lost)
+        let same : head ≡ first = cc in kept (sym at ∙ ap (λ (m : MessageInTransit). slice_get fates m.number) (sym same) ∙ lost)
 
     by : (o : Option Fate) → slice_get fates first.number ≡ o
         → (drop (length (lost_front fates channel)) channel ≡ head ∷ more → slice_get fates head.number ≡ Some Lost → ⊥)
@@ -206,19 +206,19 @@ discard_is table side number r next is =
       events = ap (λ (x : Replay). x.events) (sym found.2);
     }
 
-with_twice : (side : Side) (a b : List OnItsWay) (w : World) → with_channel side a (with_channel side b w) ≡ with_channel side a w
+with_twice : (side : Side) (a b : List MessageInTransit) (w : World) → with_channel side a (with_channel side b w) ≡ with_channel side a w
 with_twice sides.A a b w = refl
 with_twice sides.B a b w = refl
 
-pub channel_with : (side : Side) (a : List OnItsWay) (w : World) → channel_from side (with_channel side a w) ≡ a
+pub channel_with : (side : Side) (a : List MessageInTransit) (w : World) → channel_from side (with_channel side a w) ≡ a
 channel_with sides.A a w = refl
 channel_with sides.B a w = refl
 
-stays : (side : Side) (channel : List OnItsWay) (w : World) → channel_from side w ≡ channel → Some w ≡ Some (with_channel side channel w)
-stays side channel w is = ap Some (sym (ap (λ (x : List OnItsWay). with_channel side x w) (sym is) ∙ with_same side w))
+stays : (side : Side) (channel : List MessageInTransit) (w : World) → channel_from side w ≡ channel → Some w ≡ Some (with_channel side channel w)
+stays side channel w is = ap Some (sym (ap (λ (x : List MessageInTransit). with_channel side x w) (sym is) ∙ with_same side w))
 
 -- The losses at the front of a channel can happen.
-pub front_plays : (table : Table) (fates : List Fate) (side : Side) (channel : List OnItsWay) (w : World) → channel_from side w ≡ channel
+pub front_plays : (table : Table) (fates : List Fate) (side : Side) (channel : List MessageInTransit) (w : World) → channel_from side w ≡ channel
     → played table (map (Loses side) (lost_front fates channel)) w ≡ Some (with_channel side (drop (length (lost_front fates channel)) channel) w)
 front_plays table fates side [] w is = stays side [] w is
 front_plays table fates side (first ∷ more) w is =

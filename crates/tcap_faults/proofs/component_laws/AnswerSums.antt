@@ -8,7 +8,7 @@ use Rattle.tcap_parts.specs.declared.component.Component.TheVariants.{ReturnResu
 use Rattle.tcap_end.specs.Table.{Table}
 use Rattle.tcap_faults.specs.Counts.{any_problem, count, is_error, is_last_result, rejects_invoke}
 use Rattle.tcap_faults.specs.ComponentKinds.{answers_again, is_operation_overspent, is_overspent, more_answered}
-use Rattle.tcap_faults.specs.HalfByPeerId.{HalfOf}
+use Rattle.tcap_faults.specs.HalfByPeerId.{HalfMessages}
 use Rattle.tcap_faults.specs.declared.component.component_sort.Class.{Class}
 use Rattle.tcap_faults.specs.declared.component.component_sort.Class.TheVariants as classes
 use Rattle.tcap_faults.specs.declared.component.component_sort.Sort.TheVariants as sorts
@@ -36,10 +36,10 @@ answered_same of_1 of_2 of_3 all results errors rejects few_1 few_2 few_3 few =
       sum_few (results + errors) rejects (omega arith),
     ) refl
 
-module _ (table : Table) (h : HalfOf) (few_heard : AreFew h.heard) (id : ℤ) where
+module _ (table : Table) (h : HalfMessages) (few_incoming : AreFew h.incoming) (id : ℤ) where
   -- Whether more is answered than was heard.
   more_same : (results errors rejects : ℕ) → results + errors + rejects < 2 ^ 128
-      → more_answered_by (tallied table h.heard) id results errors rejects
+      → more_answered_by (tallied table h.incoming) id results errors rejects
       ≡ more_answered table h id results errors rejects
   more_same results errors rejects few =
       answered_same (of_class classes.One) (of_class classes.Two) (of_class classes.Three) (of_class classes.Any) results
@@ -47,13 +47,13 @@ module _ (table : Table) (h : HalfOf) (few_heard : AreFew h.heard) (id : ℤ) wh
       ∙ ap (λ all. ltb (of_class classes.One + of_class classes.Three) results
       || ltb (of_class classes.One + of_class classes.Two) errors
       || ltb (of_class classes.One + of_class classes.Two + of_class classes.Three) (results + errors)
-      || ltb all (results + errors + rejects)) (count_invokes table id h.heard)
+      || ltb all (results + errors + rejects)) (count_invokes table id h.incoming)
     where
       of_class : Class → ℕ
-      of_class class = count (is_sort table id (sorts.Invokes class)) h.heard
+      of_class class = count (is_sort table id (sorts.Invokes class)) h.incoming
 
       few_of : (class : Class) → of_class class ≤ 2 ^ 126
-      few_of class = omega (arith, few_heard, count_within (is_sort table id (sorts.Invokes class)) h.heard)
+      few_of class = omega (arith, few_incoming, count_within (is_sort table id (sorts.Invokes class)) h.incoming)
 
   module _ (all before own : List Component) (few : AreFew before) where
     -- Whether what was sent answers more, with so many components besides.
@@ -108,19 +108,19 @@ module _ (table : Table) (h : HalfOf) (few_heard : AreFew h.heard) (id : ℤ) wh
     operation_same body = grind arith
 
 -- Whether a component has F12.
-pub answers_again_same : (table : Table) (h : HalfOf) (all before own : List Component) → AreFew h.heard → AreFew before
+pub answers_again_same : (table : Table) (h : HalfMessages) (all before own : List Component) → AreFew h.incoming → AreFew before
     → (c : Component) → answers_again_by (counted_of table h all before own) c ≡ answers_again table h own before c
-answers_again_same table h all before own few_heard few (ReturnResult true id body) =
+answers_again_same table h all before own few_incoming few (ReturnResult true id body) =
     ap₂ (λ a b. a || b)
-    (behind table h few_heard id all before own few (ReturnResult true id body) 1 0 0 (ap one (id_itself id)) refl refl
-    (omega arith)) (operation_same table h few_heard id all before own few body)
-answers_again_same table h all before own few_heard few (ReturnResult false id body) =
-    ap₂ (λ a b. a || b) (besides table h few_heard id all before own few)
-    (operation_same table h few_heard id all before own few body)
-answers_again_same table h all before own few_heard few (ReturnError id code parameter) =
-    behind table h few_heard id all before own few (ReturnError id code parameter) 0 1 0 refl (ap one (id_itself id)) refl
+    (behind table h few_incoming id all before own few (ReturnResult true id body) 1 0 0 (ap one (id_itself id)) refl refl
+    (omega arith)) (operation_same table h few_incoming id all before own few body)
+answers_again_same table h all before own few_incoming few (ReturnResult false id body) =
+    ap₂ (λ a b. a || b) (besides table h few_incoming id all before own few)
+    (operation_same table h few_incoming id all before own few body)
+answers_again_same table h all before own few_incoming few (ReturnError id code parameter) =
+    behind table h few_incoming id all before own few (ReturnError id code parameter) 0 1 0 refl (ap one (id_itself id)) refl
     (omega arith)
-answers_again_same table h all before own few_heard few (Reject (Some id) (problems.Invoke n)) =
-    behind table h few_heard id all before own few (Reject (Some id) (problems.Invoke n)) 0 0 1 refl refl
+answers_again_same table h all before own few_incoming few (Reject (Some id) (problems.Invoke n)) =
+    behind table h few_incoming id all before own few (Reject (Some id) (problems.Invoke n)) 0 0 1 refl refl
     (ap (λ b. one (b && true)) (id_itself id)) (omega arith)
-answers_again_same table h all before own few_heard few c = refl
+answers_again_same table h all before own few_incoming few c = refl

@@ -16,9 +16,9 @@ code_same (Global octets) (Local n) is = cc
 code_same (Global a) (Global b) is = ap Global (tells_apart exact_bytes a b is)
 
 absorbed : (a b : Bool) → (b ≡ true → a ≡ true) → a ≡ (a || b)
-absorbed true b then_so = refl
-absorbed false true then_so = then_so refl
-absorbed false false then_so = refl
+absorbed true b option_then = refl
+absorbed false true option_then = option_then refl
+absorbed false false option_then = refl
 
 -- If a code of the list passes a test, the test finds one.
 listed_passes : (code : Code) (passes : Code → Bool) (codes : List Code) → list_any (is_code code) codes ≡ true

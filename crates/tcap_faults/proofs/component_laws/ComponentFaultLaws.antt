@@ -14,20 +14,20 @@ use Rattle.tcap_refute.specs.declared.kind.Kind.TheVariants as kinds
 use Rattle.tcap_refute.specs.EarlierMessages.{invokes, is_reject}
 use Rattle.tcap_faults.specs.Components.{has_component, invokes_again, is_linked}
 use Rattle.tcap_faults.specs.Counts.{count}
-use Rattle.tcap_refute.specs.FirstComponent.{first_so}
+use Rattle.tcap_refute.specs.FirstComponent.{first_where}
 use Rattle.tcap_faults.proofs.list_laws.CountLaws.{count_both}
 use Rattle.tcap_refute.proofs.TestLaws.{or_none}
 use Rattle.tcap_faults.specs.ComponentKinds.{answers_again, invokes_busy, links_badly, may_reject_answer, rejects_wrongly}
-use Rattle.tcap_faults.specs.HalfByPeerId.{HalfOf}
+use Rattle.tcap_faults.specs.HalfByPeerId.{HalfMessages}
 use Rattle.tcap_faults.specs.declared.component.component_faults.ComponentFaults.{ComponentFaults}
 use Rattle.tcap_faults.specs.declared.dialogue.half.Half.{Half}
 use Rattle.tcap_faults.specs.declared.component.tally.Tally.{Tally}
 use Rattle.tcap_faults.specs.InvokeCounts.{AreFew, both_tallied, tallied}
 use Rattle.tcap_faults.specs.TallyMeaning.{IsTally, tallies_of, tally_of}
-use Rattle.tcap_faults.specs.KeptHalf.{IsHalf}
+use Rattle.tcap_faults.specs.KeyedHalf.{IsHalf}
 use Rattle.tcap_faults.specs.KindsByCounts.{answers_again_by, counted_by, invokes_busy_by, links_badly_by, rejects_wrongly_by}
-use Rattle.tcap_faults.specs.Faults.{IsFaultless, IsFirstNoted, IsWith, component_at, first_or, invokes_one_of}
-use Rattle.tcap_faults.specs.FaultSubject.{alone_component, component_so, half_component}
+use Rattle.tcap_faults.specs.ComponentFaults.{IsFaultless, IsFirstNoted, IsWith, component_at, first_or, invokes_one_of}
+use Rattle.tcap_faults.specs.FaultSubject.{alone_component, first_component_where, half_component}
 use Rattle.tcap_faults.proofs.component_laws.FewSums.{count_within, few_behind, few_front, tallied_both}
 use Rattle.tcap_faults.proofs.component_laws.InvokeSums.{counted_of, invokes_busy_same, links_badly_same}
 use Rattle.tcap_faults.proofs.component_laws.AnswerSums.{answers_again_same}
@@ -35,9 +35,9 @@ use Rattle.tcap_faults.proofs.component_laws.RejectSums.{rejects_wrongly_same}
 
 -- ---- a part of few components is few
 
-few_split : (told own left all : List Component) → own ++ left ≡ all → AreFew (told ++ all)
-    → AreFew ((told ++ own) ++ left)
-few_split told own left all whole few = rw (append_assoc told own left, whole) few
+few_split : (outgoing own left all : List Component) → own ++ left ≡ all → AreFew (outgoing ++ all)
+    → AreFew ((outgoing ++ own) ++ left)
+few_split outgoing own left all whole few = rw (append_assoc outgoing own left, whole) few
 
 -- ---- the first component
 
@@ -51,7 +51,7 @@ first_else old now number left = grind arith
 
 -- There is a first component exactly if one passes.
 pub some_component : (is_so : List Component → List Component → Component → Bool) (number : ℕ) (own before cs : List Component)
-    → is_some (component_so is_so number own before cs) ≡ has_component is_so own before cs
+    → is_some (first_component_where is_so number own before cs) ≡ has_component is_so own before cs
 some_component is_so number own before [] = refl
 some_component is_so number own before (c ∷ more) =
     grind (arith, some_component is_so (number + 1) (own ++ c ∷ []) (before ++ c ∷ []) more)
@@ -68,22 +68,22 @@ a_reject : (id : ℤ) (c : Component) → may_reject_answer id c ≡ true → is
 a_reject id c is = grind (arith, is)
 
 -- The Rejects of the message decide whether an ID is in use.
-module _ (table : Table) (h : HalfOf) (told cs own before : List Component) where
-  as_many : (id : ℤ) → count (may_reject_answer id) (told ++ filter is_reject cs) ≡ count (may_reject_answer id) (told ++ cs)
+module _ (table : Table) (h : HalfMessages) (outgoing cs own before : List Component) where
+  as_many : (id : ℤ) → count (may_reject_answer id) (outgoing ++ filter is_reject cs) ≡ count (may_reject_answer id) (outgoing ++ cs)
   as_many id =
-      count_both (may_reject_answer id) told (filter is_reject cs)
-      ∙ ap (λ n. count (may_reject_answer id) told + n) (count_among (may_reject_answer id) is_reject (a_reject id) cs)
-      ∙ sym (count_both (may_reject_answer id) told cs)
+      count_both (may_reject_answer id) outgoing (filter is_reject cs)
+      ∙ ap (λ n. count (may_reject_answer id) outgoing + n) (count_among (may_reject_answer id) is_reject (a_reject id) cs)
+      ∙ sym (count_both (may_reject_answer id) outgoing cs)
 
   busy_by_rejects : (c : Component)
-      → invokes_busy table h (told ++ filter is_reject cs) own before c ≡ invokes_busy table h (told ++ cs) own before c
+      → invokes_busy table h (outgoing ++ filter is_reject cs) own before c ≡ invokes_busy table h (outgoing ++ cs) own before c
   busy_by_rejects (Invoke id linked code parameter) = rw (as_many id) refl
   busy_by_rejects c = refl
 
-few_rejects : (told cs : List Component) → AreFew (told ++ cs) → AreFew (told ++ filter is_reject cs)
-few_rejects told cs few =
-    let a = length-append told cs in
-    let b = length-append told (filter is_reject cs) in
+few_rejects : (outgoing cs : List Component) → AreFew (outgoing ++ cs) → AreFew (outgoing ++ filter is_reject cs)
+few_rejects outgoing cs few =
+    let a = length-append outgoing cs in
+    let b = length-append outgoing (filter is_reject cs) in
     let c : length (filter is_reject cs) ≤ length cs = count_within is_reject cs in
     omega (arith, few, a, b, c)
 
@@ -113,23 +113,23 @@ module _ (table : Table) (all : List Component) where
 -- ---- what is counted
 
 -- The counts from a half, a tally of the components before one, and a tally of all Rejects.
-module _ (table : Table) (h : HalfOf) (half : Half) (tally rejects : Tally) (own cs : List Component)
+module _ (table : Table) (h : HalfMessages) (half : Half) (tally rejects : Tally) (own cs : List Component)
     (is : IsHalf table h half) (is_own : IsTally table own tally)
     (are_rejects : IsTally table (filter is_reject cs) rejects) where
-  told_with : (more : List Component) (kept : Tally) → IsTally table more kept → AreFew (h.told ++ more)
-      → both_tallied (tallies_of (map (λ b. b.now) half.told.items)) (tally_of kept) ≡ tallied table (h.told ++ more)
-  told_with more kept are few =
-      ap₂ both_tallied (is.told (few_front h.told more few)) (are (few_behind h.told more few))
-      ∙ tallied_both table h.told more few
+  outgoing_with : (more : List Component) (kept : Tally) → IsTally table more kept → AreFew (h.outgoing ++ more)
+      → both_tallied (tallies_of (map (λ b. b.now) half.outgoing.items)) (tally_of kept) ≡ tallied table (h.outgoing ++ more)
+  outgoing_with more kept are few =
+      ap₂ both_tallied (is.outgoing (few_front h.outgoing more few)) (are (few_behind h.outgoing more few))
+      ∙ tallied_both table h.outgoing more few
 
-  counted_same : AreFew h.heard → AreFew h.invoked → AreFew (h.told ++ own) → AreFew (h.told ++ cs)
-      → counted_by half tally rejects ≡ counted_of table h (h.told ++ filter is_reject cs) (h.told ++ own) own
-  counted_same few_heard few_invoked few few_all = λ i. record {
-    heard = is.heard few_heard i;
+  counted_same : AreFew h.incoming → AreFew h.invoked → AreFew (h.outgoing ++ own) → AreFew (h.outgoing ++ cs)
+      → counted_by half tally rejects ≡ counted_of table h (h.outgoing ++ filter is_reject cs) (h.outgoing ++ own) own
+  counted_same few_incoming few_invoked few few_all = λ i. record {
+    incoming = is.incoming few_incoming i;
     invoked = is.invoked few_invoked i;
-    told = told_with own tally is_own few i;
-    own = is_own (few_behind h.told own few) i;
-    all_told = told_with (filter is_reject cs) rejects are_rejects (few_rejects h.told cs few_all) i;
+    outgoing = outgoing_with own tally is_own few i;
+    own = is_own (few_behind h.outgoing own few) i;
+    all_outgoing = outgoing_with (filter is_reject cs) rejects are_rejects (few_rejects h.outgoing cs few_all) i;
   }
 
 -- ---- over a half
@@ -137,14 +137,14 @@ module _ (table : Table) (h : HalfOf) (half : Half) (tally rejects : Tally) (own
 -- The component that was found so far, or else the first among those left, is the first of all.
 abbrev IsFoundSo : (List Component → List Component → Component → Bool) → List Component → List Component → List Component
     → List Component → ℕ → Option ℕ → Type 0
-IsFoundSo is_so told all own left number found =
-    option_or found (component_so is_so number own (told ++ own) left) ≡ component_so is_so 0 [] told all
+IsFoundSo is_so outgoing all own left number found =
+    option_or found (first_component_where is_so number own (outgoing ++ own) left) ≡ first_component_where is_so 0 [] outgoing all
 
-pub record IsSoFar (table : Table) (h : HalfOf) (all own left : List Component) (number : ℕ) (found : ComponentFaults) : Type 0 where
-  pub busy : IsFoundSo (invokes_busy table h (h.told ++ all)) h.told all own left number found.busy
-  pub badly_linked : IsFoundSo (links_badly table h) h.told all own left number found.badly_linked
-  pub answered_already : IsFoundSo (answers_again table h) h.told all own left number found.answered_already
-  pub wrongly_rejected : IsFoundSo (rejects_wrongly table h) h.told all own left number found.wrongly_rejected
+pub record IsSoFar (table : Table) (h : HalfMessages) (all own left : List Component) (number : ℕ) (found : ComponentFaults) : Type 0 where
+  pub busy : IsFoundSo (invokes_busy table h (h.outgoing ++ all)) h.outgoing all own left number found.busy
+  pub badly_linked : IsFoundSo (links_badly table h) h.outgoing all own left number found.badly_linked
+  pub answered_already : IsFoundSo (answers_again table h) h.outgoing all own left number found.answered_already
+  pub wrongly_rejected : IsFoundSo (rejects_wrongly table h) h.outgoing all own left number found.wrongly_rejected
 
 -- The loop over the components: those before the last are counted.
 pub record IsReached (table : Table) (half : Half) (all left : List Component) (last : Option Component) (own : Tally)
@@ -153,7 +153,7 @@ pub record IsReached (table : Table) (half : Half) (all left : List Component) (
   pub noted : IsTally table done own
   pub whole : (done ++ option_to_list last) ++ left ≡ all
   pub counted : number + length left ≡ length all
-  pub so_far : (h : HalfOf) → IsHalf table h half → AreFew h.heard → AreFew h.invoked → AreFew (h.told ++ all)
+  pub so_far : (h : HalfMessages) → IsHalf table h half → AreFew h.incoming → AreFew h.invoked → AreFew (h.outgoing ++ all)
       → IsSoFar table h all (done ++ option_to_list last) left number found
 
 -- Before the loop, nothing is found.
@@ -164,55 +164,55 @@ none_found table half all own found is none = record {
   noted = is;
   whole = refl;
   counted = omega arith;
-  so_far = λ h is few_heard few_invoked few. record {
-    busy = rw (none.busy, append-nil h.told) refl;
-    badly_linked = rw (none.badly_linked, append-nil h.told) refl;
-    answered_already = rw (none.answered_already, append-nil h.told) refl;
-    wrongly_rejected = rw (none.wrongly_rejected, append-nil h.told) refl;
+  so_far = λ h is few_incoming few_invoked few. record {
+    busy = rw (none.busy, append-nil h.outgoing) refl;
+    badly_linked = rw (none.badly_linked, append-nil h.outgoing) refl;
+    answered_already = rw (none.answered_already, append-nil h.outgoing) refl;
+    wrongly_rejected = rw (none.wrongly_rejected, append-nil h.outgoing) refl;
   };
 }
 
 -- One more component, for one kind.
-one_found : (is_so : List Component → List Component → Component → Bool) (told all own left : List Component) (c : Component)
-    (number : ℕ) (old new : Option ℕ) (now : Bool) → new ≡ first_or old now number → now ≡ is_so own (told ++ own) c
-    → IsFoundSo is_so told all own (c ∷ left) number old
-    → IsFoundSo is_so told all (own ++ c ∷ []) left (number + 1) new
-one_found is_so told all own left c number old new now is_new is_now is =
-    rw (is_new, is_now, ← append_assoc told own (c ∷ []))
-    (first_else old (is_so own (told ++ own) c) number _ ∙ is)
+one_found : (is_so : List Component → List Component → Component → Bool) (outgoing all own left : List Component) (c : Component)
+    (number : ℕ) (old new : Option ℕ) (now : Bool) → new ≡ first_or old now number → now ≡ is_so own (outgoing ++ own) c
+    → IsFoundSo is_so outgoing all own (c ∷ left) number old
+    → IsFoundSo is_so outgoing all (own ++ c ∷ []) left (number + 1) new
+one_found is_so outgoing all own left c number old new now is_new is_now is =
+    rw (is_new, is_now, ← append_assoc outgoing own (c ∷ []))
+    (first_else old (is_so own (outgoing ++ own) c) number _ ∙ is)
 
-module _ (table : Table) (h : HalfOf) (half : Half) (tally rejects : Tally) (kept : IsHalf table h half)
-    (few_heard : AreFew h.heard) (few_invoked : AreFew h.invoked) (all own left : List Component) (c : Component)
+module _ (table : Table) (h : HalfMessages) (half : Half) (tally rejects : Tally) (kept : IsHalf table h half)
+    (few_incoming : AreFew h.incoming) (few_invoked : AreFew h.invoked) (all own left : List Component) (c : Component)
     (noted : IsTally table own tally) (are_rejects : IsTally table (filter is_reject all) rejects)
-    (few_all : AreFew (h.told ++ all)) (few : AreFew ((h.told ++ own) ++ c ∷ left)) where
-  few_own : AreFew (h.told ++ own)
-  few_own = few_front (h.told ++ own) (c ∷ left) few
+    (few_all : AreFew (h.outgoing ++ all)) (few : AreFew ((h.outgoing ++ own) ++ c ∷ left)) where
+  few_own : AreFew (h.outgoing ++ own)
+  few_own = few_front (h.outgoing ++ own) (c ∷ left) few
 
   abbrev counted : List Component
-  counted = h.told ++ filter is_reject all
+  counted = h.outgoing ++ filter is_reject all
 
-  same : counted_by half tally rejects ≡ counted_of table h counted (h.told ++ own) own
-  same = counted_same table h half tally rejects own all kept noted are_rejects few_heard few_invoked few_own few_all
+  same : counted_by half tally rejects ≡ counted_of table h counted (h.outgoing ++ own) own
+  same = counted_same table h half tally rejects own all kept noted are_rejects few_incoming few_invoked few_own few_all
 
   one_more_found : (number : ℕ) (old new : ComponentFaults) → IsWith table (counted_by half tally rejects) number c old new
       → IsSoFar table h all own (c ∷ left) number old → IsSoFar table h all (own ++ c ∷ []) left (number + 1) new
   one_more_found number old new is so_far = record {
-    busy = one_found (invokes_busy table h (h.told ++ all)) h.told all own left c number _ _ _ is.busy
+    busy = one_found (invokes_busy table h (h.outgoing ++ all)) h.outgoing all own left c number _ _ _ is.busy
         (ap (λ by. invokes_busy_by by c) same
-        ∙ invokes_busy_same table h few_invoked counted (h.told ++ own) own c
-        ∙ busy_by_rejects table h h.told all own (h.told ++ own) c)
+        ∙ invokes_busy_same table h few_invoked counted (h.outgoing ++ own) own c
+        ∙ busy_by_rejects table h h.outgoing all own (h.outgoing ++ own) c)
         so_far.busy;
-    badly_linked = one_found (links_badly table h) h.told all own left c number _ _ _ is.badly_linked
+    badly_linked = one_found (links_badly table h) h.outgoing all own left c number _ _ _ is.badly_linked
         (ap (λ by. links_badly_by table by c) same
-        ∙ links_badly_same table h counted (h.told ++ own) own few_own c)
+        ∙ links_badly_same table h counted (h.outgoing ++ own) own few_own c)
         so_far.badly_linked;
-    answered_already = one_found (answers_again table h) h.told all own left c number _ _ _ is.answered_already
+    answered_already = one_found (answers_again table h) h.outgoing all own left c number _ _ _ is.answered_already
         (ap (λ by. answers_again_by by c) same
-        ∙ answers_again_same table h counted (h.told ++ own) own few_heard few_own c)
+        ∙ answers_again_same table h counted (h.outgoing ++ own) own few_incoming few_own c)
         so_far.answered_already;
-    wrongly_rejected = one_found (rejects_wrongly table h) h.told all own left c number _ _ _ is.wrongly_rejected
+    wrongly_rejected = one_found (rejects_wrongly table h) h.outgoing all own left c number _ _ _ is.wrongly_rejected
         (ap (λ by. rejects_wrongly_by table by c) same
-        ∙ rejects_wrongly_same table h counted (h.told ++ own) own few_heard few_invoked few_own c)
+        ∙ rejects_wrongly_same table h counted (h.outgoing ++ own) own few_incoming few_invoked few_own c)
         so_far.wrongly_rejected;
   }
 
@@ -228,10 +228,10 @@ one_reached table half tally rejects all here left last c was number old new rea
   noted = noted;
   whole = append_assoc own (c ∷ []) left ∙ parts;
   counted = let a = reached.counted in let b : length here ≡ 1 + length left = rw next (omega arith) in omega (arith, a, b);
-  so_far = λ h kept few_heard few_invoked few.
-      one_more_found table h half tally rejects kept few_heard few_invoked all own left c noted are_rejects few
-      (few_split h.told own (c ∷ left) all parts few) number old new is
-      (rw next at reached.so_far h kept few_heard few_invoked few);
+  so_far = λ h kept few_incoming few_invoked few.
+      one_more_found table h half tally rejects kept few_incoming few_invoked all own left c noted are_rejects few
+      (few_split h.outgoing own (c ∷ left) all parts few) number old new is
+      (rw next at reached.so_far h kept few_incoming few_invoked few);
 }
   where
     own : List Component
@@ -243,10 +243,10 @@ one_reached table half tally rejects all here left last c was number old new rea
 -- After the loop, all are judged.
 pub all_found : (table : Table) (half : Half) (all : List Component) (last : Option Component) (own : Tally) (number : ℕ)
     (found : ComponentFaults) → IsReached table half all [] last own number found
-    → (h : HalfOf) → IsHalf table h half → AreFew h.heard → AreFew h.invoked → AreFew (h.told ++ all)
+    → (h : HalfMessages) → IsHalf table h half → AreFew h.incoming → AreFew h.invoked → AreFew (h.outgoing ++ all)
     → (kind : Kind) → component_at kind found ≡ half_component table h all kind
-all_found table half all last own number found reached h kept few_heard few_invoked few =
-    grind (arith, reached.so_far h kept few_heard few_invoked few)
+all_found table half all last own number found reached h kept few_incoming few_invoked few =
+    grind (arith, reached.so_far h kept few_incoming few_invoked few)
 
 -- ---- a message without destination ID
 
@@ -256,7 +256,7 @@ pub record IsFirstSoFar (all left : List Component) (seen : BTreeSet ℤ) (numbe
   pub ids : (id : ℤ) → contains int_cmp seen id ≡ list_any (invokes id) done
   pub counted : number + length left ≡ length all
   pub busy : IsFoundSo invokes_again [] all done left number found.busy
-  pub badly_linked : option_or found.badly_linked (first_so is_linked number left) ≡ first_so is_linked 0 all
+  pub badly_linked : option_or found.badly_linked (first_where is_linked number left) ≡ first_where is_linked 0 all
   pub answered_already : found.answered_already ≡ None
   pub wrongly_rejected : found.wrongly_rejected ≡ None
 

@@ -9,11 +9,11 @@ use Rattle.tcap_parts.specs.declared.component.Component.TheVariants.{Invoke, Re
 use Rattle.tcap_end.specs.Table.{Table}
 use Rattle.tcap_refute.specs.EarlierMessages.{is_invoke_id}
 use Rattle.tcap_refute.proofs.TestLaws.{and_false, and_true}
-use Rattle.tcap_faults.specs.Counts.{invokes_so, is_result_of}
+use Rattle.tcap_faults.specs.Counts.{invokes_where, is_result_of}
 use Rattle.tcap_faults.specs.declared.component.component_sort.Sort.{Sort}
 use Rattle.tcap_faults.specs.declared.component.component_sort.Sort.TheVariants as sorts
-use Rattle.tcap_faults.specs.InvokeCounts.{invokes_link, is_sort, results_so}
-use Rattle.tcap_faults.specs.CountUpdate.{answers_by, error_has, has_sort, invoke_has, invoke_id, invokes_by, is_its_id, links_so, names_code, reject_has, result_has}
+use Rattle.tcap_faults.specs.InvokeCounts.{invokes_link, is_sort, results_where}
+use Rattle.tcap_faults.specs.CountUpdate.{answers_by, error_has, has_sort, invoke_has, invoke_id, invokes_by, is_its_id, links_where, names_code, reject_has, result_has}
 use Rattle.tcap_faults.proofs.list_laws.TwoTests.{and_turned}
 
 module _ (table : Table) (id : ℤ) where
@@ -47,7 +47,7 @@ module _ (table : Table) (id : ℤ) where
 
 module _ (id : ℤ) where
   pub its_operation : (passes : Code → Bool) (c : Component)
-      → invokes_so id passes c ≡ (is_its_id id (invoke_id c) && invokes_by passes c)
+      → invokes_where id passes c ≡ (is_its_id id (invoke_id c) && invokes_by passes c)
   its_operation passes c = grind arith
 
   pub its_name : (code : Code) (c : Component)
@@ -55,9 +55,9 @@ module _ (id : ℤ) where
   its_name code c = grind arith
 
   pub its_link : (passes : ℤ → Code → Bool) (c : Component)
-      → invokes_link id passes c ≡ (is_its_id id (invoke_id c) && links_so passes c)
+      → invokes_link id passes c ≡ (is_its_id id (invoke_id c) && links_where passes c)
   its_link passes c = grind arith
 
   pub its_answer : (passes : Code → Bool) (c : Component)
-      → results_so id passes c ≡ (is_its_id id (invoke_id c) && answers_by passes c)
+      → results_where id passes c ≡ (is_its_id id (invoke_id c) && answers_by passes c)
   its_answer passes c = grind arith

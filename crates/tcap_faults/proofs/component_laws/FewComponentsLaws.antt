@@ -13,9 +13,9 @@ use Rattle.tcap_record.specs.declared.entry.End.TheVariants as sides
 use Rattle.tcap_end.specs.End.{is_id}
 use Rattle.tcap_record.specs.Ends.{other}
 use Rattle.tcap_model.specs.World.{Item, Sent, has_quiet}
-use Rattle.tcap_refute.specs.EarlierMessages.{asked, components_of, has_a, is_a, sent_by, since_quiet}
-use Rattle.tcap_faults.specs.SentToId.{begin_from, goes_on_to, is_request_of, tells_to, told}
-use Rattle.tcap_faults.specs.HalfByPeerId.{answered_from, begun_from, continued_to, from_first, half_by, half_of, heard_of, responds}
+use Rattle.tcap_refute.specs.EarlierMessages.{peer_sent_from, components_of, has_a, is_a, sent_by, since_quiet}
+use Rattle.tcap_faults.specs.SentToId.{begin_from, is_continue_to, is_request_of, is_outgoing_to, outgoing}
+use Rattle.tcap_faults.specs.HalfByPeerId.{answered_from, begun_from, continued_to, from_first, half_by, half_of, incoming_continues, responds}
 use Rattle.tcap_faults.specs.SearchState.{AreCounted, AreRoomy, components_in_all}
 use Rattle.tcap_faults.specs.InvokeCounts.{AreFew}
 
@@ -63,53 +63,53 @@ sent_items sides.B (Item.Quiet ∷ items) = sent_items sides.B items
 sent_few : (side : Side) (items : List Item) → weight (sent_by side items) ≤ components_in_all items
 sent_few side items = let e = sent_items side items in omega arith
 
-asked_few : (side : Side) (id : List ℕ) (items : List Item) → weight (asked side id items) ≤ components_in_all items
+asked_few : (side : Side) (id : List ℕ) (items : List Item) → weight (peer_sent_from side id items) ≤ components_in_all items
 asked_few side id items =
     let e = part (λ m. is_id id (otid_in m)) (sent_by (other side) items) in
     let f = sent_few (other side) items in omega arith
 
-told_few : (side : Side) (id : List ℕ) (items : List Item) → weight (told side id items) ≤ components_in_all items
-told_few side id items =
+outgoing_few : (side : Side) (id : List ℕ) (items : List Item) → weight (outgoing side id items) ≤ components_in_all items
+outgoing_few side id items =
     let e = part (λ m. is_id id (dtid_in m) && is_none (cause_in m)) (sent_by side items) in
     let f = sent_few side items in omega arith
 
 -- ---- own invocations
 
 -- The Begin from the own ID is not among what was sent to the peer.
-abbrev begins_from : List ℕ → Message → Bool
-begins_from own m = is_a forms.Begin m && is_id own (otid_in m)
+abbrev is_begin_from : List ℕ → Message → Bool
+is_begin_from own m = is_a forms.Begin m && is_id own (otid_in m)
 
-no_both : (own id : List ℕ) (m : Message) → begins_from own m ≡ true → tells_to id m ≡ true → ⊥
-no_both own id m is told = grind (arith, is, told)
+no_both : (own id : List ℕ) (m : Message) → is_begin_from own m ≡ true → is_outgoing_to id m ≡ true → ⊥
+no_both own id m is outgoing = grind (arith, is, outgoing)
 
 begun_invoked : (side : Side) (id : List ℕ) (items : List Item) (own : List ℕ)
-    → weight (option_to_list (begin_from side own items) ++ told side id items) ≤ components_in_all items
+    → weight (option_to_list (begin_from side own items) ++ outgoing side id items) ≤ components_in_all items
 begun_invoked side id items own =
-    let a = weight_both (option_to_list (begin_from side own items)) (told side id items) in
-    let c = first_part (begins_from own) (sent_by side items) in
-    let d = apart (begins_from own) (tells_to id) (sent_by side items) (no_both own id) in
+    let a = weight_both (option_to_list (begin_from side own items)) (outgoing side id items) in
+    let c = first_part (is_begin_from own) (sent_by side items) in
+    let d = apart (is_begin_from own) (is_outgoing_to id) (sent_by side items) (no_both own id) in
     let e = sent_few side items in
     omega arith
 
 -- ---- what was heard
 
-begin_or_on : (own : List ℕ) (m : Message) → is_a forms.Begin m ≡ true → goes_on_to own m ≡ true → ⊥
+begin_or_on : (own : List ℕ) (m : Message) → is_a forms.Begin m ≡ true → is_continue_to own m ≡ true → ⊥
 begin_or_on own m is goes = grind (arith, is, goes)
 
-accepted_heard : (side : Side) (id : List ℕ) (items : List Item) (own : Option (List ℕ))
-    → weight (option_to_list (find (is_a forms.Begin) (asked side id items)) ++ continued_to side items id own)
+accepted_incoming : (side : Side) (id : List ℕ) (items : List Item) (own : Option (List ℕ))
+    → weight (option_to_list (find (is_a forms.Begin) (peer_sent_from side id items)) ++ continued_to side items id own)
     ≤ components_in_all items
-accepted_heard side id items None =
-    let a = weight_both (option_to_list (find (is_a forms.Begin) (asked side id items))) [] in
-    let b = first_part (is_a forms.Begin) (asked side id items) in
-    let c = part (is_a forms.Begin) (asked side id items) in
+accepted_incoming side id items None =
+    let a = weight_both (option_to_list (find (is_a forms.Begin) (peer_sent_from side id items))) [] in
+    let b = first_part (is_a forms.Begin) (peer_sent_from side id items) in
+    let c = part (is_a forms.Begin) (peer_sent_from side id items) in
     let d = asked_few side id items in
     omega arith
-accepted_heard side id items (Some own) =
-    let a = weight_both (option_to_list (find (is_a forms.Begin) (asked side id items)))
-    (filter (goes_on_to own) (asked side id items)) in
-    let b = first_part (is_a forms.Begin) (asked side id items) in
-    let c = apart (is_a forms.Begin) (goes_on_to own) (asked side id items) (begin_or_on own) in
+accepted_incoming side id items (Some own) =
+    let a = weight_both (option_to_list (find (is_a forms.Begin) (peer_sent_from side id items)))
+    (filter (is_continue_to own) (peer_sent_from side id items)) in
+    let b = first_part (is_a forms.Begin) (peer_sent_from side id items) in
+    let c = apart (is_a forms.Begin) (is_continue_to own) (peer_sent_from side id items) (begin_or_on own) in
     let d = asked_few side id items in
     omega arith
 
@@ -117,48 +117,48 @@ from_part : (p : Message → Bool) (xs : List Message) → weight (from_first p 
 from_part p [] = omega arith
 from_part p (x ∷ xs) = grind (arith, from_part p xs, weight_more x xs)
 
-heard_part : (begin : Option Message) (xs : List Message) → weight (heard_of begin xs) ≤ weight xs
-heard_part begin xs = by (is_request_of begin)
+incoming_part : (begin : Option Message) (xs : List Message) → weight (incoming_continues begin xs) ≤ weight xs
+incoming_part begin xs = by (is_request_of begin)
   where
     by : (b : Bool) → weight (cond b (from_first responds xs) xs) ≤ weight xs
     by true = from_part responds xs
     by false = omega arith
 
-begun_heard : (side : Side) (id : List ℕ) (items : List Item) (own : List ℕ)
-    → weight (heard_of (begin_from side own items) (continued_to side items id (Some own))) ≤ components_in_all items
-begun_heard side id items own =
-    let a = heard_part (begin_from side own items) (filter (goes_on_to own) (asked side id items)) in
-    let b = part (goes_on_to own) (asked side id items) in
+begun_incoming : (side : Side) (id : List ℕ) (items : List Item) (own : List ℕ)
+    → weight (incoming_continues (begin_from side own items) (continued_to side items id (Some own))) ≤ components_in_all items
+begun_incoming side id items own =
+    let a = incoming_part (begin_from side own items) (filter (is_continue_to own) (peer_sent_from side id items)) in
+    let b = part (is_continue_to own) (peer_sent_from side id items) in
     let c = asked_few side id items in
     omega arith
 
 -- ---- a half
 
 module _ (side : Side) (items : List Item) (id : List ℕ) where
-  heard_by : (begun : Bool) (own : Option (List ℕ)) → length (half_by side items id begun own).heard ≤ components_in_all items
-  heard_by true own = accepted_heard side id items (answered_from side items id)
-  heard_by false None = omega arith
-  heard_by false (Some own) = begun_heard side id items own
+  incoming_by : (begun : Bool) (own : Option (List ℕ)) → length (half_by side items id begun own).incoming ≤ components_in_all items
+  incoming_by true own = accepted_incoming side id items (answered_from side items id)
+  incoming_by false None = omega arith
+  incoming_by false (Some own) = begun_incoming side id items own
 
-  told_by : (begun : Bool) (own : Option (List ℕ)) → length (half_by side items id begun own).told ≤ components_in_all items
-  told_by true own = told_few side id items
-  told_by false None = omega arith
-  told_by false (Some own) = told_few side id items
+  outgoing_by : (begun : Bool) (own : Option (List ℕ)) → length (half_by side items id begun own).outgoing ≤ components_in_all items
+  outgoing_by true own = outgoing_few side id items
+  outgoing_by false None = omega arith
+  outgoing_by false (Some own) = outgoing_few side id items
 
   invoked_by : (begun : Bool) (own : Option (List ℕ))
       → length (half_by side items id begun own).invoked ≤ components_in_all items
-  invoked_by true own = told_few side id items
+  invoked_by true own = outgoing_few side id items
   invoked_by false None = omega arith
   invoked_by false (Some own) = begun_invoked side id items own
 
-  heard_few : length (half_of side items id).heard ≤ components_in_all items
-  heard_few = heard_by (has_a forms.Begin (asked side id items)) (begun_from side items id)
+  incoming_few : length (half_of side items id).incoming ≤ components_in_all items
+  incoming_few = incoming_by (has_a forms.Begin (peer_sent_from side id items)) (begun_from side items id)
 
-  half_told : length (half_of side items id).told ≤ components_in_all items
-  half_told = told_by (has_a forms.Begin (asked side id items)) (begun_from side items id)
+  half_outgoing : length (half_of side items id).outgoing ≤ components_in_all items
+  half_outgoing = outgoing_by (has_a forms.Begin (peer_sent_from side id items)) (begun_from side items id)
 
   invoked_few : length (half_of side items id).invoked ≤ components_in_all items
-  invoked_few = invoked_by (has_a forms.Begin (asked side id items)) (begun_from side items id)
+  invoked_few = invoked_by (has_a forms.Begin (peer_sent_from side id items)) (begun_from side items id)
 
 -- ---- one item after the other
 
@@ -213,17 +213,17 @@ module _ (side : Side) (id : List ℕ) (items : List Item) (m : Message) (roomy 
   all_items : components_in_all items + length (components_in m) ≤ 2 ^ 126
   all_items = let a = roomy.components in let b = all_more items side m in omega (arith, a, b)
 
-  pub heard_are_few : AreFew (half_of side items id).heard
-  heard_are_few = let a = all_items in let b = heard_few side items id in omega (arith, a, b)
+  pub incoming_are_few : AreFew (half_of side items id).incoming
+  incoming_are_few = let a = all_items in let b = incoming_few side items id in omega (arith, a, b)
 
   pub invoked_are_few : AreFew (half_of side items id).invoked
   invoked_are_few = let a = all_items in let b = invoked_few side items id in omega (arith, a, b)
 
-  pub told_are_few : AreFew ((half_of side items id).told ++ components_in m)
-  told_are_few =
+  pub outgoing_are_few : AreFew ((half_of side items id).outgoing ++ components_in m)
+  outgoing_are_few =
       let a = all_items in
-      let b = half_told side items id in
-      let c = length-append (half_of side items id).told (components_in m) in
+      let b = half_outgoing side items id in
+      let c = length-append (half_of side items id).outgoing (components_in m) in
       omega (arith, a, b, c)
 
 -- ---- since the last quiet mark

@@ -11,10 +11,10 @@ use Rattle.tcap_parts.specs.declared.component.Component.TheVariants.{Invoke}
 use Rattle.tcap_end.specs.Component.{is_code}
 use Rattle.tcap_end.specs.Table.{Table}
 use Rattle.tcap_refute.specs.EarlierMessages.{invokes, is_invoke_id}
-use Rattle.tcap_faults.specs.Counts.{count, invokes_so, is_result_of}
+use Rattle.tcap_faults.specs.Counts.{count, invokes_where, is_result_of}
 use Rattle.tcap_faults.specs.declared.component.component_sort.Class.TheVariants as classes
 use Rattle.tcap_faults.specs.declared.component.component_sort.Sort.TheVariants as sorts
-use Rattle.tcap_faults.specs.InvokeCounts.{AreFew, both_tallied, invokes_link, is_sort, results_so, sum, tallied}
+use Rattle.tcap_faults.specs.InvokeCounts.{AreFew, both_tallied, invokes_link, is_sort, results_where, sum, tallied}
 use Rattle.tcap_faults.proofs.list_laws.CountLaws.{any_counts, count_both, count_more, counts_any, one}
 use Rattle.tcap_faults.proofs.component_laws.SumLaws.{sum_few}
 
@@ -83,9 +83,9 @@ pub tallied_both : (table : Table) (xs ys : List Component) → AreFew (xs ++ ys
     → both_tallied (tallied table xs) (tallied table ys) ≡ tallied table (xs ++ ys)
 tallied_both table xs ys few = λ i. record {
   count = λ id sort. sum_both (is_sort table id sort) xs ys few i;
-  invokes_of = λ id code. sum_both (invokes_so id (is_code code)) xs ys few i;
+  invokes_of = λ id code. sum_both (invokes_where id (is_code code)) xs ys few i;
   results_of = λ id code. sum_both (is_result_of id code) xs ys few i;
-  has_operation = λ id passes. sym (list_any-append (invokes_so id passes) xs ys) i;
+  has_operation = λ id passes. sym (list_any-append (invokes_where id passes) xs ys) i;
   has_link = λ id passes. sym (list_any-append (invokes_link id passes) xs ys) i;
-  has_result = λ id passes. sym (list_any-append (results_so id passes) xs ys) i;
+  has_result = λ id passes. sym (list_any-append (results_where id passes) xs ys) i;
 }

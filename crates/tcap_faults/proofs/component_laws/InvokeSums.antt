@@ -10,9 +10,9 @@ use Rattle.tcap_parts.specs.declared.component.Component.TheVariants.{Invoke, Re
 use Rattle.tcap_end.specs.Component.{links}
 use Rattle.tcap_end.specs.Table.{Table, expires_of}
 use Rattle.tcap_refute.specs.EarlierMessages.{invokes, is_invoke_id}
-use Rattle.tcap_faults.specs.Counts.{any_problem, count, invokes_so, is_error, is_last_result, is_not_last, rejects_invoke, rejects_result, takes}
+use Rattle.tcap_faults.specs.Counts.{any_problem, count, invokes_where, is_error, is_last_result, is_not_last, rejects_invoke, rejects_result, takes}
 use Rattle.tcap_faults.specs.ComponentKinds.{invokes_busy, is_busy, links_badly, may_reject_answer, may_reject_invoke, rejects_generally}
-use Rattle.tcap_faults.specs.HalfByPeerId.{HalfOf}
+use Rattle.tcap_faults.specs.HalfByPeerId.{HalfMessages}
 use Rattle.tcap_faults.specs.declared.component.component_sort.Class.{Class}
 use Rattle.tcap_faults.specs.declared.component.component_sort.Class.TheVariants as classes
 use Rattle.tcap_faults.specs.declared.component.component_sort.Sort.TheVariants as sorts
@@ -25,13 +25,13 @@ use Rattle.tcap_faults.proofs.component_laws.SumLaws.{above_sum, sum_few, sum_mo
 
 -- The exact counts of what a half heard, invoked and sent before, of the message's components before this one, and of
 -- all that may have ended an own invocation.
-abbrev pub counted_of : Table → HalfOf → List Component → List Component → List Component → Counted
+abbrev pub counted_of : Table → HalfMessages → List Component → List Component → List Component → Counted
 counted_of table h all before own = record {
-  heard = tallied table h.heard;
+  incoming = tallied table h.incoming;
   invoked = tallied table h.invoked;
-  told = tallied table before;
+  outgoing = tallied table before;
   own = tallied table own;
-  all_told = tallied table all;
+  all_outgoing = tallied table all;
 }
 
 -- ---- F10
@@ -93,14 +93,14 @@ count_either p q xs apart = omega (arith, least, most)
     most : count (λ c. p c || q c) xs ≤ count p xs + count q xs
     most = count_covered p q (λ c. p c || q c) xs (λ c is. is)
 
-module _ (table : Table) (h : HalfOf) (few_invoked : AreFew h.invoked) (all before own : List Component) where
+module _ (table : Table) (h : HalfMessages) (few_invoked : AreFew h.invoked) (all before own : List Component) where
   busy_same : (id : ℤ) → is_busy_by (counted_of table h all before own) id ≡ is_busy table h all id
   busy_same id =
       last_same (lasting classes.Any) (lasting classes.One) (lasting classes.Three) results errors rejects generals
       own_results own_generals not_lasts (weaker classes.One) (weaker classes.Three)
       (omega (arith, few_invoked, count_within (is_sort table id (sorts.Lasting classes.Any)) h.invoked))
       ∙ ap₂ (λ n m. ltb n (lasting classes.One + lasting classes.Three) || ltb m (lasting classes.Any))
-      (omega (arith, heard, told)) (omega (arith, heard))
+      (omega (arith, incoming, outgoing)) (omega (arith, incoming))
     where
       lasting : Class → ℕ
       lasting class = count (is_sort table id (sorts.Lasting class)) h.invoked
@@ -111,19 +111,19 @@ module _ (table : Table) (h : HalfOf) (few_invoked : AreFew h.invoked) (all befo
           (last_weaker table id class)
 
       results : ℕ
-      results = count (is_last_result id) h.heard
+      results = count (is_last_result id) h.incoming
 
       errors : ℕ
-      errors = count (is_error id) h.heard
+      errors = count (is_error id) h.incoming
 
       rejects : ℕ
-      rejects = count (rejects_invoke id any_problem) h.heard
+      rejects = count (rejects_invoke id any_problem) h.incoming
 
       generals : ℕ
-      generals = count (rejects_generally id) h.heard
+      generals = count (rejects_generally id) h.incoming
 
       not_lasts : ℕ
-      not_lasts = count (is_not_last id) h.heard
+      not_lasts = count (is_not_last id) h.incoming
 
       own_results : ℕ
       own_results = count (rejects_result id any_problem) all
@@ -131,11 +131,11 @@ module _ (table : Table) (h : HalfOf) (few_invoked : AreFew h.invoked) (all befo
       own_generals : ℕ
       own_generals = count (rejects_generally id) all
 
-      heard : count (may_reject_invoke id) h.heard ≡ rejects + generals
-      heard = count_either (rejects_invoke id any_problem) (rejects_generally id) h.heard (no_invoke id)
+      incoming : count (may_reject_invoke id) h.incoming ≡ rejects + generals
+      incoming = count_either (rejects_invoke id any_problem) (rejects_generally id) h.incoming (no_invoke id)
 
-      told : count (may_reject_answer id) all ≡ own_results + own_generals
-      told = count_either (rejects_result id any_problem) (rejects_generally id) all (no_answer id)
+      outgoing : count (may_reject_answer id) all ≡ own_results + own_generals
+      outgoing = count_either (rejects_result id any_problem) (rejects_generally id) all (no_answer id)
 
   -- Whether an Invoke has F10.
   pub invokes_busy_same : (c : Component)
@@ -166,9 +166,9 @@ taken_same table before id few =
     all = omega (arith, count_takes id before, count_takes_all id before)
 
 -- Whether an Invoke has F11.
-pub links_badly_same : (table : Table) (h : HalfOf) (all before own : List Component) → AreFew before → (c : Component)
+pub links_badly_same : (table : Table) (h : HalfMessages) (all before own : List Component) → AreFew before → (c : Component)
     → links_badly_by table (counted_of table h all before own) c ≡ links_badly table h own before c
 links_badly_same table h all before own few (Invoke id (Some to) code parameter) =
-    ap₂ (λ n m. nat_le n m || not (list_any (invokes_so to (λ of. links table of code)) h.heard))
-    (count_invokes table to h.heard) (taken_same table before to few)
+    ap₂ (λ n m. nat_le n m || not (list_any (invokes_where to (λ of. links table of code)) h.incoming))
+    (count_invokes table to h.incoming) (taken_same table before to few)
 links_badly_same table h all before own few c = refl

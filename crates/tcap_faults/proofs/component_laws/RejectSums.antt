@@ -10,13 +10,13 @@ use Rattle.tcap_parts.specs.declared.component.Component.TheVariants.{Invoke, Re
 use Rattle.tcap_end.specs.Component.{is_code, links}
 use Rattle.tcap_end.specs.Table.{Table}
 use Rattle.tcap_refute.specs.EarlierMessages.{invokes, is_invoke_id}
-use Rattle.tcap_faults.specs.Counts.{any_problem, count, count_class, count_suited, has_class, invokes_linked, invokes_so, is_error, is_result, rejects_error, rejects_invoke, rejects_result}
+use Rattle.tcap_faults.specs.Counts.{any_problem, count, count_class, count_suited, has_class, invokes_linked, invokes_where, is_error, is_result, rejects_error, rejects_invoke, rejects_result}
 use Rattle.tcap_faults.specs.Components.{is_linked_to, is_of_link, is_problem, lists_nothing}
 use Rattle.tcap_faults.specs.ComponentKinds.{is_expected, is_invoke_reject_wrong, is_link_fine, is_of_no_operation, is_reject_wrong, rejects_wrongly}
-use Rattle.tcap_faults.specs.HalfByPeerId.{HalfOf}
+use Rattle.tcap_faults.specs.HalfByPeerId.{HalfMessages}
 use Rattle.tcap_faults.specs.declared.component.component_sort.Class.TheVariants as classes
 use Rattle.tcap_faults.specs.declared.component.component_sort.Sort.TheVariants as sorts
-use Rattle.tcap_faults.specs.InvokeCounts.{AreFew, invokes_link, is_sort, results_so, sum, tallied}
+use Rattle.tcap_faults.specs.InvokeCounts.{AreFew, invokes_link, is_sort, results_where, sum, tallied}
 use Rattle.tcap_faults.specs.KindsByCounts.{is_answer_reject_wrong_by, is_expected_by, is_invoke_reject_wrong_by, is_link_fine_by, rejects_wrongly_by, suited_by}
 use Rattle.tcap_faults.proofs.list_laws.CountLaws.{count_last, one}
 use Rattle.tcap_faults.proofs.story_laws.InvokeListLaws.{id_itself}
@@ -43,17 +43,17 @@ one_more passes before c few is =
 
 -- ---- Rejects of Invokes
 
-module _ (table : Table) (h : HalfOf) (all before own : List Component) (few : AreFew before) (id : ℤ) where
+module _ (table : Table) (h : HalfMessages) (all before own : List Component) (few : AreFew before) (id : ℤ) where
   -- A linked Invoke that names an own invocation.
   linked_same : (passes : Code → Code → Bool) (c : Component)
-      → invokes_link id (λ linked code. list_any (invokes_so linked (λ to. passes to code)) h.invoked) c
+      → invokes_link id (λ linked code. list_any (invokes_where linked (λ to. passes to code)) h.invoked) c
       ≡ is_linked_to passes h.invoked id c
   linked_same passes c = grind arith
 
   any_linked : (passes : Code → Code → Bool)
-      → list_any (invokes_link id (λ linked code. list_any (invokes_so linked (λ to. passes to code)) h.invoked)) h.heard
-      ≡ list_any (is_linked_to passes h.invoked id) h.heard
-  any_linked passes = any_agree _ _ h.heard (linked_same passes)
+      → list_any (invokes_link id (λ linked code. list_any (invokes_where linked (λ to. passes to code)) h.invoked)) h.incoming
+      ≡ list_any (is_linked_to passes h.invoked id) h.incoming
+  any_linked passes = any_agree _ _ h.incoming (linked_same passes)
 
   fine_same : (problem : ℕ)
       → is_link_fine_by table (counted_of table h all before own) id problem ≡ is_link_fine table h id problem
@@ -74,16 +74,16 @@ module _ (table : Table) (h : HalfOf) (all before own : List Component) (few : A
       passed passes is = rw (id_itself id, is) refl
 
       again : (n == 0) ≡ true
-          → nat_le (count (is_sort table id (sorts.Invokes classes.Any)) h.heard)
+          → nat_le (count (is_sort table id (sorts.Invokes classes.Any)) h.incoming)
           (sum (count (rejects_invoke id (is_problem 0)) before) 1)
-          ≡ nat_le (count (invokes id) h.heard) (count (rejects_invoke id (is_problem 0)) (before ++ c ∷ []))
-      again is = ap₂ nat_le (count_invokes table id h.heard)
+          ≡ nat_le (count (invokes id) h.incoming) (count (rejects_invoke id (is_problem 0)) (before ++ c ∷ []))
+      again is = ap₂ nat_le (count_invokes table id h.incoming)
           (one_more (rejects_invoke id (is_problem 0)) before c few (passed (is_problem 0) is))
 
       linked : is_of_link n ≡ true
-          → nat_lt (count (invokes_linked id) h.heard) (sum (count (rejects_invoke id is_of_link) before) 1)
-          ≡ nat_lt (count (invokes_linked id) h.heard) (count (rejects_invoke id is_of_link) (before ++ c ∷ []))
-      linked is = ap (nat_lt (count (invokes_linked id) h.heard))
+          → nat_lt (count (invokes_linked id) h.incoming) (sum (count (rejects_invoke id is_of_link) before) 1)
+          ≡ nat_lt (count (invokes_linked id) h.incoming) (count (rejects_invoke id is_of_link) (before ++ c ∷ []))
+      linked is = ap (nat_lt (count (invokes_linked id) h.incoming))
           (one_more (rejects_invoke id is_of_link) before c few (passed is_of_link is))
 
 -- ---- Rejects of answers
@@ -102,7 +102,7 @@ answer_same most problem answers rejects suited expected rejects' suited' expect
     either : (a b c : Bool) → (a || (b || c)) ≡ (a || b || c)
     either a b c = grind arith
 
-module _ (table : Table) (h : HalfOf) (all before own : List Component) (few_heard : AreFew h.heard)
+module _ (table : Table) (h : HalfMessages) (all before own : List Component) (few_incoming : AreFew h.incoming)
     (few_invoked : AreFew h.invoked) (few : AreFew before) (id : ℤ) where
   -- The number of own invocations whose class allows the answer.
   suited_same : (of_result : Bool) → suited_by of_result (tallied table h.invoked) id
@@ -110,24 +110,24 @@ module _ (table : Table) (h : HalfOf) (all before own : List Component) (few_hea
   suited_same true = sum_few _ _ (omega (arith, few_invoked, of_class 1, of_class 3))
     where
       of_class : (class : ℕ) → count_class table id class h.invoked ≤ length h.invoked
-      of_class class = count_within (invokes_so id (has_class table class)) h.invoked
+      of_class class = count_within (invokes_where id (has_class table class)) h.invoked
   suited_same false = sum_few _ _ (omega (arith, few_invoked, of_class 1, of_class 2))
     where
       of_class : (class : ℕ) → count_class table id class h.invoked ≤ length h.invoked
-      of_class class = count_within (invokes_so id (has_class table class)) h.invoked
+      of_class class = count_within (invokes_where id (has_class table class)) h.invoked
 
   -- A Return Result of an operation that no own invocation has.
-  none_same : (code : Code) → (count (invokes_so id (is_code code)) h.invoked == 0)
-      ≡ not (list_any (invokes_so id (is_code code)) h.invoked)
+  none_same : (code : Code) → (count (invokes_where id (is_code code)) h.invoked == 0)
+      ≡ not (list_any (invokes_where id (is_code code)) h.invoked)
   none_same code =
-      none_counted (count (invokes_so id (is_code code)) h.invoked)
-      ∙ ap not (any_counted (invokes_so id (is_code code)) h.invoked)
+      none_counted (count (invokes_where id (is_code code)) h.invoked)
+      ∙ ap not (any_counted (invokes_where id (is_code code)) h.invoked)
     where
       none_counted : (n : ℕ) → (n == 0) ≡ not (nat_lt 0 n)
       none_counted n = grind (arith, nat_tests)
 
   unknown_same : (c : Component)
-      → results_so id (λ code. count (invokes_so id (is_code code)) h.invoked == 0) c ≡ is_of_no_operation h id c
+      → results_where id (λ code. count (invokes_where id (is_code code)) h.invoked == 0) c ≡ is_of_no_operation h id c
   unknown_same (ReturnResult last other (Some body)) = ap (λ b. is_invoke_id id other && b) (none_same body.code)
   unknown_same c = refl
 
@@ -135,21 +135,21 @@ module _ (table : Table) (h : HalfOf) (all before own : List Component) (few_hea
   expected_same : (of_result : Bool)
       → is_expected_by (counted_of table h all before own) of_result id ≡ is_expected table h of_result id
   expected_same of_result =
-      rw (suited_same of_result, count_invokes table id h.invoked, heard, unknown) refl
+      rw (suited_same of_result, count_invokes table id h.invoked, incoming, unknown) refl
     where
-      heard : sum (count (is_result id) h.heard) (count (is_error id) h.heard)
-          ≡ count (is_result id) h.heard + count (is_error id) h.heard
-      heard = sum_few _ _
-          (omega (arith, few_heard, count_within (is_result id) h.heard, count_within (is_error id) h.heard))
+      incoming : sum (count (is_result id) h.incoming) (count (is_error id) h.incoming)
+          ≡ count (is_result id) h.incoming + count (is_error id) h.incoming
+      incoming = sum_few _ _
+          (omega (arith, few_incoming, count_within (is_result id) h.incoming, count_within (is_error id) h.incoming))
 
-      unknown : list_any (results_so id (λ code. count (invokes_so id (is_code code)) h.invoked == 0)) h.heard
-          ≡ list_any (is_of_no_operation h id) h.heard
-      unknown = any_agree _ _ h.heard unknown_same
+      unknown : list_any (results_where id (λ code. count (invokes_where id (is_code code)) h.invoked == 0)) h.incoming
+          ≡ list_any (is_of_no_operation h id) h.incoming
+      unknown = any_agree _ _ h.incoming unknown_same
 
   result_wrong_same : (n : ℕ) → is_answer_reject_wrong_by (counted_of table h all before own) true id n
       ≡ is_reject_wrong table h (before ++ Reject (Some id) (problems.ReturnResult n) ∷ []) id (problems.ReturnResult n)
   result_wrong_same n =
-      answer_same 2 n (count (is_result id) h.heard) (count (rejects_result id any_problem) (before ++ c ∷ []))
+      answer_same 2 n (count (is_result id) h.incoming) (count (rejects_result id any_problem) (before ++ c ∷ []))
       (count_suited table true id h.invoked) (is_expected table h true id) _ _ _
       (one_more (rejects_result id any_problem) before c few (ap (λ b. b && true) (id_itself id))) (suited_same true)
       (expected_same true)
@@ -160,7 +160,7 @@ module _ (table : Table) (h : HalfOf) (all before own : List Component) (few_hea
   error_wrong_same : (n : ℕ) → is_answer_reject_wrong_by (counted_of table h all before own) false id n
       ≡ is_reject_wrong table h (before ++ Reject (Some id) (problems.ReturnError n) ∷ []) id (problems.ReturnError n)
   error_wrong_same n =
-      answer_same 4 n (count (is_error id) h.heard) (count (rejects_error id any_problem) (before ++ c ∷ []))
+      answer_same 4 n (count (is_error id) h.incoming) (count (rejects_error id any_problem) (before ++ c ∷ []))
       (count_suited table false id h.invoked) (is_expected table h false id) _ _ _
       (one_more (rejects_error id any_problem) before c few (ap (λ b. b && true) (id_itself id))) (suited_same false)
       (expected_same false)
@@ -169,13 +169,13 @@ module _ (table : Table) (h : HalfOf) (all before own : List Component) (few_hea
       c = Reject (Some id) (problems.ReturnError n)
 
 -- Whether a component has F13.
-pub rejects_wrongly_same : (table : Table) (h : HalfOf) (all before own : List Component) → AreFew h.heard
+pub rejects_wrongly_same : (table : Table) (h : HalfMessages) (all before own : List Component) → AreFew h.incoming
     → AreFew h.invoked → AreFew before → (c : Component)
     → rejects_wrongly_by table (counted_of table h all before own) c ≡ rejects_wrongly table h own before c
-rejects_wrongly_same table h all before own few_heard few_invoked few (Reject (Some id) (problems.Invoke n)) =
+rejects_wrongly_same table h all before own few_incoming few_invoked few (Reject (Some id) (problems.Invoke n)) =
     invoke_wrong_same table h all before own few id n
-rejects_wrongly_same table h all before own few_heard few_invoked few (Reject (Some id) (problems.ReturnResult n)) =
-    result_wrong_same table h all before own few_heard few_invoked few id n
-rejects_wrongly_same table h all before own few_heard few_invoked few (Reject (Some id) (problems.ReturnError n)) =
-    error_wrong_same table h all before own few_heard few_invoked few id n
-rejects_wrongly_same table h all before own few_heard few_invoked few c = refl
+rejects_wrongly_same table h all before own few_incoming few_invoked few (Reject (Some id) (problems.ReturnResult n)) =
+    result_wrong_same table h all before own few_incoming few_invoked few id n
+rejects_wrongly_same table h all before own few_incoming few_invoked few (Reject (Some id) (problems.ReturnError n)) =
+    error_wrong_same table h all before own few_incoming few_invoked few id n
+rejects_wrongly_same table h all before own few_incoming few_invoked few c = refl

@@ -4,7 +4,7 @@ use Rattle.std.proofs.lemmas.List.{append-nil}
 use Rattle.tcap_parts.specs.declared.component.Component.{Component}
 use Rattle.tcap_end.specs.Table.{Table}
 use Rattle.tcap_faults.specs.declared.component.tally.Tally.{Tally}
-use Rattle.tcap_faults.specs.KeptHalf.{AreTallies}
+use Rattle.tcap_faults.specs.KeyedHalf.{AreTallies}
 use Rattle.tcap_faults.specs.InvokeCounts.{both_tallied}
 use Rattle.tcap_faults.specs.TallyMeaning.{IsTally}
 use Rattle.tcap_faults.proofs.component_laws.FewSums.{few_behind, few_front, tallied_both}

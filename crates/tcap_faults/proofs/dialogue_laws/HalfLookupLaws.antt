@@ -16,26 +16,26 @@ use Rattle.tcap_record.specs.Ends.{other}
 use Rattle.tcap_end.specs.End.{is_id}
 use Rattle.tcap_end.specs.Table.{Table, octets_cmp}
 use Rattle.tcap_model.specs.World.{Item}
-use Rattle.tcap_model.specs.Run.{then_so}
-use Rattle.tcap_refute.specs.EarlierMessages.{asked, components_of, has_a, is_a, sent_by}
+use Rattle.tcap_model.specs.Run.{option_then}
+use Rattle.tcap_refute.specs.EarlierMessages.{peer_sent_from, components_of, has_a, is_a, sent_by}
 use Rattle.tcap_faults.specs.Counts.{is_nothing}
-use Rattle.tcap_faults.specs.SentToId.{begin_from, is_cause, is_request_of, told, was_refused}
+use Rattle.tcap_faults.specs.SentToId.{begin_from, is_cause, is_request_of, outgoing, was_refused}
 use Rattle.tcap_faults.specs.declared.dialogue.half.Half.{Half}
-use Rattle.tcap_faults.specs.declared.dialogue.half_origin.How.TheVariants.{Accepted, Begun, Refused, Unanswered}
-use Rattle.tcap_faults.specs.declared.transaction.sent_from_id.Came.{Came}
+use Rattle.tcap_faults.specs.declared.dialogue.half_origin.HalfOrigin.TheVariants.{Accepted, Begun, Refused, Unanswered}
+use Rattle.tcap_faults.specs.declared.transaction.sent_from_id.ContinueTallies.{ContinueTallies}
 use Rattle.tcap_faults.specs.declared.transaction.sent_from_id.FirstBegin.{FirstBegin}
 use Rattle.tcap_faults.specs.declared.transaction.sent_from_id.SentFrom.{SentFrom}
 use Rattle.tcap_faults.specs.declared.transaction.sent_to_id.SentTo.{SentTo}
 use Rattle.tcap_faults.specs.declared.component.tally.Tally.{Tally}
-use Rattle.tcap_faults.specs.KeptHalf.{AreTallies, IsHalf}
-use Rattle.tcap_faults.specs.HalfByPeerId.{HalfOf, accepted_half, answered_from, begun_half, continued_to, from_first, heard_of, responds}
+use Rattle.tcap_faults.specs.KeyedHalf.{AreTallies, IsHalf}
+use Rattle.tcap_faults.specs.HalfByPeerId.{HalfMessages, accepted_half, answered_from, begun_half, continued_to, from_first, incoming_continues, responds}
 use Rattle.tcap_faults.specs.IdList.{ids_first}
-use Rattle.tcap_faults.specs.History.{IsCame, IsCameAt, IsFirstBegin, IsFrom, IsTo, IsToAt, before_response, of_user, otids_of, sent_from, sent_to}
-use Rattle.tcap_faults.specs.HalfTallies.{IsBegunBy, IsCameBack, came_counted, heard_counted, told_counted}
-use Rattle.tcap_faults.specs.HalfKinds.{is_first_answer, is_wrong_aborting, is_wrong_dialogue, is_wrong_going_on}
+use Rattle.tcap_faults.specs.History.{IsContinueTallies, IsContinueTalliesAt, IsFirstBegin, IsFrom, IsTo, IsToAt, before_response, of_user, otids_of, sent_from, sent_to}
+use Rattle.tcap_faults.specs.HalfTallies.{IsBegunBy, IsContinueTalliesBack, continue_tallies, incoming_counted, outgoing_counted}
+use Rattle.tcap_faults.specs.HalfKinds.{is_first_answer, is_wrong_in_abort, is_wrong_dialogue, is_wrong_in_continue}
 use Rattle.tcap_faults.proofs.component_laws.TallySumLaws.{are_more, are_none, are_one}
 use Rattle.tcap_faults.proofs.list_laws.TwoTests.{any_both}
-use Rattle.tcap_faults.proofs.transaction_laws.HistoryLookupLaws.{told_is}
+use Rattle.tcap_faults.proofs.transaction_laws.HistoryLookupLaws.{outgoing_is}
 
 -- ---- two tests
 
@@ -48,37 +48,37 @@ refused_is side id items =
     any_both (λ m. is_id id (dtid_in m)) (λ m. is_cause 4 (cause_in m)) (sent_by side items)
 
 -- The first own ID is the originating ID of the first Continue.
-first_told : (ms : List Message) → ids_first (otids_of ms) ≡ then_so (find (is_a forms.Continue) (of_user ms)) otid_in
-first_told [] = refl
-first_told (Continue otid dtid dialogue components ∷ ms) = refl
-first_told (Abort dtid reason ∷ ms) = grind (arith, first_told ms)
-first_told (m ∷ ms) = first_told ms
+first_outgoing : (ms : List Message) → ids_first (otids_of ms) ≡ option_then (find (is_a forms.Continue) (of_user ms)) otid_in
+first_outgoing [] = refl
+first_outgoing (Continue otid dtid dialogue components ∷ ms) = refl
+first_outgoing (Abort dtid reason ∷ ms) = grind (arith, first_outgoing ms)
+first_outgoing (m ∷ ms) = first_outgoing ms
 
 pub first_answer : (side : Side) (id : List ℕ) (items : List Item)
     → ids_first (otids_of (sent_to side items id)) ≡ answered_from side items id
 first_answer side id items =
-    first_told (sent_to side items id)
-    ∙ ap (λ ms. then_so (find (is_a forms.Continue) ms) otid_in) (told_is side items id)
+    first_outgoing (sent_to side items id)
+    ∙ ap (λ ms. option_then (find (is_a forms.Continue) ms) otid_in) (outgoing_is side items id)
 
 -- There is a first own ID exactly if there is a Continue.
 first_there : (ms : List Message)
-    → is_none (then_so (find (is_a forms.Continue) ms) otid_in) ≡ not (has_a forms.Continue ms)
+    → is_none (option_then (find (is_a forms.Continue) ms) otid_in) ≡ not (has_a forms.Continue ms)
 first_there [] = refl
 first_there (Continue otid dtid dialogue components ∷ ms) = refl
 first_there (m ∷ ms) = first_there ms
 
 pub went_on : (side : Side) (id : List ℕ) (items : List Item)
-    → is_none (ids_first (otids_of (sent_to side items id))) ≡ not (has_a forms.Continue (told side id items))
-went_on side id items = ap is_none (first_answer side id items) ∙ first_there (told side id items)
+    → is_none (ids_first (otids_of (sent_to side items id))) ≡ not (has_a forms.Continue (outgoing side id items))
+went_on side id items = ap is_none (first_answer side id items) ∙ first_there (outgoing side id items)
 
 -- ---- what is kept of what was sent to the ID
 
 module _ (table : Table) (ms : List Message) (o : Option (Bor SentTo)) (at : IsToAt table ms (option_copied o)) where
-  pub told_there : (to : Bor SentTo) → o ≡ Some to → IsTo table ms to.now
-  told_there to is = (rw is at at).1
+  pub outgoing_there : (to : Bor SentTo) → o ≡ Some to → IsTo table ms to.now
+  outgoing_there to is = (rw is at at).1
 
-  pub told_nowhere : o ≡ None → ms ≡ []
-  told_nowhere is = rw is at at
+  pub outgoing_nowhere : o ≡ None → ms ≡ []
+  outgoing_nowhere is = rw is at at
 
 -- ---- Continues, divided at the first that answers
 
@@ -95,10 +95,10 @@ none_from (m ∷ ms) = grind (arith, none_from ms)
 -- The tallies of the Continues to an own ID, if that is known.
 abbrev pub later_of : SentFrom → Option (List ℕ) → List Tally
 later_of asks None = []
-later_of asks (Some own) = came_counted (lookup (is_at (octets_cmp own)) asks.came.entries)
+later_of asks (Some own) = continue_tallies (lookup (is_at (octets_cmp own)) asks.came.entries)
 
 module _ (table : Table) where
-  both_are : (ms : List Message) (came : Came) → IsCame table ms came
+  both_are : (ms : List Message) (came : ContinueTallies) → IsContinueTallies table ms came
       → AreTallies table (components_of ms) (came.sooner ∷ came.since ∷ [])
   both_are ms came is =
       subst (λ (cs : List Component). AreTallies table cs (came.sooner ∷ came.since ∷ [])) all
@@ -109,8 +109,8 @@ module _ (table : Table) where
           sym (flat_map-append components_in (before_response ms) (from_first responds ms))
           ∙ ap components_of (apart ms)
 
-  came_are : (ms : List Message) (came : Option Came) → IsCameAt table ms came
-      → AreTallies table (components_of ms) (came_counted came)
+  came_are : (ms : List Message) (came : Option ContinueTallies) → IsContinueTalliesAt table ms came
+      → AreTallies table (components_of ms) (continue_tallies came)
   came_are ms None none = rw none (are_none table)
   came_are ms (Some came) (some, is) = both_are ms came is
 
@@ -121,15 +121,15 @@ module _ (table : Table) where
   later_are side items id asks is None = are_none table
   later_are side items id asks is (Some own) = came_are _ _ (is.came own)
 
-  told_are : (side : Side) (id : List ℕ) (items : List Item) (kept : Option SentTo)
+  outgoing_are : (side : Side) (id : List ℕ) (items : List Item) (kept : Option SentTo)
       → IsToAt table (sent_to side items id) kept
-      → AreTallies table (components_of (told side id items)) (told_counted kept)
-  told_are side id items None none =
+      → AreTallies table (components_of (outgoing side id items)) (outgoing_counted kept)
+  outgoing_are side id items None none =
       subst (λ (ms : List Message). AreTallies table (components_of ms) [])
-      (ap of_user (sym none) ∙ told_is side items id) (are_none table)
-  told_are side id items (Some kept) (some, is) =
+      (ap of_user (sym none) ∙ outgoing_is side items id) (are_none table)
+  outgoing_are side id items (Some kept) (some, is) =
       subst (λ (ms : List Message). AreTallies table (components_of ms) (kept.components ∷ []))
-      (told_is side items id) (are_one table _ kept.components is.components)
+      (outgoing_is side items id) (are_one table _ kept.components is.components)
 
   behind : (begin : Option Message) (kept : FirstBegin) (ms : List Message) (tallies : List Tally)
       → IsFirstBegin table begin (Some kept) → AreTallies table (components_of ms) tallies
@@ -153,11 +153,11 @@ module _ (table : Table) where
 -- ---- a half that the peer's Begin began
 
 module _ (table : Table) (side : Side) (id : List ℕ) (items : List Item) (kept : Half) where
-  abbrev heard : List Tally
-  heard = map (λ b. b.now) kept.heard.items
+  abbrev incoming : List Tally
+  incoming = map (λ b. b.now) kept.incoming.items
 
   abbrev tells : List Tally
-  tells = map (λ b. b.now) kept.told.items
+  tells = map (λ b. b.now) kept.outgoing.items
 
   abbrev invokes : List Tally
   invokes = map (λ b. b.now) kept.invoked.items
@@ -169,43 +169,43 @@ module _ (table : Table) (side : Side) (id : List ℕ) (items : List Item) (kept
   pub is_accepted : (asks : SentFrom) (begin : FirstBegin) (to : Option SentTo)
       → IsFrom table (sent_from (other side) items id) asks → asks.begin ≡ Some begin
       → IsToAt table (sent_to side items id) to
-      → kept.how ≡ cond (was_refused side id items) Refused Accepted → kept.own ≡ answered_from side items id
-      → kept.requests ≡ begin.requests → heard ≡ begin.components ∷ later_of asks kept.own → tells ≡ told_counted to
-      → invokes ≡ told_counted to
+      → kept.origin ≡ cond (was_refused side id items) Refused Accepted → kept.own ≡ answered_from side items id
+      → kept.requests ≡ begin.requests → incoming ≡ begin.components ∷ later_of asks kept.own → tells ≡ outgoing_counted to
+      → invokes ≡ outgoing_counted to
       → IsHalf table (accepted_half side items id) kept
-  is_accepted asks begin to is begun at how own requests hears told_so invoked_so = record {
-    how = how;
+  is_accepted asks begin to is begun at origin own requests hears outgoing_so invoked_so = record {
+    origin = origin;
     own = own;
     requests = requests ∙ asks_so table _ begin begins;
-    heard =
+    incoming =
         read _ _ _ (hears ∙ ap (λ o. begin.components ∷ later_of asks o) own)
         (behind table _ begin _ (later_of asks (answered_from side items id)) begins
         (later_are table side items id asks is (answered_from side items id)));
-    told = read _ _ _ told_so (told_are table side id items to at);
-    invoked = read _ _ _ invoked_so (told_are table side id items to at);
+    outgoing = read _ _ _ outgoing_so (outgoing_are table side id items to at);
+    invoked = read _ _ _ invoked_so (outgoing_are table side id items to at);
   }
     where
-      begins : IsFirstBegin table (find (is_a forms.Begin) (asked side id items)) (Some begin)
+      begins : IsFirstBegin table (find (is_a forms.Begin) (peer_sent_from side id items)) (Some begin)
       begins =
-          subst (λ (o : Option FirstBegin). IsFirstBegin table (find (is_a forms.Begin) (asked side id items)) o)
+          subst (λ (o : Option FirstBegin). IsFirstBegin table (find (is_a forms.Begin) (peer_sent_from side id items)) o)
           begun is.begin
 
   -- ---- a half that the end's Begin began
 
-  pub is_begun : (own : List ℕ) (begin : FirstBegin) (came : Came) (to : Option SentTo)
-      → IsBegunBy table side items own begin → IsCameBack table side items id own came
+  pub is_begun : (own : List ℕ) (begin : FirstBegin) (came : ContinueTallies) (to : Option SentTo)
+      → IsBegunBy table side items own begin → IsContinueTalliesBack table side items id own came
       → IsToAt table (sent_to side items id) to
-      → kept.how ≡ cond (begin.requests && not came.answered) Unanswered Begun → kept.own ≡ Some own
-      → kept.requests ≡ begin.requests → heard ≡ heard_counted begin came → tells ≡ told_counted to
-      → invokes ≡ begin.components ∷ told_counted to
+      → kept.origin ≡ cond (begin.requests && not came.answered) Unanswered Begun → kept.own ≡ Some own
+      → kept.requests ≡ begin.requests → incoming ≡ incoming_counted begin came → tells ≡ outgoing_counted to
+      → invokes ≡ begin.components ∷ outgoing_counted to
       → IsHalf table (begun_half side items id own) kept
-  is_begun own begin came to begins (some, is) at how its requests hears told_so invoked_so = record {
-    how = how ∙ ap (λ b. cond b Unanswered Begun) (hears_none begin.requests asks);
+  is_begun own begin came to begins (some, is) at origin its requests hears outgoing_so invoked_so = record {
+    origin = origin ∙ ap (λ b. cond b Unanswered Begun) (hears_none begin.requests asks);
     own = its;
     requests = requests ∙ asks;
-    heard = read _ _ _ hears (hears_it begin.requests asks);
-    told = read _ _ _ told_so (told_are table side id items to at);
-    invoked = read _ _ _ invoked_so (behind table _ begin _ (told_counted to) begins (told_are table side id items to at));
+    incoming = read _ _ _ hears (hears_it begin.requests asks);
+    outgoing = read _ _ _ outgoing_so (outgoing_are table side id items to at);
+    invoked = read _ _ _ invoked_so (behind table _ begin _ (outgoing_counted to) begins (outgoing_are table side id items to at));
   }
     where
       asks : begin.requests ≡ is_request_of (begin_from side own items)
@@ -213,27 +213,27 @@ module _ (table : Table) (side : Side) (id : List ℕ) (items : List Item) (kept
 
       hears_none : (b : Bool) → b ≡ is_request_of (begin_from side own items)
           → (b && not came.answered)
-          ≡ is_nothing (heard_of (begin_from side own items) (continued_to side items id (Some own)))
+          ≡ is_nothing (incoming_continues (begin_from side own items) (continued_to side items id (Some own)))
       hears_none true so = rw (← so) (ap not is.answered ∙ sym (none_from (continued_to side items id (Some own))))
       hears_none false so = rw (← so) (sym some)
 
       hears_it : (b : Bool) → b ≡ is_request_of (begin_from side own items)
           → AreTallies table
-          (components_of (heard_of (begin_from side own items) (continued_to side items id (Some own))))
+          (components_of (incoming_continues (begin_from side own items) (continued_to side items id (Some own))))
           (cond b [] (came.sooner ∷ []) ++ came.since ∷ [])
       hears_it true so = rw (← so) (are_one table _ came.since is.since)
       hears_it false so = rw (← so) (both_are table _ came is)
 
 -- ---- the dialogue
 
-pub aborting_so : (side : Side) (items : List Item) (id : List ℕ) (m : Message) (h : HalfOf)
+pub aborting_so : (side : Side) (items : List Item) (id : List ℕ) (m : Message) (h : HalfMessages)
     → kind_in m ≡ forms.Abort
-    → is_wrong_aborting (is_first_answer side items id h) (is_request_of h.begin) (dialogue_in m)
+    → is_wrong_in_abort (is_first_answer side items id h) (is_request_of h.begin) (dialogue_in m)
     ≡ is_wrong_dialogue side items id m h
 aborting_so side items id m h so = grind (arith, so)
 
-pub going_on_else : (side : Side) (items : List Item) (id : List ℕ) (m : Message) (h : HalfOf)
+pub going_on_else : (side : Side) (items : List Item) (id : List ℕ) (m : Message) (h : HalfMessages)
     → (kind_in m ≡ forms.Abort → ⊥)
-    → is_wrong_going_on (is_first_answer side items id h) (is_request_of h.begin) (dialogue_in m)
+    → is_wrong_in_continue (is_first_answer side items id h) (is_request_of h.begin) (dialogue_in m)
     ≡ is_wrong_dialogue side items id m h
 going_on_else side items id m h not_so = grind (arith, not_so)

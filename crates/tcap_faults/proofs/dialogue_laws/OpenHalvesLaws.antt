@@ -22,14 +22,14 @@ use Rattle.tcap_record.specs.Ends.{other}
 use Rattle.tcap_end.specs.End.{is_id}
 use Rattle.tcap_end.specs.Table.{Table, octets_cmp}
 use Rattle.tcap_model.specs.World.{Item}
-use Rattle.tcap_model.specs.Run.{then_so}
-use Rattle.tcap_refute.specs.EarlierMessages.{asked, ends_to, has_a, is_a, message_of, sent_by}
+use Rattle.tcap_model.specs.Run.{option_then}
+use Rattle.tcap_refute.specs.EarlierMessages.{peer_sent_from, ends_to, has_a, is_a, message_of, sent_by}
 use Rattle.tcap_refute.specs.KeptFacts.{holds}
 use Rattle.tcap_end.proofs.FoundLaws.{is_that_id}
 use Rattle.tcap_refute.proofs.Members.{any_has, filter_has, has_first, has_not}
 use Rattle.tcap_refute.proofs.TestLaws.{and_false}
 use Rattle.tcap_faults.specs.ClosedHalves.{all_go_to_open, is_surely_open}
-use Rattle.tcap_faults.specs.SentToId.{goes_on_from, goes_on_to, has_ended, has_used, is_abort_with, is_cause, told}
+use Rattle.tcap_faults.specs.SentToId.{is_continue_from, is_continue_to, has_ended, has_used, is_abort_with, is_cause, outgoing}
 use Rattle.tcap_faults.specs.Counts.{count, is_nothing}
 use Rattle.tcap_faults.specs.declared.transaction.history.SideFacts.{SideFacts}
 use Rattle.tcap_faults.specs.declared.transaction.id_list.Ids.{Ids}
@@ -52,7 +52,7 @@ use Rattle.tcap_faults.proofs.component_laws.FewSums.{count_within}
 -- ---- a half that is surely open
 
 -- The destination ID of the first Continue.
-first_goes : (ms : List Message) → then_so (find (is_a forms.Continue) ms) dtid_in ≡ ids_first (dtids_of ms)
+first_goes : (ms : List Message) → option_then (find (is_a forms.Continue) ms) dtid_in ≡ ids_first (dtids_of ms)
 first_goes [] = refl
 first_goes (Continue otid dtid dialogue components ∷ ms) = refl
 first_goes (m ∷ ms) = first_goes ms
@@ -65,7 +65,7 @@ module _ (table : Table) (side : Side) (items : List Item) (own : List ℕ) wher
       && not (list_any (ends_to own) (sent_by (other side) items))
 
   surely_so : (to : Option (List ℕ))
-      → then_so (find (goes_on_from own) (sent_by side items)) dtid_in ≡ to
+      → option_then (find (is_continue_from own) (sent_by side items)) dtid_in ≡ to
       → open_to to ≡ is_surely_open table side items own
   surely_so None goes = rw goes refl
   surely_so (Some to) goes = rw goes refl
@@ -74,7 +74,7 @@ module _ (table : Table) (side : Side) (items : List Item) (own : List ℕ) wher
   surely =
       ap open_to
       (sym (first_goes (sent_from side items own))
-      ∙ ap (λ o. then_so o dtid_in) (found_both (λ m. is_id own (otid_in m)) (is_a forms.Continue) (sent_by side items)))
+      ∙ ap (λ o. option_then o dtid_in) (found_both (λ m. is_id own (otid_in m)) (is_a forms.Continue) (sent_by side items)))
       ∙ surely_so _ refl
 
   -- The half is surely open exactly if the end did not end the destination ID, and the peer did not end the own ID.
@@ -99,8 +99,8 @@ module _ (p : List ℕ → Bool) (ids : List (List ℕ)) (kept : Ids) (are : Are
   either_kept : (p first || list_any p kept.more.items) ≡ list_any p ids
   either_kept = ap (λ o. list_any p (ids_kept o kept.more.items)) (sym is) ∙ any_kept p ids kept are
 
-  pub first_so : p first ≡ true → true ≡ list_any p ids
-  first_so so = sym (or_left (p first) (list_any p kept.more.items) so) ∙ either_kept
+  pub first_where : p first ≡ true → true ≡ list_any p ids
+  first_where so = sym (or_left (p first) (list_any p kept.more.items) so) ∙ either_kept
 
   -- If the first does not pass, the others decide.
   pub others_so : p first ≡ false → list_any p kept.more.items ≡ list_any p ids
@@ -150,11 +150,11 @@ all_open_is table side items ms = ap₂ (λ a b. a && not b) (sym (some_go ms)) 
 -- ---- F14
 
 module _ (side : Side) (items : List Item) (id : List ℕ) where
-  pub accepted_is : (has_a forms.Begin (asked side id items)
+  pub accepted_is : (has_a forms.Begin (peer_sent_from side id items)
       && not (list_any (λ m. is_cause 4 (cause_in m)) (sent_to side items id)))
-      ≡ is_accepted (half_of side items id).how
+      ≡ is_accepted (half_of side items id).origin
   accepted_is =
-      ap (λ b. has_a forms.Begin (asked side id items) && not b)
+      ap (λ b. has_a forms.Begin (peer_sent_from side id items) && not b)
       (any_both (λ m. is_id id (dtid_in m)) (λ m. is_cause 4 (cause_in m)) (sent_by side items))
       ∙ sym (accepted_stands side items id)
 
@@ -163,16 +163,16 @@ module _ (side : Side) (items : List Item) (id : List ℕ) where
   unknown_is = ap length (filter_both (λ m. is_id id (dtid_in m)) (λ m. is_cause 1 (cause_in m)) (sent_by side items))
 
   -- One Continue was received if something was sent to the ID and no Begin was accepted.
-  pub received_one : not (is_nothing (told side id items)) ≡ true → is_accepted (half_of side items id).how ≡ false
+  pub received_one : not (is_nothing (outgoing side id items)) ≡ true → is_accepted (half_of side items id).origin ≡ false
       → ◌≡◌ {A = ℕ} 1 (count_received side id items (half_of side items id))
   received_one spoke none = grind (arith, spoke)
 
   -- Otherwise none was received.
-  pub none_received : is_accepted (half_of side items id).how ≡ true
+  pub none_received : is_accepted (half_of side items id).origin ≡ true
       → ◌≡◌ {A = ℕ} 0 (count_received side id items (half_of side items id))
-  none_received accepted = ap (λ b. cond b 0 1) (sym (or_right (is_nothing (told side id items)) _ accepted))
+  none_received accepted = ap (λ b. cond b 0 1) (sym (or_right (is_nothing (outgoing side id items)) _ accepted))
 
-  pub none_spoken : not (is_nothing (told side id items)) ≡ false
+  pub none_spoken : not (is_nothing (outgoing side id items)) ≡ false
       → ◌≡◌ {A = ℕ} 0 (count_received side id items (half_of side items id))
   none_spoken silent = grind (arith, silent)
 
@@ -244,8 +244,8 @@ module _ (table : Table) (side : Side) (items : List Item) (own : List ℕ) wher
   -- If the ID's Continues go to two IDs, the own ID is tangled.
   own_tangled : two_differ (dtids_of (sent_from side items own)) ≡ true → is_own_tangled side items own ≡ true
   own_tangled differ =
-      left_differ (filter_map dtid_in (filter (goes_on_from own) (sent_by side items)))
-      (cond (has_used side items own) (filter_map otid_in (filter (goes_on_to own) (sent_by (other side) items))) [])
+      left_differ (filter_map dtid_in (filter (is_continue_from own) (sent_by side items)))
+      (cond (has_used side items own) (filter_map otid_in (filter (is_continue_to own) (sent_by (other side) items))) [])
       (sym (ap two_differ (dtids_are side items own)) ∙ differ)
 
   all_tangled : two_differ (dtids_of (sent_from side items own)) ≡ true → (to : List ℕ) → is_plain to ≡ false

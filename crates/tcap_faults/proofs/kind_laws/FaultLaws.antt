@@ -17,16 +17,16 @@ use Rattle.tcap_model.specs.World.{Item, Sent, World, end_at}
 use Rattle.tcap_model.specs.Run.{Event, KeepsRules, Runs, provider_abort}
 use Rattle.tcap_refute.specs.declared.kind.Kind.{Kind}
 use Rattle.tcap_refute.specs.declared.kind.Kind.TheVariants as kinds
-use Rattle.tcap_refute.specs.EarlierMessages.{asked, components_of, sent_by, since_quiet}
+use Rattle.tcap_refute.specs.EarlierMessages.{peer_sent_from, components_of, sent_by, since_quiet}
 use Rattle.tcap_refute.specs.Kind.{answers_none_of, answers_nothing, is_of_kind}
-use Rattle.tcap_refute.specs.FirstKinds.{answers_none, answers_nothing_there, is_of_first_kind}
+use Rattle.tcap_refute.specs.FirstKinds.{answers_none, answers_nothing_for_end, is_of_first_kind}
 use Rattle.tcap_refute.proofs.KindLaws.{none_of_kind}
 use Rattle.tcap_refute.proofs.MomentLaws.{IsMoment, RepliesIt, SendsIt, sent_at}
 use Rattle.tcap_refute.proofs.OverLaws.{IsOver}
 use Rattle.tcap_refute.proofs.SentLaws.{IsSent, half_over}
 use Rattle.tcap_faults.specs.Fault.{is_fault, is_of_alone_kind, is_of_further_kind, is_of_half_kind, is_of_kind_to, is_of_reply_kind}
 use Rattle.tcap_faults.specs.HalfKinds.{is_wrong_half}
-use Rattle.tcap_faults.specs.HalfByPeerId.{HalfOf, half_of}
+use Rattle.tcap_faults.specs.HalfByPeerId.{HalfMessages, half_of}
 use Rattle.tcap_faults.specs.TangledIds.{goes_over_tangled}
 use Rattle.tcap_faults.proofs.story_laws.Stories.{Bounds, IsLed, got_in, sent_in}
 use Rattle.tcap_faults.proofs.view_laws.AdvanceLaws.{Refuses, refuses}
@@ -54,12 +54,12 @@ any_stricter components [] is = is
 any_stricter components (c ∷ cs) is =
     grind (arith, or_cases (answers_none components c) _ is, any_stricter components cs)
 
-nothing_stricter : (side : Side) (items : List Item) (m : Message) → answers_nothing_there side items m ≡ true
+nothing_stricter : (side : Side) (items : List Item) (m : Message) → answers_nothing_for_end side items m ≡ true
     → answers_nothing side items m ≡ true
 nothing_stricter side items (Continue otid dtid dialogue components) is =
-    any_stricter (components_of (asked side dtid items)) (items_of components) is
+    any_stricter (components_of (peer_sent_from side dtid items)) (items_of components) is
 nothing_stricter side items (EndMessage dtid dialogue components) is =
-    any_stricter (components_of (asked side dtid items)) (items_of components) is
+    any_stricter (components_of (peer_sent_from side dtid items)) (items_of components) is
 nothing_stricter side items m is = is
 
 first_stricter : (table : Table) (side : Side) (items : List Item) (m : Message) (kind : Kind)
@@ -82,7 +82,7 @@ module _ {table : Table} {events : List Event} {w : World} {side : Side} {messag
     half : IsOver table (end_at side w) message id
     half = half_over id it to
 
-    abbrev h : HalfOf
+    abbrev h : HalfMessages
     h = half_of side items id
 
     life : Story table side items (sent_by (other side) items) half.kept.slot half.kept.key half.kept.half
@@ -103,7 +103,7 @@ module _ {table : Table} {events : List Event} {w : World} {side : Side} {messag
         right_dialogue view message id half plain (behind (is_wrong_half side items message h) _ is)
     half_kind kinds.InvokeIdBusy is =
         invokes_none_busy table h life.past half.start bound led (components_in message) half.behind half.sends
-        (h.told ++ components_in message)
+        (h.outgoing ++ components_in message)
         (behind (is_wrong_half side items message h) _ is)
     half_kind kinds.BadLink is =
         links_none_badly table h life.past half.start bound led (components_in message) half.behind half.sends
@@ -150,7 +150,7 @@ further_sent table events w side (Abort dtid reason) kind it over is =
 
 -- ---- a reply of the provider
 
-reply_kind : (table : Table) (side : Side) (id : List ℕ) (items : List Item) (h : HalfOf) (cause : ℕ) (kind : Kind)
+reply_kind : (table : Table) (side : Side) (id : List ℕ) (items : List Item) (h : HalfMessages) (cause : ℕ) (kind : Kind)
     → is_of_reply_kind table side id items h cause kind ≡ true → kind ≡ kinds.WrongReply
 reply_kind table side id items h cause kind is = grind (arith, is)
 

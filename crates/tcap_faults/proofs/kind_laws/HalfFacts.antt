@@ -14,17 +14,17 @@ use Rattle.tcap_end.specs.declared.half.Slot.{Slot}
 use Rattle.tcap_end.specs.declared.half.Slot.TheVariants.{Begun, Accepted}
 use Rattle.tcap_end.specs.Table.{Table}
 use Rattle.tcap_end.specs.Half.{Half}
-use Rattle.tcap_end.specs.End.{End, KeptHalf, is_id}
-use Rattle.tcap_end.specs.ReachableEnd.{FitsPhase, Has, IsEnd}
+use Rattle.tcap_end.specs.End.{End, KeyedHalf, is_id}
+use Rattle.tcap_end.specs.ReachableEnd.{FitsPhase, HasHalf, IsEnd}
 use Rattle.tcap_model.specs.World.{Item}
 use Rattle.tcap_model.proofs.TurnLaws.{id_is}
-use Rattle.tcap_refute.specs.EarlierMessages.{asked, has_a, is_a, sent_by}
+use Rattle.tcap_refute.specs.EarlierMessages.{peer_sent_from, has_a, is_a, sent_by}
 use Rattle.tcap_refute.proofs.Members.{any_has, has_not}
 use Rattle.tcap_model.proofs.UsedLaws.{one_half}
 use Rattle.tcap_faults.specs.Counts.{count, is_nothing}
-use Rattle.tcap_faults.specs.HalfByPeerId.{continued_to, heard_of}
-use Rattle.tcap_faults.specs.SentToId.{began, begin_from, is_abort_with, told, was_refused}
-use Rattle.tcap_faults.proofs.story_laws.Stories.{continues_to, heard_behind, may_have_heard, told_to}
+use Rattle.tcap_faults.specs.HalfByPeerId.{continued_to, incoming_continues}
+use Rattle.tcap_faults.specs.SentToId.{began, begin_from, is_abort_with, outgoing, was_refused}
+use Rattle.tcap_faults.proofs.story_laws.Stories.{continues_to, incoming_behind, may_have_incoming, outgoing_to}
 use Rattle.tcap_faults.proofs.list_laws.CountLaws.{any_counts}
 use Rattle.tcap_faults.proofs.run_laws.HalfGoesOnLaws.{ToldOver}
 use Rattle.tcap_faults.proofs.view_laws.AcceptedHalfLaws.{all_asked}
@@ -53,7 +53,7 @@ either_slot Accepted = inr refl
 
 -- ---- a half of an end
 
-module _ (e : End) (f : KeptHalf) (sound : IsEnd e) (had : Has e f) where
+module _ (e : End) (f : KeyedHalf) (sound : IsEnd e) (had : HasHalf e f) where
   -- A begun half is kept by its own ID.
   pub kept_own : f.slot ≡ Begun → f.half.own ≡ Some f.key
   kept_own slot = rw slot at (sound.kept f had)
@@ -63,44 +63,44 @@ module _ (e : End) (f : KeptHalf) (sound : IsEnd e) (had : Has e f) where
   waits_so at = (subst (λ (p : Phase). FitsPhase p f.half) at (sound.halves f had).phase).0
 
 -- What was sent over a begun half: its Begin, and the messages to its peer.
-pub over_begun : (side : Side) (items : List Item) (f : KeptHalf) (messages : List Message)
+pub over_begun : (side : Side) (items : List Item) (f : KeyedHalf) (messages : List Message)
     → ToldOver side items f.slot f.key f.half.peer messages → f.slot ≡ Begun
     → (begin : Message) × (begin_from side f.key items ≡ Some begin)
-    × (messages ≡ begin ∷ told_to side items f.half.peer)
+    × (messages ≡ begin ∷ outgoing_to side items f.half.peer)
 over_begun side items f messages is slot = rw slot at is
 
 -- What was sent over an accepted half: the messages to its peer.
-pub over_accepted : (side : Side) (items : List Item) (f : KeptHalf) (messages : List Message)
-    → ToldOver side items f.slot f.key f.half.peer messages → f.slot ≡ Accepted → messages ≡ told_to side items f.half.peer
+pub over_accepted : (side : Side) (items : List Item) (f : KeyedHalf) (messages : List Message)
+    → ToldOver side items f.slot f.key f.half.peer messages → f.slot ≡ Accepted → messages ≡ outgoing_to side items f.half.peer
 over_accepted side items f messages is slot = rw slot at is
 
 -- If there is a Begin, what may have been heard is what was heard.
 pub behind_is : (begin : Option Message) (continues : List Message) → is_some begin ≡ true
-    → heard_behind begin continues ≡ heard_of begin continues
+    → incoming_behind begin continues ≡ incoming_continues begin continues
 behind_is begin continues is = grind (arith, is)
 
 pub come_begun : (side : Side) (items : List Item) (slot : Slot) (own peer : Option (List ℕ)) (w id : List ℕ)
     → slot ≡ Begun → own ≡ Some w → peer ≡ Some id → began side w items ≡ true
-    → may_have_heard side items (sent_by (other side) items) slot own peer
-    ≡ heard_of (begin_from side w items) (continued_to side items id (Some w))
+    → may_have_incoming side items (sent_by (other side) items) slot own peer
+    ≡ incoming_continues (begin_from side w items) (continued_to side items id (Some w))
 come_begun side items slot own peer w id is mine theirs begun =
     rw (is, mine, theirs) (behind_is (begin_from side w items) (continued_to side items id (Some w)) begun)
 
 pub come_accepted : (side : Side) (items : List Item) (slot : Slot) (own peer : Option (List ℕ)) (id : List ℕ)
     → slot ≡ Accepted → peer ≡ Some id
-    → may_have_heard side items (sent_by (other side) items) slot own peer
-    ≡ filter (is_a forms.Begin) (asked side id items) ++ continued_to side items id own
+    → may_have_incoming side items (sent_by (other side) items) slot own peer
+    ≡ filter (is_a forms.Begin) (peer_sent_from side id items) ++ continued_to side items id own
 come_accepted side items slot own peer id is theirs = rw (is, theirs) (by own)
   where
     by : (o : Option (List ℕ))
-        → filter (is_a forms.Begin) (asked side id items) ++ continues_to id (sent_by (other side) items) o
-        ≡ filter (is_a forms.Begin) (asked side id items) ++ continued_to side items id o
+        → filter (is_a forms.Begin) (peer_sent_from side id items) ++ continues_to id (sent_by (other side) items) o
+        ≡ filter (is_a forms.Begin) (peer_sent_from side id items) ++ continued_to side items id o
     by o = grind arith
 
 -- ---- a half with that peer
 
 module _ {table : Table} {side : Side} {e : End} {coming : List Message} {items : List Item}
-    (view : View table side e coming items) (id : List ℕ) (f : KeptHalf) (had : Has e f)
+    (view : View table side e coming items) (id : List ℕ) (f : KeyedHalf) (had : HasHalf e f)
     (peer : f.half.peer ≡ Some id) where
   is_end : IsEnd e
   is_end = view_sound view
@@ -112,13 +112,13 @@ module _ {table : Table} {side : Side} {e : End} {coming : List Message} {items 
       let both : Some f.key ≡ Some id = sym kept ∙ peer in cc
 
   -- The peer sent its Begin, and the provider did not refuse it, if the peer sent at most one Begin from the ID.
-  pub stands_so : count (is_a forms.Begin) (asked side id items) < 2 → f.slot ≡ Accepted
-      → (has_a forms.Begin (asked side id items) ≡ true) × (was_refused side id items ≡ false)
+  pub stands_so : count (is_a forms.Begin) (peer_sent_from side id items) < 2 → f.slot ≡ Accepted
+      → (has_a forms.Begin (peer_sent_from side id items) ≡ true) × (was_refused side id items ≡ false)
   stands_so few slot =
       let of = all_asked view f had slot in
-      let there : Contains (asked side id items) of.begin =
-      subst (λ (i : List ℕ). Contains (asked side i items) of.begin) (keyed slot) of.was_asked in (
-        any_has (is_a forms.Begin) (asked side id items) of.begin there of.begins,
+      let there : Contains (peer_sent_from side id items) of.begin =
+      subst (λ (i : List ℕ). Contains (peer_sent_from side i items) of.begin) (keyed slot) of.was_asked in (
+        any_has (is_a forms.Begin) (peer_sent_from side id items) of.begin there of.begins,
         by (was_refused side id items) refl,
       )
     where
@@ -129,9 +129,9 @@ module _ {table : Table} {side : Side} {e : End} {coming : List Message} {items 
       by false refused = refl
 
   -- A Continue to the peer comes from the half's own ID.
-  pub told_own : (m : Message) (own : List ℕ) → Contains (told side id items) m → is_a forms.Continue m ≡ true
+  pub outgoing_own : (m : Message) (own : List ℕ) → Contains (outgoing side id items) m → is_a forms.Continue m ≡ true
       → otid_in m ≡ Some own → f.half.own ≡ Some own
-  told_own m own has goes_on from =
+  outgoing_own m own has goes_on from =
       let (there, passes) = filter_is _ (sent_by side items) m has in
       let (to, causeless) = and_parts (is_id id (dtid_in m)) _ passes in
       by m goes_on from (id_is id (dtid_in m) to) (all_use view m there)

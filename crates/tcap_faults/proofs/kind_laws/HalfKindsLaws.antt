@@ -9,7 +9,7 @@ use Rattle.tcap_end.specs.declared.half.Phase.TheVariants as phases
 use Rattle.tcap_end.specs.declared.half.Slot.TheVariants as slots
 use Rattle.tcap_end.specs.Table.{Table}
 use Rattle.tcap_end.specs.Half.{is_closed}
-use Rattle.tcap_end.specs.End.{End, KeptHalf, is_id, with_own}
+use Rattle.tcap_end.specs.End.{End, KeyedHalf, is_id, with_own}
 use Rattle.tcap_end.specs.ReachableEnd.{IsEnd}
 use Rattle.tcap_model.specs.World.{Item}
 use Rattle.tcap_model.proofs.TurnLaws.{id_is}
@@ -18,11 +18,11 @@ use Rattle.tcap_end.proofs.FoundLaws.{is_that_id}
 use Rattle.tcap_model.proofs.UsedLaws.{one_half}
 use Rattle.tcap_refute.proofs.OverLaws.{IsOver, Speaks}
 use Rattle.tcap_faults.specs.ClosedHalves.{was_closed}
-use Rattle.tcap_faults.specs.SentToId.{began, begin_from, begins_from}
-use Rattle.tcap_faults.specs.HalfKinds.{goes_from_other, is_another, is_wrong_half, may_not_speak}
-use Rattle.tcap_faults.specs.declared.dialogue.half_origin.How.{How}
-use Rattle.tcap_faults.specs.declared.dialogue.half_origin.How.TheVariants.{Accepted, Begun}
-use Rattle.tcap_faults.specs.HalfByPeerId.{HalfOf, half_of}
+use Rattle.tcap_faults.specs.SentToId.{began, begin_from, is_begin_from}
+use Rattle.tcap_faults.specs.HalfKinds.{goes_from_other, is_another, is_wrong_half, may_not_send}
+use Rattle.tcap_faults.specs.declared.dialogue.half_origin.HalfOrigin.{HalfOrigin}
+use Rattle.tcap_faults.specs.declared.dialogue.half_origin.HalfOrigin.TheVariants.{Accepted, Begun}
+use Rattle.tcap_faults.specs.HalfByPeerId.{HalfMessages, half_of}
 use Rattle.tcap_faults.proofs.view_laws.ClosedHalfLaws.{all_closed_at}
 use Rattle.tcap_faults.proofs.view_laws.ViewLaws.{View, view_sound}
 use Rattle.tcap_faults.proofs.kind_laws.HalfFacts.{either_slot, waits_so}
@@ -44,10 +44,10 @@ none_another otid own is so = grind (arith, is, so)
 module _ {table : Table} {side : Side} {e : End} {coming : List Message} {items : List Item}
     (view : View table side e coming items) (m : Message) (id : List ℕ) (half : IsOver table e m id)
     (plain : IsPlain side items id) where
-  abbrev f : KeptHalf
+  abbrev f : KeyedHalf
   f = half.kept
 
-  abbrev h : HalfOf
+  abbrev h : HalfMessages
   h = half_of side items id
 
   is_end : IsEnd e
@@ -57,14 +57,14 @@ module _ {table : Table} {side : Side} {e : End} {coming : List Message} {items 
   own = own_is view m id half plain
 
   -- The half may send.
-  speaks_so : (how : How) → h.how ≡ how → (how ≡ Begun) ⊎ (how ≡ Accepted) → may_not_speak how m ≡ true → ⊥
-  speaks_so how is (inl begun) so = let bad : may_not_speak Begun m ≡ true = rw begun at so in cc
-  speaks_so how is (inr accepted) so = let bad : may_not_speak Accepted m ≡ true = rw accepted at so in cc
+  speaks_so : (origin : HalfOrigin) → h.origin ≡ origin → (origin ≡ Begun) ⊎ (origin ≡ Accepted) → may_not_send origin m ≡ true → ⊥
+  speaks_so origin is (inl begun) so = let bad : may_not_send Begun m ≡ true = rw begun at so in cc
+  speaks_so origin is (inr accepted) so = let bad : may_not_send Accepted m ≡ true = rw accepted at so in cc
 
-  how_is : (h.how ≡ Begun) ⊎ (h.how ≡ Accepted)
+  how_is : (h.origin ≡ Begun) ⊎ (h.origin ≡ Accepted)
   how_is = by (either_slot f.slot)
     where
-      by : (f.slot ≡ slots.Begun) ⊎ (f.slot ≡ slots.Accepted) → (h.how ≡ Begun) ⊎ (h.how ≡ Accepted)
+      by : (f.slot ≡ slots.Begun) ⊎ (f.slot ≡ slots.Accepted) → (h.origin ≡ Begun) ⊎ (h.origin ≡ Accepted)
       by (inl slot) = inl (how_begun_half view m id half plain slot)
       by (inr slot) = inr (how_accepted view m id half plain slot)
 
@@ -75,15 +75,15 @@ module _ {table : Table} {side : Side} {e : End} {coming : List Message} {items 
   none_other otid (inr (received, none)) so = none_another otid h.own (own ∙ waits_so e f is_end half.had received) so
 
   -- A Continue from an ID that the end began goes over the half with that Begin.
-  begun_mine : (otid : List ℕ) (b : Message) → begins_from otid b ≡ true → Uses e b → f.half.own ≡ Some otid
+  begun_mine : (otid : List ℕ) (b : Message) → is_begin_from otid b ≡ true → Uses e b → f.half.own ≡ Some otid
       → f.slot ≡ slots.Begun
   begun_mine otid (Begin id dialogue components) begins (h, there) mine =
-      let g : KeptHalf = record { slot = slots.Begun; key = id; half = h } in
+      let g : KeyedHalf = record { slot = slots.Begun; key = id; half = h } in
       let same : Some id ≡ Some otid = id_is otid (Some id) begins in
       (is_end.one_own f g otid half.had there mine (is_end.kept g there ∙ same)).0
   begun_mine otid m begins uses mine = cc
 
-  begun_is : (otid : List ℕ) (b : Message) → begins_from otid b ≡ true → Uses e b
+  begun_is : (otid : List ℕ) (b : Message) → is_begin_from otid b ≡ true → Uses e b
       → ((f.half.phase ≡ phases.Active) × (f.half.own ≡ Some otid))
       ⊎ ((f.half.phase ≡ phases.Received) × (with_own e otid ≡ None)) → f.slot ≡ slots.Begun
   begun_is otid b begins uses (inl (active, mine)) = begun_mine otid b begins uses mine
@@ -97,7 +97,7 @@ module _ {table : Table} {side : Side} {e : End} {coming : List Message} {items 
       by : (o : Option Message) → begin_from side otid items ≡ o → is_some o ≡ true → f.slot ≡ slots.Begun
       by None none is = cc
       by (Some b) found is =
-          let (has, begins) = find_has (begins_from otid) (sent_by side items) b found in
+          let (has, begins) = find_has (is_begin_from otid) (sent_by side items) b found in
           begun_is otid b begins (all_use view b has) speaks
 
   -- A Continue over an accepted half comes from no ID that the end began.
@@ -121,16 +121,16 @@ module _ {table : Table} {side : Side} {e : End} {coming : List Message} {items 
       speaks = subst (λ (x : Message). Speaks e x f.half) (sym is) half.speaks
   begun_other m is so = cc
 
-  not_other : goes_from_other side items h.how h.own m ≡ true → ⊥
+  not_other : goes_from_other side items h.origin h.own m ≡ true → ⊥
   not_other so = by (either_slot f.slot)
     where
       by : (f.slot ≡ slots.Begun) ⊎ (f.slot ≡ slots.Accepted) → ⊥
       by (inl slot) =
           begun_other m refl
-          (subst (λ (x : How). goes_from_other side items x h.own m ≡ true) (how_begun_half view m id half plain slot) so)
+          (subst (λ (x : HalfOrigin). goes_from_other side items x h.own m ≡ true) (how_begun_half view m id half plain slot) so)
       by (inr slot) =
           accepted_other slot m refl
-          (subst (λ (x : How). goes_from_other side items x h.own m ≡ true) (how_accepted view m id half plain slot) so)
+          (subst (λ (x : HalfOrigin). goes_from_other side items x h.own m ≡ true) (how_accepted view m id half plain slot) so)
 
   -- The half was not answered as closed.
   none_closed : (o : Option (List ℕ)) → h.own ≡ o → was_closed side items o ≡ true → ⊥
@@ -144,13 +144,13 @@ module _ {table : Table} {side : Side} {e : End} {coming : List Message} {items 
 
   -- So the message does not have F8.
   pub right_half : is_wrong_half side items m h ≡ true → ⊥
-  right_half is = by (or_cases (may_not_speak h.how m || goes_from_other side items h.how h.own m) _ is)
+  right_half is = by (or_cases (may_not_send h.origin m || goes_from_other side items h.origin h.own m) _ is)
     where
-      first : (may_not_speak h.how m ≡ true) ⊎ (goes_from_other side items h.how h.own m ≡ true) → ⊥
-      first (inl so) = speaks_so h.how refl how_is so
+      first : (may_not_send h.origin m ≡ true) ⊎ (goes_from_other side items h.origin h.own m ≡ true) → ⊥
+      first (inl so) = speaks_so h.origin refl how_is so
       first (inr so) = not_other so
 
-      by : ((may_not_speak h.how m || goes_from_other side items h.how h.own m) ≡ true)
+      by : ((may_not_send h.origin m || goes_from_other side items h.origin h.own m) ≡ true)
           ⊎ (was_closed side items h.own ≡ true) → ⊥
-      by (inl so) = first (or_cases (may_not_speak h.how m) _ so)
+      by (inl so) = first (or_cases (may_not_send h.origin m) _ so)
       by (inr shown) = none_closed h.own refl shown

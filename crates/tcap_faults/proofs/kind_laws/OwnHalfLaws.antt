@@ -16,28 +16,28 @@ use Rattle.tcap_end.specs.declared.half.Phase.TheVariants as phases
 use Rattle.tcap_end.specs.declared.half.Slot.TheVariants as slots
 use Rattle.tcap_end.specs.Table.{Table}
 use Rattle.tcap_end.specs.Half.{is_closed}
-use Rattle.tcap_end.specs.End.{End, KeptHalf}
+use Rattle.tcap_end.specs.End.{End, KeyedHalf}
 use Rattle.tcap_end.specs.ReachableEnd.{FitsPhase, IsEnd}
 use Rattle.tcap_model.specs.World.{Item}
-use Rattle.tcap_model.specs.Run.{then_so}
+use Rattle.tcap_model.specs.Run.{option_then}
 use Rattle.tcap_model.proofs.TurnLaws.{id_is}
-use Rattle.tcap_refute.specs.EarlierMessages.{asked, has_a, is_a, sent_by}
+use Rattle.tcap_refute.specs.EarlierMessages.{peer_sent_from, has_a, is_a, sent_by}
 use Rattle.tcap_refute.proofs.OverLaws.{IsOver}
 use Rattle.tcap_faults.specs.Counts.{count, is_nothing}
-use Rattle.tcap_faults.specs.declared.dialogue.half_origin.How.TheVariants.{Accepted, Begun, Refused, Unanswered}
-use Rattle.tcap_faults.specs.HalfByPeerId.{HalfOf, accepted_half, answered_from, begun_from, begun_half, continued_to, half_of, heard_of}
+use Rattle.tcap_faults.specs.declared.dialogue.half_origin.HalfOrigin.TheVariants.{Accepted, Begun, Refused, Unanswered}
+use Rattle.tcap_faults.specs.HalfByPeerId.{HalfMessages, accepted_half, answered_from, begun_from, begun_half, continued_to, half_of, incoming_continues}
 use Rattle.tcap_faults.specs.TangledIds.{goes_to_begun}
-use Rattle.tcap_faults.specs.SentToId.{began, begin_from, goes_on_to, told, was_refused}
-use Rattle.tcap_faults.proofs.story_laws.Stories.{Bounds, got_in, may_have_heard, sent_in, told_to}
+use Rattle.tcap_faults.specs.SentToId.{began, begin_from, is_continue_to, outgoing, was_refused}
+use Rattle.tcap_faults.proofs.story_laws.Stories.{Bounds, got_in, may_have_incoming, sent_in, outgoing_to}
 use Rattle.tcap_faults.proofs.list_laws.CountLaws.{count_more, one}
 use Rattle.tcap_faults.proofs.run_laws.HalfGoesOnLaws.{Story}
 use Rattle.tcap_faults.proofs.run_laws.MayHearLaws.{count_in, count_in_first}
-use Rattle.tcap_faults.proofs.view_laws.AcceptedHalfLaws.{all_told}
+use Rattle.tcap_faults.proofs.view_laws.AcceptedHalfLaws.{all_outgoing}
 use Rattle.tcap_faults.proofs.list_laws.FindLaws.{filter_is, find_has, find_none}
 use Rattle.tcap_faults.proofs.view_laws.BegunHalfLaws.{all_back, all_begun}
-use Rattle.tcap_faults.proofs.view_laws.GrowthLaws.{heard_among}
+use Rattle.tcap_faults.proofs.view_laws.GrowthLaws.{incoming_among}
 use Rattle.tcap_faults.proofs.view_laws.ViewLaws.{View, view_sound}
-use Rattle.tcap_faults.proofs.kind_laws.HalfFacts.{behind_is, come_accepted, come_begun, either_slot, goes_from, kept_own, keyed, not_nothing, over_accepted, over_begun, stands_so, told_own, waits_so}
+use Rattle.tcap_faults.proofs.kind_laws.HalfFacts.{behind_is, come_accepted, come_begun, either_slot, goes_from, kept_own, keyed, not_nothing, over_accepted, over_begun, stands_so, outgoing_own, waits_so}
 use Rattle.tcap_faults.proofs.transaction_laws.TangledLaws.{IsPlain, began_used, joins}
 
 -- If something was heard, the half is begun.
@@ -83,10 +83,10 @@ only_first p (x ∷ xs) few = by (p x) (count_more p x xs) (only_first p xs)
 module _ {table : Table} {side : Side} {e : End} {coming : List Message} {items : List Item}
     (view : View table side e coming items) (m : Message) (id : List ℕ) (half : IsOver table e m id)
     (plain : IsPlain side items id) where
-  abbrev f : KeptHalf
+  abbrev f : KeyedHalf
   f = half.kept
 
-  abbrev h : HalfOf
+  abbrev h : HalfMessages
   h = half_of side items id
 
   is_end : IsEnd e
@@ -95,45 +95,45 @@ module _ {table : Table} {side : Side} {e : End} {coming : List Message} {items 
   -- ---- an accepted half
 
   module _ (slot : f.slot ≡ slots.Accepted) where
-    stands : (has_a forms.Begin (asked side id items) ≡ true) × (was_refused side id items ≡ false)
+    stands : (has_a forms.Begin (peer_sent_from side id items) ≡ true) × (was_refused side id items ≡ false)
     stands = stands_so view id f half.had half.peer plain.few slot
 
     pub is_accepted_half : h ≡ accepted_half side items id
     is_accepted_half = rw (stands.0) refl
 
-    pub how_accepted : h.how ≡ Accepted
+    pub how_accepted : h.origin ≡ Accepted
     how_accepted =
-        ap (λ (x : HalfOf). x.how) is_accepted_half
+        ap (λ (x : HalfMessages). x.origin) is_accepted_half
         ∙ ap (λ (b : Bool). cond b Refused Accepted) stands.1
 
     -- Its own ID is that of the first Continue to its peer.
     answered_own : answered_from side items id ≡ f.half.own
-    answered_own = by (find (is_a forms.Continue) (told side id items)) refl
+    answered_own = by (find (is_a forms.Continue) (outgoing side id items)) refl
       where
-        unknown : find (is_a forms.Continue) (told side id items) ≡ None → (p : Phase) → f.half.phase ≡ p
+        unknown : find (is_a forms.Continue) (outgoing side id items) ≡ None → (p : Phase) → f.half.phase ≡ p
             → is_closed p ≡ false → None ≡ f.half.own
         unknown none phases.Sent at still =
             let no_peer = (subst (λ (p : Phase). FitsPhase p f.half) at (is_end.halves f half.had).phase).1 in
             let bad = sym no_peer ∙ half.peer in cc
         unknown none phases.Received at still = sym (waits_so e f is_end half.had at)
         unknown none phases.Active at still =
-            let it = all_told view f half.had slot at in
-            let there : Contains (told side id items) it.message =
-            subst (λ (i : List ℕ). Contains (told side i items) it.message) (keyed view id f half.had half.peer slot)
-            it.was_told in
-            find_none (is_a forms.Continue) (told side id items) it.message none there it.goes_on
+            let it = all_outgoing view f half.had slot at in
+            let there : Contains (outgoing side id items) it.message =
+            subst (λ (i : List ℕ). Contains (outgoing side i items) it.message) (keyed view id f half.had half.peer slot)
+            it.was_outgoing in
+            find_none (is_a forms.Continue) (outgoing side id items) it.message none there it.goes_on
         unknown none phases.Closed at still = cc
 
-        by : (o : Option Message) → find (is_a forms.Continue) (told side id items) ≡ o
-            → then_so o otid_in ≡ f.half.own
+        by : (o : Option Message) → find (is_a forms.Continue) (outgoing side id items) ≡ o
+            → option_then o otid_in ≡ f.half.own
         by None none = unknown none f.half.phase refl half.is_open
         by (Some n) found =
-            let (has, goes_on) = find_has (is_a forms.Continue) (told side id items) n found in
+            let (has, goes_on) = find_has (is_a forms.Continue) (outgoing side id items) n found in
             let (o, from) = goes_from n goes_on in
-            from ∙ sym (told_own view id f half.had half.peer n o has goes_on from)
+            from ∙ sym (outgoing_own view id f half.had half.peer n o has goes_on from)
 
     own_accepted : h.own ≡ f.half.own
-    own_accepted = ap (λ (x : HalfOf). x.own) is_accepted_half ∙ answered_own
+    own_accepted = ap (λ (x : HalfMessages). x.own) is_accepted_half ∙ answered_own
 
   -- ---- a begun half
 
@@ -148,17 +148,17 @@ module _ {table : Table} {side : Side} {e : End} {coming : List Message} {items 
     abbrev answer : Message
     answer = (all_back view f id half.had slot half.peer).message
 
-    heard_it : Contains (heard_of (begin_from side f.key items) (continued_to side items id (Some f.key))) answer
-    heard_it =
+    incoming_it : Contains (incoming_continues (begin_from side f.key items) (continued_to side items id (Some f.key))) answer
+    incoming_it =
         subst (λ (ms : List Message). Contains ms answer)
         (behind_is (begin_from side f.key items) (continued_to side items id (Some f.key)) begun_it)
-        (all_back view f id half.had slot half.peer).was_heard
+        (all_back view f id half.had slot half.peer).was_incoming
 
-    answered : Contains (asked side id items) answer × (goes_on_to f.key answer ≡ true)
+    answered : Contains (peer_sent_from side id items) answer × (is_continue_to f.key answer ≡ true)
     answered =
-        filter_is (goes_on_to f.key) (asked side id items) answer
-        (heard_among (begin_from side f.key items) (continued_to side items id (Some f.key)) answer
-        (all_back view f id half.had slot half.peer).was_heard)
+        filter_is (is_continue_to f.key) (peer_sent_from side id items) answer
+        (incoming_among (begin_from side f.key items) (continued_to side items id (Some f.key)) answer
+        (all_back view f id half.had slot half.peer).was_incoming)
 
     answer_on : is_a forms.Continue answer ≡ true
     answer_on = (and_parts (is_a forms.Continue answer) _ answered.1).0
@@ -167,10 +167,10 @@ module _ {table : Table} {side : Side} {e : End} {coming : List Message} {items 
     answer_to = id_is f.key (dtid_in answer) (and_parts (is_a forms.Continue answer) _ answered.1).1
 
     -- The peer did not begin that ID.
-    none_began : has_a forms.Begin (asked side id items) ≡ false
-    none_began = by (has_a forms.Begin (asked side id items)) refl
+    none_began : has_a forms.Begin (peer_sent_from side id items) ≡ false
+    none_began = by (has_a forms.Begin (peer_sent_from side id items)) refl
       where
-        by : (b : Bool) → has_a forms.Begin (asked side id items) ≡ b → b ≡ false
+        by : (b : Bool) → has_a forms.Begin (peer_sent_from side id items) ≡ b → b ≡ false
         by true begun =
             absurd (plain.none_begun begun answer answered.0
             (to_begun side items answer f.key answer_to answer_on begun_it))
@@ -178,15 +178,15 @@ module _ {table : Table} {side : Side} {e : End} {coming : List Message} {items 
 
     -- The peer's first Continue from the ID to a begun ID went to this half.
     first_to : begun_from side items id ≡ Some f.key
-    first_to = by (find (goes_to_begun side items) (asked side id items)) refl
+    first_to = by (find (goes_to_begun side items) (peer_sent_from side id items)) refl
       where
-        by : (o : Option Message) → find (goes_to_begun side items) (asked side id items) ≡ o
-            → then_so o dtid_in ≡ Some f.key
+        by : (o : Option Message) → find (goes_to_begun side items) (peer_sent_from side id items) ≡ o
+            → option_then o dtid_in ≡ Some f.key
         by None none =
-            find_none (goes_to_begun side items) (asked side id items) answer none answered.0
+            find_none (goes_to_begun side items) (peer_sent_from side id items) answer none answered.0
             (to_begun side items answer f.key answer_to answer_on begun_it)
         by (Some n) found =
-            let (has, goes) = find_has (goes_to_begun side items) (asked side id items) n found in
+            let (has, goes) = find_has (goes_to_begun side items) (peer_sent_from side id items) n found in
             let (own, to, goes_on, begun) = begun_there side items n goes in
             let here = joins side items id own n has goes_on to (began_used side items own begun) in
             let there = joins side items id f.key answer answered.0 answer_on answer_to
@@ -196,13 +196,13 @@ module _ {table : Table} {side : Side} {e : End} {coming : List Message} {items 
     pub is_begun_half : h ≡ begun_half side items id f.key
     is_begun_half = rw (none_began, first_to) refl
 
-    pub how_begun_half : h.how ≡ Begun
+    pub how_begun_half : h.origin ≡ Begun
     how_begun_half =
-        ap (λ (x : HalfOf). x.how) is_begun_half
-        ∙ how_begun (heard_of (begin_from side f.key items) (continued_to side items id (Some f.key))) answer heard_it
+        ap (λ (x : HalfMessages). x.origin) is_begun_half
+        ∙ how_begun (incoming_continues (begin_from side f.key items) (continued_to side items id (Some f.key))) answer incoming_it
 
     own_begun : h.own ≡ f.half.own
-    own_begun = ap (λ (x : HalfOf). x.own) is_begun_half ∙ sym kept
+    own_begun = ap (λ (x : HalfMessages). x.own) is_begun_half ∙ sym kept
 
   -- ---- any half
 
@@ -225,57 +225,57 @@ module _ {table : Table} {side : Side} {e : End} {coming : List Message} {items 
 
     bounds_accepted : f.slot ≡ slots.Accepted → Bounds (accepted_half side items id) sent got
     bounds_accepted slot = record {
-      heard = λ p.
+      incoming = λ p.
           let come = ap (count_in p) (came slot) in
           let fewer = life.got p in omega arith;
-      told = λ p. let all = ap (count_in p) over in let more = life.sent p in omega arith;
+      outgoing = λ p. let all = ap (count_in p) over in let more = life.sent p in omega arith;
       invoked = λ p. let all = ap (count_in p) over in let more = life.sent p in omega arith;
       all = λ p. let all = ap (count_in p) over in let fewer = life.sent p in omega arith;
     }
       where
-        over : life.told_over ≡ told side id items
-        over = over_accepted side items f life.told_over life.is_told slot ∙ ap (told_to side items) half.peer
+        over : life.outgoing_over ≡ outgoing side id items
+        over = over_accepted side items f life.outgoing_over life.is_outgoing slot ∙ ap (outgoing_to side items) half.peer
 
         came : f.slot ≡ slots.Accepted
-            → may_have_heard side items (sent_by (other side) items) f.slot f.half.own f.half.peer
-            ≡ option_to_list (find (is_a forms.Begin) (asked side id items))
+            → may_have_incoming side items (sent_by (other side) items) f.slot f.half.own f.half.peer
+            ≡ option_to_list (find (is_a forms.Begin) (peer_sent_from side id items))
             ++ continued_to side items id (answered_from side items id)
         came slot =
             come_accepted side items f.slot f.half.own f.half.peer id slot half.peer
-            ∙ ap (λ (o : Option (List ℕ)). filter (is_a forms.Begin) (asked side id items) ++ continued_to side items id o)
+            ∙ ap (λ (o : Option (List ℕ)). filter (is_a forms.Begin) (peer_sent_from side id items) ++ continued_to side items id o)
             (sym (answered_own slot))
             ∙ ap (λ ms. ms ++ continued_to side items id (answered_from side items id))
-            (only_first (is_a forms.Begin) (asked side id items) plain.few)
+            (only_first (is_a forms.Begin) (peer_sent_from side id items) plain.few)
 
     bounds_begun : (slot : f.slot ≡ slots.Begun) → Bounds (begun_half side items id f.key) sent got
     bounds_begun slot = record {
-      heard = λ p.
+      incoming = λ p.
           let come = ap (count_in p) came in
           let fewer = life.got p in omega arith;
-      told = λ p.
+      outgoing = λ p.
           let all = ap (count_in p) over in
-          let first = count_in_first p begin (told side id items) in
+          let first = count_in_first p begin (outgoing side id items) in
           let more = life.sent p in omega arith;
       invoked = λ p. let all = ap (count_in p) whole in let more = life.sent p in omega arith;
       all = λ p. let all = ap (count_in p) whole in let fewer = life.sent p in omega arith;
     }
       where
         begin : Message
-        begin = (over_begun side items f life.told_over life.is_told slot).0
+        begin = (over_begun side items f life.outgoing_over life.is_outgoing slot).0
 
         began_so : begin_from side f.key items ≡ Some begin
-        began_so = (over_begun side items f life.told_over life.is_told slot).1
+        began_so = (over_begun side items f life.outgoing_over life.is_outgoing slot).1
 
-        over : life.told_over ≡ begin ∷ told side id items
+        over : life.outgoing_over ≡ begin ∷ outgoing side id items
         over =
-            (over_begun side items f life.told_over life.is_told slot).2
-            ∙ ap (λ (o : Option (List ℕ)). begin ∷ told_to side items o) half.peer
+            (over_begun side items f life.outgoing_over life.is_outgoing slot).2
+            ∙ ap (λ (o : Option (List ℕ)). begin ∷ outgoing_to side items o) half.peer
 
-        whole : life.told_over ≡ option_to_list (begin_from side f.key items) ++ told side id items
-        whole = over ∙ ap (λ (o : Option Message). option_to_list o ++ told side id items) (sym began_so)
+        whole : life.outgoing_over ≡ option_to_list (begin_from side f.key items) ++ outgoing side id items
+        whole = over ∙ ap (λ (o : Option Message). option_to_list o ++ outgoing side id items) (sym began_so)
 
-        came : may_have_heard side items (sent_by (other side) items) f.slot f.half.own f.half.peer
-            ≡ heard_of (begin_from side f.key items) (continued_to side items id (Some f.key))
+        came : may_have_incoming side items (sent_by (other side) items) f.slot f.half.own f.half.peer
+            ≡ incoming_continues (begin_from side f.key items) (continued_to side items id (Some f.key))
         came =
             come_begun side items f.slot f.half.own f.half.peer f.key id slot (kept slot) half.peer
             (ap is_some began_so)
@@ -285,6 +285,6 @@ module _ {table : Table} {side : Side} {e : End} {coming : List Message} {items 
       where
         by : (f.slot ≡ slots.Begun) ⊎ (f.slot ≡ slots.Accepted) → Bounds h sent got
         by (inl slot) =
-            subst (λ (x : HalfOf). Bounds x sent got) (sym (is_begun_half slot)) (bounds_begun slot)
+            subst (λ (x : HalfMessages). Bounds x sent got) (sym (is_begun_half slot)) (bounds_begun slot)
         by (inr slot) =
-            subst (λ (x : HalfOf). Bounds x sent got) (sym (is_accepted_half slot)) (bounds_accepted slot)
+            subst (λ (x : HalfMessages). Bounds x sent got) (sym (is_accepted_half slot)) (bounds_accepted slot)

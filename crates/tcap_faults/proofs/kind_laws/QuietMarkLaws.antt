@@ -17,10 +17,10 @@ use Rattle.tcap_end.specs.declared.half.Slot.TheVariants.{Begun, Accepted}
 use Rattle.tcap_end.specs.Step.{needs, ◌>>◌}
 use Rattle.tcap_end.specs.Table.{Table, octets_cmp}
 use Rattle.tcap_end.specs.Half.{Half, is_closed}
-use Rattle.tcap_end.specs.End.{End, KeptHalf, all_closed, nothing}
-use Rattle.tcap_end.specs.ReachableEnd.{Has}
-use Rattle.tcap_model.specs.World.{Item, OnItsWay, Sent, World, end_at}
-use Rattle.tcap_model.specs.Run.{Adds, Event, Sends, Replies, Quiet, Tells, KeepsRules, Runs, after, after_quiet, then_so}
+use Rattle.tcap_end.specs.End.{End, KeyedHalf, all_closed, nothing}
+use Rattle.tcap_end.specs.ReachableEnd.{HasHalf}
+use Rattle.tcap_model.specs.World.{Item, MessageInTransit, Sent, World, end_at}
+use Rattle.tcap_model.specs.Run.{Adds, Event, Sends, Replies, Quiet, Tells, KeepsRules, Runs, after, after_quiet, option_then}
 use Rattle.tcap_model.proofs.RunLaws.{grows, runs_keep}
 use Rattle.tcap_refute.specs.EarlierMessages.{is_a, sent_by, since_quiet}
 use Rattle.tcap_refute.proofs.MomentLaws.{kept_before, last_or_before}
@@ -38,21 +38,21 @@ closed_found : (es : List (List ℕ × Half)) (test : List ℕ → Bool) (h : Ha
 closed_found [] test h closed found = cc
 closed_found ((key, half) ∷ more) test h closed found = grind (arith, closed, found, closed_found more test h)
 
-closed_in : (e : End) → (all_closed e.begun && all_closed e.accepted) ≡ true → (f : KeptHalf) → Has e f
+closed_in : (e : End) → (all_closed e.begun && all_closed e.accepted) ≡ true → (f : KeyedHalf) → HasHalf e f
     → is_closed f.half.phase ≡ true
 closed_in e closed f had = by f.slot f.key f.half had
   where
     both : (all_closed e.begun ≡ true) × (all_closed e.accepted ≡ true)
     both = and_parts (all_closed e.begun) (all_closed e.accepted) closed
 
-    by : (slot : Slot) (key : List ℕ) (h : Half) → Has e (record { slot = slot; key = key; half = h })
+    by : (slot : Slot) (key : List ℕ) (h : Half) → HasHalf e (record { slot = slot; key = key; half = h })
         → is_closed h.phase ≡ true
     by Begun key h had = closed_found e.begun (is_at (octets_cmp key)) h both.0 had
     by Accepted key h had = closed_found e.accepted (is_at (octets_cmp key)) h both.1 had
 
 -- All halves of both ends are closed.
 both_closed : (a b : Bool) (x : World) (items : List Item)
-    → then_so (result_ok (needs a faults.StillOpen >> Ok nothing))
+    → option_then (result_ok (needs a faults.StillOpen >> Ok nothing))
     (λ p. option_map (λ q. record { a = p; b = q; from_a = []; from_b = []; sent = items })
     (result_ok (needs b faults.StillOpen >> Ok nothing))) ≡ Some x
     → (a ≡ true) × (b ≡ true)
@@ -70,7 +70,7 @@ mark_closed table w next is side = by side (ends w.from_a w.from_b is)
     quiet_b : Bool
     quiet_b = all_closed w.b.begun && all_closed w.b.accepted
 
-    ends : (a b : List OnItsWay) → after_quiet (record w { from_a = a; from_b = b }) ≡ Some next
+    ends : (a b : List MessageInTransit) → after_quiet (record w { from_a = a; from_b = b }) ≡ Some next
         → (quiet_a ≡ true) × (quiet_b ≡ true)
     ends [] [] is = both_closed quiet_a quiet_b next (w.sent ++ Item.Quiet ∷ []) is
     ends [] (m ∷ b) is = cc
@@ -156,6 +156,6 @@ pub no_open_mark : (table : Table) (events : List Event) (w : World) (before beh
 no_open_mark table events w before behind side runs keeps sent is =
     runs_keep table (HasNoOpen table side) (λ keeps front behind sent is. none_at_first front behind sent)
     (λ earlier event v next ran step had keeps front behind sent is.
-    let (kept, told) = kept_before side earlier event keeps in
+    let (kept, outgoing) = kept_before side earlier event keeps in
     by_step table side earlier v next ran had kept front behind sent is event step)
     events w runs keeps before behind sent is

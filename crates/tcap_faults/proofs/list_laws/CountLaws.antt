@@ -12,8 +12,8 @@ one b = cond b 1 0
 
 -- A condition that implies another counts no more.
 pub one_weaker : (a b : Bool) → (a ≡ true → b ≡ true) → one a ≤ one b
-one_weaker true b then_so = rw (then_so refl) (omega arith)
-one_weaker false b then_so = omega arith
+one_weaker true b option_then = rw (option_then refl) (omega arith)
+one_weaker false b option_then = omega arith
 
 -- Two conditions that exclude each other count no more than one that both imply.
 pub one_apart : (a b c : Bool) → (a ≡ true → c ≡ true) → (b ≡ true → c ≡ true) → (a ≡ true → b ≡ true → ⊥)

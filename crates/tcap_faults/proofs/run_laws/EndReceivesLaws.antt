@@ -17,11 +17,11 @@ use Rattle.tcap_end.specs.declared.half.Slot.TheVariants.{Begun, Accepted}
 use Rattle.tcap_end.specs.Table.{Table}
 use Rattle.tcap_end.specs.Half.{Half, closed_half, fresh, is_closed}
 use Rattle.tcap_end.specs.Component.{own_invocation}
-use Rattle.tcap_end.specs.Dialogue.{answers_request, first_standing}
-use Rattle.tcap_end.specs.End.{End, KeptHalf, is_id, named, put, with_own, with_peer}
+use Rattle.tcap_end.specs.Dialogue.{answers_request, first_dialogue_state}
+use Rattle.tcap_end.specs.End.{End, KeyedHalf, is_id, named, put, with_own, with_peer}
 use Rattle.tcap_end.specs.HiddenSteps.{close, expire, may_close, may_expire, without_invocation}
 use Rattle.tcap_end.specs.Message.{active_half, receive, receive_begin, receive_components, receive_continue, receive_end, receive_over}
-use Rattle.tcap_end.specs.ReachableEnd.{FitsPhase, Has, IsEnd, IsKept}
+use Rattle.tcap_end.specs.ReachableEnd.{FitsPhase, HasHalf, IsEnd, IsHalfKey}
 use Rattle.tcap_end.proofs.AnsweringLaws.{needs_ok, ok_same, some_ok, then_ok}
 use Rattle.tcap_end.proofs.EndLaws.{IsThere, put_has}
 use Rattle.tcap_end.proofs.FoundLaws.{named_has, own_has}
@@ -29,14 +29,14 @@ use Rattle.tcap_end.proofs.StepLaws.{none_is}
 use Rattle.tcap_model.specs.World.{Item}
 use Rattle.tcap_model.proofs.TurnLaws.{id_is}
 use Rattle.tcap_model.proofs.SentMoves.{own_is}
-use Rattle.tcap_faults.specs.SentToId.{told}
+use Rattle.tcap_faults.specs.SentToId.{outgoing}
 use Rattle.tcap_faults.proofs.run_laws.HalfReceivesLaws.{story_answered, story_goes_on, story_received}
 use Rattle.tcap_faults.proofs.run_laws.HalfGoesOnLaws.{Story, story_ends, story_still}
 use Rattle.tcap_faults.proofs.run_laws.EndSendsLaws.{HaveStories}
 
 -- The end sent nothing to an ID that no half has as its peer's.
 abbrev pub ToldNone : Side → List Item → End → Type 0
-ToldNone side items e = (id : List ℕ) → with_peer e id ≡ None → told side id items ≡ []
+ToldNone side items e = (id : List ℕ) → with_peer e id ≡ None → outgoing side id items ≡ []
 
 -- ---- one half
 
@@ -47,7 +47,7 @@ pub put_story : (table : Table) (side : Side) (items : List Item) (gone : List M
 put_story table side items gone e next slot key k made had now g in_next is_open =
     by (put_has e slot key k g (rw (← made) at in_next))
   where
-    by : IsThere slot key k g ⊎ Has e g → Story table side items gone g.slot g.key g.half
+    by : IsThere slot key k g ⊎ HasHalf e g → Story table side items gone g.slot g.key g.half
     by (inl new) = rw (new.0, new.1, new.2) (now (rw (new.2) at is_open))
     by (inr old) = had g old is_open
 
@@ -87,7 +87,7 @@ stories_still table side items gone m e had g in_g is_open =
     story_still table side items gone (m ∷ []) g.slot g.key g.half (had g in_g is_open)
 
 module _ (table : Table) (side : Side) (items : List Item) (gone : List Message) (e next : End) (before : IsEnd e)
-    (had : HaveStories table side items gone e) (told_none : ToldNone side items e) where
+    (had : HaveStories table side items gone e) (outgoing_none : ToldNone side items e) where
   -- The end has its stories after this message.
   abbrev Got : Message → Type 0
   Got m = HaveStories table side items (gone ++ m ∷ []) next
@@ -105,21 +105,21 @@ module _ (table : Table) (side : Side) (items : List Item) (gone : List Message)
   begin_got otid dialogue components is =
       let step = needs_ok (is_none (with_peer e otid)) faults.IdUsed _ next is in
       becomes (Begin otid dialogue components) Accepted otid
-      (receive_components table (fresh phases.Received None (Some otid) (first_standing dialogue))
+      (receive_components table (fresh phases.Received None (Some otid) (first_dialogue_state dialogue))
       (items_of components))
       (is_this _ next step.1)
       (λ is_open.
       story_received table side items gone otid dialogue components
-      (told_none otid (none_is (with_peer e otid) step.0)))
+      (outgoing_none otid (none_is (with_peer e otid) step.0)))
 
   -- A Continue goes to the half with its destination ID: it answers the half's Begin, or goes on.
-  module _ (otid dtid : List ℕ) (dialogue : Option Dialogue) (components : Option (List Component)) (f : KeptHalf)
-      (in_f : Has e f) (own : f.half.own ≡ Some dtid) where
+  module _ (otid dtid : List ℕ) (dialogue : Option Dialogue) (components : Option (List Component)) (f : KeyedHalf)
+      (in_f : HasHalf e f) (own : f.half.own ≡ Some dtid) where
     abbrev goes : Message
     goes = Continue otid dtid dialogue components
 
-    answer_got : f.half.phase ≡ phases.Sent → answers_request f.half.standing dialogue ≡ true
-        → told side otid items ≡ []
+    answer_got : f.half.phase ≡ phases.Sent → answers_request f.half.dialogue_state dialogue ≡ true
+        → outgoing side otid items ≡ []
         → put e f.slot f.key (receive_components table (active_half Begun otid f.half) (items_of components)) ≡ next
         → Got goes
     answer_got at answers none made =
@@ -129,7 +129,7 @@ module _ (table : Table) (side : Side) (items : List Item) (gone : List Message)
         fits : FitsPhase phases.Sent f.half
         fits = subst (λ (p : Phase). FitsPhase p f.half) at (before.halves f in_f).phase
 
-        by : (slot : Slot) → IsKept slot f.key f.half → Story table side items gone slot f.key f.half
+        by : (slot : Slot) → IsHalfKey slot f.key f.half → Story table side items gone slot f.key f.half
             → Story table side items (gone ++ goes ∷ []) slot f.key
             (receive_components table (active_half Begun otid f.half) (items_of components))
         by Accepted kept story = let none_there = fits.1 in cc
@@ -152,8 +152,8 @@ module _ (table : Table) (side : Side) (items : List Item) (gone : List Message)
         → Got goes
     over_got phases.Sent at is =
         let free = needs_ok (is_none (with_peer e otid)) faults.IdUsed _ next is in
-        let answers = needs_ok (answers_request f.half.standing dialogue) faults.WrongDialogue _ next free.1 in
-        answer_got at answers.0 (told_none otid (none_is (with_peer e otid) free.0)) (is_this _ next answers.1)
+        let answers = needs_ok (answers_request f.half.dialogue_state dialogue) faults.WrongDialogue _ next free.1 in
+        answer_got at answers.0 (outgoing_none otid (none_is (with_peer e otid) free.0)) (is_this _ next answers.1)
     over_got phases.Active at is =
         let peer = needs_ok (is_id otid f.half.peer) faults.NoTransaction _ next is in
         next_got at (id_is otid f.half.peer peer.0) (is_this _ next peer.1)
@@ -169,7 +169,7 @@ module _ (table : Table) (side : Side) (items : List Item) (gone : List Message)
       step
 
   -- An End or an Abort closes a half, or changes nothing.
-  end_got : (m : Message) (o : Option KeptHalf) → receive_end e o ≡ next → Got m
+  end_got : (m : Message) (o : Option KeyedHalf) → receive_end e o ≡ next → Got m
   end_got m None is =
       subst (HaveStories table side items (gone ++ m ∷ [])) is (stories_still table side items gone m e had)
   end_got m (Some f) is = by (is_closed f.half.phase) is

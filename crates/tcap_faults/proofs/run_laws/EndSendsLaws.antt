@@ -14,10 +14,10 @@ use Rattle.tcap_end.specs.declared.half.Slot.TheVariants.{Begun, Accepted}
 use Rattle.tcap_end.specs.Step.{◌>>◌}
 use Rattle.tcap_end.specs.Table.{Table}
 use Rattle.tcap_end.specs.Half.{Half, fresh, is_closed}
-use Rattle.tcap_end.specs.Dialogue.{first_standing, may_be_uni, may_begin}
-use Rattle.tcap_end.specs.End.{End, KeptHalf, is_id, put, with_own}
+use Rattle.tcap_end.specs.Dialogue.{first_dialogue_state, may_be_uni, may_begin}
+use Rattle.tcap_end.specs.End.{End, KeyedHalf, is_id, put, with_own}
 use Rattle.tcap_end.specs.Message.{send, send_begin, send_components, send_uni_components}
-use Rattle.tcap_end.specs.ReachableEnd.{Has, IsEnd, IsKept}
+use Rattle.tcap_end.specs.ReachableEnd.{HasHalf, IsEnd, IsHalfKey}
 use Rattle.tcap_end.proofs.AnsweringLaws.{needs_ok, ok_same, then_ok}
 use Rattle.tcap_end.proofs.EndLaws.{IsThere, put_has}
 use Rattle.tcap_end.proofs.StepLaws.{none_is}
@@ -31,14 +31,14 @@ use Rattle.tcap_faults.specs.SentToId.{begin_from}
 use Rattle.tcap_faults.proofs.run_laws.MayHearLaws.{KeepsBegins}
 use Rattle.tcap_faults.proofs.run_laws.HalfReceivesLaws.{story_begins}
 use Rattle.tcap_faults.proofs.run_laws.HalfGoesOnLaws.{HasBegun, KeepsOwn, Story, begun_kept, story_later, story_sends}
-use Rattle.tcap_faults.proofs.run_laws.ItemLaws.{begins_kept, sent_own, told_not, told_now}
-use Rattle.tcap_faults.proofs.story_laws.Stories.{told_to}
+use Rattle.tcap_faults.proofs.run_laws.ItemLaws.{begins_kept, sent_own, outgoing_not, outgoing_now}
+use Rattle.tcap_faults.proofs.story_laws.Stories.{outgoing_to}
 use Rattle.tcap_faults.proofs.view_laws.ActLaws.{keeps_peer}
 
 -- Each open half of the end has its story.
 abbrev pub HaveStories : Table → Side → List Item → List Message → End → Type 0
 HaveStories table side items gone e =
-    (f : KeptHalf) → Has e f → is_closed f.half.phase ≡ false → Story table side items gone f.slot f.key f.half
+    (f : KeyedHalf) → HasHalf e f → is_closed f.half.phase ≡ false → Story table side items gone f.slot f.key f.half
 
 -- The end sent no Begin from an ID that no half has.
 abbrev pub BeganNone : Side → List Item → End → Type 0
@@ -52,33 +52,33 @@ module _ (table : Table) (side : Side) (items : List Item) (gone : List Message)
 
   -- The message was not sent to this ID.
   abbrev IsApart : Option (List ℕ) → Type 0
-  IsApart peer = told_to side (items ++ Sent side m ∷ []) peer ≡ told_to side items peer
+  IsApart peer = outgoing_to side (items ++ Sent side m ∷ []) peer ≡ outgoing_to side items peer
 
   -- The message has another destination ID, or none.
   apart_from : (peer : Option (List ℕ)) → ((q : List ℕ) → peer ≡ Some q → is_id q (dtid_in m) ≡ false) → IsApart peer
   apart_from None other = refl
-  apart_from (Some q) other = told_not side items m q (rw (other q refl) refl)
+  apart_from (Some q) other = outgoing_not side items m q (rw (other q refl) refl)
 
   -- A half that does not change keeps its story.
-  story_kept : HaveStories table side items gone e → (g : KeptHalf) → Has e g → is_closed g.half.phase ≡ false
+  story_kept : HaveStories table side items gone e → (g : KeyedHalf) → HasHalf e g → is_closed g.half.phase ≡ false
       → IsApart g.half.peer
       → Story table side (items ++ Sent side m ∷ []) gone g.slot g.key g.half
   story_kept had g in_g is_open apart =
       story_later table side items (items ++ Sent side m ∷ []) gone g.slot g.key g.half keeps apart (had g in_g is_open)
 
   -- The half with this peer changes.
-  module _ (f : KeptHalf) (k : Half) (id : List ℕ) (sound : IsEnd next) (made : put e f.slot f.key k ≡ next)
+  module _ (f : KeyedHalf) (k : Half) (id : List ℕ) (sound : IsEnd next) (made : put e f.slot f.key k ≡ next)
       (peer : k.peer ≡ Some id) (to : dtid_in m ≡ Some id)
       (now : is_closed k.phase ≡ false → Story table side (items ++ Sent side m ∷ []) gone f.slot f.key k) where
-    there : Has next (record f { half = k })
+    there : HasHalf next (record f { half = k })
     there = rw (← made) (put_there e f.slot f.key k)
 
-    is_it : (g : KeptHalf) → (g.slot ≡ f.slot) × (g.key ≡ f.key) × (g.half ≡ k) → is_closed g.half.phase ≡ false
+    is_it : (g : KeyedHalf) → (g.slot ≡ f.slot) × (g.key ≡ f.key) × (g.half ≡ k) → is_closed g.half.phase ≡ false
         → Story table side (items ++ Sent side m ∷ []) gone g.slot g.key g.half
     is_it g same is_open = rw (same.0, same.1, same.2) (now (rw (same.2) at is_open))
 
     -- Another half has another peer.
-    another : HaveStories table side items gone e → (g : KeptHalf) → Has next g → Has e g
+    another : HaveStories table side items gone e → (g : KeyedHalf) → HasHalf next g → HasHalf e g
         → is_closed g.half.phase ≡ false
         → Story table side (items ++ Sent side m ∷ []) gone g.slot g.key g.half
     another had g in_next in_g is_open = by g.half.peer refl
@@ -89,7 +89,7 @@ module _ (table : Table) (side : Side) (items : List Item) (gone : List Message)
             let same : Some id ≡ Some q = sym to ∙ id_is q (dtid_in m) is in
             let one = sound.one_peer g (record f { half = k }) id in_next there (of ∙ sym same) peer in
             is_it g (one.0, one.1, one_half next (record f { half = k }) g there in_next (sym one.0, sym one.1)) is_open
-        with q of false is = story_kept had g in_g is_open (rw of (told_not side items m q (rw is refl)))
+        with q of false is = story_kept had g in_g is_open (rw of (outgoing_not side items m q (rw is refl)))
 
         by : (o : Option (List ℕ)) → g.half.peer ≡ o
             → Story table side (items ++ Sent side m ∷ []) gone g.slot g.key g.half
@@ -99,7 +99,7 @@ module _ (table : Table) (side : Side) (items : List Item) (gone : List Message)
     pub put_stories : HaveStories table side items gone e → HaveStories table side (items ++ Sent side m ∷ []) gone next
     put_stories had g in_next is_open = by (put_has e f.slot f.key k g (rw (← made) at in_next))
       where
-        by : IsThere f.slot f.key k g ⊎ Has e g → Story table side (items ++ Sent side m ∷ []) gone g.slot g.key g.half
+        by : IsThere f.slot f.key k g ⊎ HasHalf e g → Story table side (items ++ Sent side m ∷ []) gone g.slot g.key g.half
         by (inl new) = is_it g new is_open
         by (inr old) = another had g in_next old is_open
 
@@ -137,7 +137,7 @@ module _ (table : Table) (side : Side) (items : List Item) (gone : List Message)
       let free = needs_ok (is_none (with_own e otid)) faults.IdUsed _ next is in
       let may = needs_ok (may_begin dialogue) faults.WrongDialogue _ next free.1 in
       let (k, sent, done) = then_ok
-      (send_components table (fresh phases.Sent (Some otid) None (first_standing dialogue)) (items_of components))
+      (send_components table (fresh phases.Sent (Some otid) None (first_dialogue_state dialogue)) (items_of components))
       (λ half. Ok (put e Begun otid half)) next may.1 in
       let made = is_this _ done in
       let story = story_begins table side items gone otid dialogue components k
@@ -149,8 +149,8 @@ module _ (table : Table) (side : Side) (items : List Item) (gone : List Message)
 
       by : (k : Half) → put e Begun otid k ≡ next
           → Story table side (items ++ Sent side (Begin otid dialogue components) ∷ []) gone Begun otid k
-          → (g : KeptHalf)
-          → is_closed g.half.phase ≡ false → IsThere Begun otid k g ⊎ Has e g
+          → (g : KeyedHalf)
+          → is_closed g.half.phase ≡ false → IsThere Begun otid k g ⊎ HasHalf e g
           → Story table side (items ++ Sent side (Begin otid dialogue components) ∷ []) gone g.slot g.key g.half
       by k made story g is_open (inl new) = rw (new.0, new.1, new.2) story
       by k made story g is_open (inr old) =
@@ -183,7 +183,7 @@ module _ (table : Table) (side : Side) (items : List Item) (gone : List Message)
         → HasBegun side later gone half.kept.slot half.kept.key half.now
     begun still (stays it) =
         begun_kept side items later gone half.kept.slot half.kept.key half.kept.half half.now
-        (keeps table side items gone e next m) it.phase it.peer it.standing (had half.kept half.had half.is_open).begun
+        (keeps table side items gone e next m) it.phase it.peer it.dialogue_state (had half.kept half.had half.is_open).begun
     begun still (closes it) = let bad : true ≡ false = rw (it.phase) at still in cc
     begun still (answers it) = rw (answers_begin it) tt
     begun still (learns it) = let never = it.deed_is in cc
@@ -194,7 +194,7 @@ module _ (table : Table) (side : Side) (items : List Item) (gone : List Message)
         (λ still.
         story_sends table side items later gone half.kept.slot half.kept.key half.kept.half half.start half.now m id
         (half.out, half.inn, half.grants) (rw (half.is_now still) half.sends) half.peer (peer ∙ sym half.peer)
-        (keeps_own half.turned) (told_now side items m id (is_that_id id (dtid_in m) to) half.no_cause)
+        (keeps_own half.turned) (outgoing_now side items m id (is_that_id id (dtid_in m) to) half.no_cause)
         (keeps table side items gone e next m) (begun still half.turned) (had half.kept half.had half.is_open)) had
 
   -- After each sent message, the end has its stories.

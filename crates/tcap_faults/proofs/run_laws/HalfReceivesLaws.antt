@@ -12,48 +12,48 @@ use Rattle.tcap_record.specs.declared.entry.End.{End as Side}
 use Rattle.tcap_end.specs.declared.half.Phase.TheVariants as phases
 use Rattle.tcap_end.specs.declared.half.Slot.{Slot}
 use Rattle.tcap_end.specs.declared.half.Slot.TheVariants.{Begun, Accepted}
-use Rattle.tcap_end.specs.declared.half.Standing.{Standing}
-use Rattle.tcap_end.specs.declared.half.Standing.TheVariants as standings
+use Rattle.tcap_end.specs.declared.half.DialogueState.{DialogueState}
+use Rattle.tcap_end.specs.declared.half.DialogueState.TheVariants as dialogue_states
 use Rattle.tcap_end.specs.Table.{Table}
 use Rattle.tcap_end.specs.Half.{Half, fresh}
-use Rattle.tcap_end.specs.Dialogue.{answers_request, first_standing, is_request, is_response}
+use Rattle.tcap_end.specs.Dialogue.{answers_request, first_dialogue_state, is_request, is_response}
 use Rattle.tcap_end.specs.Message.{active_half, receive_components, send_components}
-use Rattle.tcap_end.specs.ReachableEnd.{IsKept}
+use Rattle.tcap_end.specs.ReachableEnd.{IsHalfKey}
 use Rattle.tcap_end.proofs.ComponentLaws.{Receives, all_receives, all_sends}
 use Rattle.tcap_end.proofs.HalfLaws.{Follows}
 use Rattle.tcap_model.specs.World.{Item, Sent}
 use Rattle.tcap_model.specs.SinceMark.{is_begin_with_request}
 use Rattle.tcap_faults.specs.Counts.{count}
 use Rattle.tcap_faults.specs.HalfByPeerId.{responds}
-use Rattle.tcap_faults.specs.SentToId.{begin_from, told}
+use Rattle.tcap_faults.specs.SentToId.{begin_from, outgoing}
 use Rattle.tcap_faults.proofs.run_laws.MayHearLaws.{count_in, count_in_one}
 use Rattle.tcap_faults.proofs.run_laws.HalfGoesOnLaws.{GotOn, HasBegun, IsAnswered, SentOn, Story, ToldOver, begun_kept, begun_still, gets_on, led_same, sends_on}
-use Rattle.tcap_faults.proofs.run_laws.TakenMessageLaws.{HaveThatToo, before, heard_back_too, heard_begin_too, heard_goes_too, itself, more_before}
+use Rattle.tcap_faults.proofs.run_laws.TakenMessageLaws.{HaveThatToo, before, incoming_back_too, incoming_begin_too, incoming_goes_too, itself, more_before}
 use Rattle.tcap_faults.proofs.run_laws.ItemLaws.{begins_now}
-use Rattle.tcap_faults.proofs.story_laws.Stories.{Happening, SameLists, got_in, may_have_heard, sent_in, told_to}
+use Rattle.tcap_faults.proofs.story_laws.Stories.{Happening, SameLists, got_in, may_have_incoming, sent_in, outgoing_to}
 
 -- ---- a half begins
 
 -- The end sends a Begin.
 pub story_begins : (table : Table) (side : Side) (items : List Item) (gone : List Message) (otid : List ℕ)
     (dialogue : Option Dialogue) (components : Option (List Component)) (k : Half) → begin_from side otid items ≡ None
-    → send_components table (fresh phases.Sent (Some otid) None (first_standing dialogue)) (items_of components) ≡ Ok k
+    → send_components table (fresh phases.Sent (Some otid) None (first_dialogue_state dialogue)) (items_of components) ≡ Ok k
     → Story table side (items ++ Sent side (Begin otid dialogue components) ∷ []) gone Begun otid k
 story_begins table side items gone otid dialogue components k none sends = record {
   past = on.now;
   is_led = on.is_led;
-  told_over = m ∷ [];
-  is_told = (m, found, rw (follows.peer) refl);
+  outgoing_over = m ∷ [];
+  is_outgoing = (m, found, rw (follows.peer) refl);
   sent = sent;
   got = λ p. rw (on.got) (omega arith);
-  begun = (m, found, λ asks. rw (follows.phase, follows.standing) (asked (is_request dialogue) asks));
+  begun = (m, found, λ asks. rw (follows.phase, follows.dialogue_state) (asked (is_request dialogue) asks));
 }
   where
     m : Message
     m = Begin otid dialogue components
 
     start : Half
-    start = fresh phases.Sent (Some otid) None (first_standing dialogue)
+    start = fresh phases.Sent (Some otid) None (first_dialogue_state dialogue)
 
     found : begin_from side otid (items ++ Sent side (Begin otid dialogue components) ∷ [])
         ≡ Some (Begin otid dialogue components)
@@ -70,26 +70,26 @@ story_begins table side items gone otid dialogue components k none sends = recor
         let new = on.sent p in
         let one = count_in_one p (Begin otid dialogue components) in omega arith
 
-    asked : (b : Bool) → b ≡ true → cond b standings.Asked standings.Without ≡ standings.Asked
+    asked : (b : Bool) → b ≡ true → cond b dialogue_states.Requested dialogue_states.Without ≡ dialogue_states.Requested
     asked b is = rw is refl
 
 -- The end receives a Begin, and sent nothing to the peer's ID before.
 pub story_received : (table : Table) (side : Side) (items : List Item) (gone : List Message) (otid : List ℕ)
-    (dialogue : Option Dialogue) (components : Option (List Component)) → told side otid items ≡ []
+    (dialogue : Option Dialogue) (components : Option (List Component)) → outgoing side otid items ≡ []
     → Story table side items (gone ++ Begin otid dialogue components ∷ []) Accepted otid
-    (receive_components table (fresh phases.Received None (Some otid) (first_standing dialogue)) (items_of components))
+    (receive_components table (fresh phases.Received None (Some otid) (first_dialogue_state dialogue)) (items_of components))
 story_received table side items gone otid dialogue components none = record {
   past = on.now;
   is_led = on.is_led;
-  told_over = [];
-  is_told = rw (comes.follows.peer) (sym none);
+  outgoing_over = [];
+  is_outgoing = rw (comes.follows.peer) (sym none);
   sent = λ p. rw (on.sent) refl;
-  got = heard;
+  got = incoming;
   begun = tt;
 }
   where
     start : Half
-    start = fresh phases.Received None (Some otid) (first_standing dialogue)
+    start = fresh phases.Received None (Some otid) (first_dialogue_state dialogue)
 
     comes : Receives start (receive_components table start (items_of components))
     comes = all_receives table (items_of components) start
@@ -97,13 +97,13 @@ story_received table side items gone otid dialogue components none = record {
     on : GotOn table [] (items_of components) (receive_components table start (items_of components))
     on = gets_on table (items_of components) [] start (refl, refl, refl)
 
-    heard : (p : Component → Bool) → count p (got_in on.now)
-        ≤ count_in p (may_have_heard side items (gone ++ Begin otid dialogue components ∷ []) Accepted
+    incoming : (p : Component → Bool) → count p (got_in on.now)
+        ≤ count_in p (may_have_incoming side items (gone ++ Begin otid dialogue components ∷ []) Accepted
         (receive_components table start (items_of components)).own
         (receive_components table start (items_of components)).peer)
-    heard p =
+    incoming p =
         let new = on.got p in
-        let too = heard_begin_too side items gone otid dialogue components None p in
+        let too = incoming_begin_too side items gone otid dialogue components None p in
         rw (comes.follows.own, comes.follows.peer) (omega arith)
 
 -- ---- a Continue is received
@@ -119,42 +119,42 @@ module _ (table : Table) (side : Side) (items : List Item) (gone : List Message)
 
   -- What the half received before, and what it receives now, it may have heard.
   got_too : (slot : Slot) (past : List Happening) (now : List Happening) (h : Half)
-      → HaveThatToo m (may_have_heard side items gone slot h.own h.peer)
-      (may_have_heard side items (gone ++ m ∷ []) slot (Some own) (Some otid))
-      → ((p : Component → Bool) → count p (got_in past) ≤ count_in p (may_have_heard side items gone slot h.own h.peer))
+      → HaveThatToo m (may_have_incoming side items gone slot h.own h.peer)
+      (may_have_incoming side items (gone ++ m ∷ []) slot (Some own) (Some otid))
+      → ((p : Component → Bool) → count p (got_in past) ≤ count_in p (may_have_incoming side items gone slot h.own h.peer))
       → ((p : Component → Bool) → count p (got_in now) ≡ count p (got_in past) + count p (items_of components))
       → (p : Component → Bool)
-      → count p (got_in now) ≤ count_in p (may_have_heard side items (gone ++ m ∷ []) slot (Some own) (Some otid))
+      → count p (got_in now) ≤ count_in p (may_have_incoming side items (gone ++ m ∷ []) slot (Some own) (Some otid))
   got_too slot past now h too was new p =
       let had = was p in
       let more = new p in
       let all = too p in omega arith
 
   -- A half with these IDs may have heard it.
-  heard_with : (slot : Slot) (of_own of_peer : Option (List ℕ)) (n : ℕ) (p : Component → Bool) → of_own ≡ Some own
+  incoming_with : (slot : Slot) (of_own of_peer : Option (List ℕ)) (n : ℕ) (p : Component → Bool) → of_own ≡ Some own
       → of_peer ≡ Some otid
-      → n ≤ count_in p (may_have_heard side items (gone ++ m ∷ []) slot (Some own) (Some otid))
-      → n ≤ count_in p (may_have_heard side items (gone ++ m ∷ []) slot of_own of_peer)
-  heard_with slot of_own of_peer n p is_own is_peer is = rw (is_own, is_peer) is
+      → n ≤ count_in p (may_have_incoming side items (gone ++ m ∷ []) slot (Some own) (Some otid))
+      → n ≤ count_in p (may_have_incoming side items (gone ++ m ∷ []) slot of_own of_peer)
+  incoming_with slot of_own of_peer n p is_own is_peer is = rw (is_own, is_peer) is
 
   -- The half keeps the story of what was sent over it.
   story_gets : (slot : Slot) (key : List ℕ) (h start : Half) → SameLists h start → start.own ≡ Some own
       → start.peer ≡ Some otid → (it : Story table side items gone slot key h)
-      → ToldOver side items slot key (Some otid) it.told_over
-      → HaveThatToo m (may_have_heard side items gone slot h.own h.peer)
-      (may_have_heard side items (gone ++ m ∷ []) slot (Some own) (Some otid))
+      → ToldOver side items slot key (Some otid) it.outgoing_over
+      → HaveThatToo m (may_have_incoming side items gone slot h.own h.peer)
+      (may_have_incoming side items (gone ++ m ∷ []) slot (Some own) (Some otid))
       → HasBegun side items (gone ++ m ∷ []) slot key (behind start)
       → Story table side items (gone ++ m ∷ []) slot key (behind start)
-  story_gets slot key h start lists of_own of_peer it was_told too begun =
+  story_gets slot key h start lists of_own of_peer it was_outgoing too begun =
       record {
         past = on.now;
         is_led = on.is_led;
-        told_over = it.told_over;
-        is_told = subst (λ o. ToldOver side items slot key o it.told_over) (sym (comes.follows.peer ∙ of_peer))
-            was_told;
+        outgoing_over = it.outgoing_over;
+        is_outgoing = subst (λ o. ToldOver side items slot key o it.outgoing_over) (sym (comes.follows.peer ∙ of_peer))
+            was_outgoing;
         sent = λ p. rw (on.sent) (it.sent p);
         got = λ p.
-            heard_with slot (behind start).own (behind start).peer (count p (got_in on.now)) p
+            incoming_with slot (behind start).own (behind start).peer (count p (got_in on.now)) p
             (comes.follows.own ∙ of_own)
             (comes.follows.peer ∙ of_peer) (got_too slot it.past on.now h too it.got on.got p);
         begun = begun;
@@ -169,9 +169,9 @@ module _ (table : Table) (side : Side) (items : List Item) (gone : List Message)
   -- ---- the Continue answers a Begin
 
   -- The answer to a Begin that asked for a dialogue.
-  answered_now : (standing : Standing) → standing ≡ standings.Asked → answers_request standing dialogue ≡ true
+  answered_now : (dialogue_state : DialogueState) → dialogue_state ≡ dialogue_states.Requested → answers_request dialogue_state dialogue ≡ true
       → list_any responds (before side items gone otid own dialogue components ++ m ∷ []) ≡ true
-  answered_now standing asked answers =
+  answered_now dialogue_state asked answers =
       let is : is_response dialogue ≡ true = rw asked at answers in
       list_any-append responds (before side items gone otid own dialogue components) (m ∷ [])
       ∙ by (list_any responds (before side items gone otid own dialogue components)) (last is)
@@ -188,11 +188,11 @@ module _ (table : Table) (side : Side) (items : List Item) (gone : List Message)
 
   -- The half was in Sent, and nothing was sent to the ID from which it is answered.
   pub story_answered : (h : Half) → h.phase ≡ phases.Sent → h.own ≡ Some own → h.peer ≡ None
-      → answers_request h.standing dialogue ≡ true → told side otid items ≡ []
+      → answers_request h.dialogue_state dialogue ≡ true → outgoing side otid items ≡ []
       → Story table side items gone Begun own h
       → Story table side items (gone ++ m ∷ []) Begun own (behind (active_half Begun otid h))
   story_answered h phase is_own no_peer answers none it =
-      story_gets Begun own h start (refl, refl, refl) is_own refl it (by_told it.is_told) (by_begun it.begun).0
+      story_gets Begun own h start (refl, refl, refl) is_own refl it (by_outgoing it.is_outgoing) (by_begun it.begun).0
       (by_begun it.begun).1
     where
       start : Half
@@ -201,34 +201,34 @@ module _ (table : Table) (side : Side) (items : List Item) (gone : List Message)
       comes : Receives start (behind start)
       comes = all_receives table (items_of components) start
 
-      by_told : ToldOver side items Begun own h.peer it.told_over
-          → ToldOver side items Begun own (Some otid) it.told_over
-      by_told (begin, found, is) =
-          (begin, found, is ∙ ap (λ o. begin ∷ told_to side items o) no_peer ∙ ap (λ more. begin ∷ more) (sym none))
+      by_outgoing : ToldOver side items Begun own h.peer it.outgoing_over
+          → ToldOver side items Begun own (Some otid) it.outgoing_over
+      by_outgoing (begin, found, is) =
+          (begin, found, is ∙ ap (λ o. begin ∷ outgoing_to side items o) no_peer ∙ ap (λ more. begin ∷ more) (sym none))
 
-      nothing : HaveThatToo m (may_have_heard side items gone Begun (Some own) (Some otid))
-          (may_have_heard side items (gone ++ m ∷ []) Begun (Some own) (Some otid))
-          → HaveThatToo m (may_have_heard side items gone Begun h.own h.peer)
-          (may_have_heard side items (gone ++ m ∷ []) Begun (Some own) (Some otid))
+      nothing : HaveThatToo m (may_have_incoming side items gone Begun (Some own) (Some otid))
+          (may_have_incoming side items (gone ++ m ∷ []) Begun (Some own) (Some otid))
+          → HaveThatToo m (may_have_incoming side items gone Begun h.own h.peer)
+          (may_have_incoming side items (gone ++ m ∷ []) Begun (Some own) (Some otid))
       nothing too p =
           let all = too p in
-          let none_yet : count_in p (may_have_heard side items gone Begun h.own h.peer) ≡ 0 =
+          let none_yet : count_in p (may_have_incoming side items gone Begun h.own h.peer) ≡ 0 =
           rw (is_own, no_peer) refl in
           omega arith
 
       by_begun : HasBegun side items gone Begun own h
-          → HaveThatToo m (may_have_heard side items gone Begun h.own h.peer)
-          (may_have_heard side items (gone ++ m ∷ []) Begun (Some own) (Some otid))
+          → HaveThatToo m (may_have_incoming side items gone Begun h.own h.peer)
+          (may_have_incoming side items (gone ++ m ∷ []) Begun (Some own) (Some otid))
           × HasBegun side items (gone ++ m ∷ []) Begun own (behind start)
       by_begun (begin, found, answered) =
-          (nothing (heard_back_too side items gone otid own dialogue components begin found now), (begin, found, later))
+          (nothing (incoming_back_too side items gone otid own dialogue components begin found now), (begin, found, later))
         where
           now : is_begin_with_request begin ≡ true
               → list_any responds (before side items gone otid own dialogue components ++ m ∷ []) ≡ true
-          now asks = answered_now h.standing (rw phase at (answered asks)) answers
+          now asks = answered_now h.dialogue_state (rw phase at (answered asks)) answers
 
           later : is_begin_with_request begin ≡ true
-              → IsAnswered own (gone ++ m ∷ []) (behind start).standing (behind start).peer (behind start).phase
+              → IsAnswered own (gone ++ m ∷ []) (behind start).dialogue_state (behind start).peer (behind start).phase
           later asks =
               rw (comes.follows.phase) (λ id of_peer.
               let is : otid ≡ id = same_id id (behind start).peer comes.follows.peer of_peer in
@@ -246,25 +246,25 @@ module _ (table : Table) (side : Side) (items : List Item) (gone : List Message)
 
   -- An active half receives the Continue from its peer.
   pub story_goes_on : (slot : Slot) (key : List ℕ) (h : Half) → h.phase ≡ phases.Active → h.own ≡ Some own
-      → h.peer ≡ Some otid → IsKept slot key h → Story table side items gone slot key h
+      → h.peer ≡ Some otid → IsHalfKey slot key h → Story table side items gone slot key h
       → Story table side items (gone ++ m ∷ []) slot key (behind h)
   story_goes_on slot key h phase is_own is_peer kept it =
       story_gets slot key h h (refl, refl, refl) is_own is_peer it
-      (subst (λ o. ToldOver side items slot key o it.told_over) is_peer it.is_told)
+      (subst (λ o. ToldOver side items slot key o it.outgoing_over) is_peer it.is_outgoing)
       (rw (is_own, is_peer) (too slot kept it.begun))
       (begun_kept side items items (gone ++ m ∷ []) slot key h (behind h) (λ id begin found. found) comes.follows.phase
-      comes.follows.peer comes.follows.standing (begun_still side items gone (m ∷ []) slot key h it.begun))
+      comes.follows.peer comes.follows.dialogue_state (begun_still side items gone (m ∷ []) slot key h it.begun))
     where
       comes : Receives h (behind h)
       comes = all_receives table (items_of components) h
 
-      too : (slot : Slot) → IsKept slot key h → HasBegun side items gone slot key h
-          → HaveThatToo m (may_have_heard side items gone slot (Some own) (Some otid))
-          (may_have_heard side items (gone ++ m ∷ []) slot (Some own) (Some otid))
-      too Accepted kept begun = heard_goes_too side items gone otid own dialogue components
+      too : (slot : Slot) → IsHalfKey slot key h → HasBegun side items gone slot key h
+          → HaveThatToo m (may_have_incoming side items gone slot (Some own) (Some otid))
+          (may_have_incoming side items (gone ++ m ∷ []) slot (Some own) (Some otid))
+      too Accepted kept begun = incoming_goes_too side items gone otid own dialogue components
       too Begun kept (begin, found, answered) =
           let same : key ≡ own = cc in
-          heard_back_too side items gone otid own dialogue components begin (rw same at found)
+          incoming_back_too side items gone otid own dialogue components begin (rw same at found)
           (λ asks. still_answered
-          (let is : IsAnswered key gone h.standing h.peer phases.Active = rw phase at (answered asks) in
+          (let is : IsAnswered key gone h.dialogue_state h.peer phases.Active = rw phase at (answered asks) in
           rw same at (is otid is_peer)))

@@ -13,9 +13,9 @@ use Rattle.tcap_end.specs.End.{is_id}
 use Rattle.tcap_model.specs.World.{Item, Sent, is_side}
 use Rattle.tcap_refute.specs.EarlierMessages.{is_a, sent_by}
 use Rattle.tcap_model.proofs.WorldLaws.{itself}
-use Rattle.tcap_faults.specs.SentToId.{begin_from, begins_from, tells_to, told}
+use Rattle.tcap_faults.specs.SentToId.{begin_from, is_begin_from, is_outgoing_to, outgoing}
 use Rattle.tcap_faults.proofs.run_laws.MayHearLaws.{KeepsBegins}
-use Rattle.tcap_faults.proofs.story_laws.Stories.{told_to}
+use Rattle.tcap_faults.proofs.story_laws.Stories.{outgoing_to}
 
 -- ---- what an end sent
 
@@ -43,39 +43,39 @@ sent_other side sender m items apart =
 pub begins_kept : (side : Side) (items later : List Item) (more : List Message)
     → sent_by side later ≡ sent_by side items ++ more → KeepsBegins side items later
 begins_kept side items later more is own begin found =
-    ap (find (begins_from own)) is ∙ find-append (begins_from own) (sent_by side items) more ∙ rw found refl
+    ap (find (is_begin_from own)) is ∙ find-append (is_begin_from own) (sent_by side items) more ∙ rw found refl
 
 -- A Begin from an ID without a Begin is that ID's Begin.
 pub begins_now : (side : Side) (items : List Item) (m : Message) (own : List ℕ) → begin_from side own items ≡ None
     → is_a forms.Begin m ≡ true → is_id own (otid_in m) ≡ true
     → begin_from side own (items ++ Sent side m ∷ []) ≡ Some m
 begins_now side items m own none begins from =
-    ap (find (begins_from own)) (sent_own side m items) ∙ find-append (begins_from own) (sent_by side items) (m ∷ [])
+    ap (find (is_begin_from own)) (sent_own side m items) ∙ find-append (is_begin_from own) (sent_by side items) (m ∷ [])
     ∙ rw (none, begins, from) refl
 
 -- A message to an ID is the last to it.
-pub told_now : (side : Side) (items : List Item) (m : Message) (id : List ℕ) → is_id id (dtid_in m) ≡ true
-    → cause_in m ≡ None → told side id (items ++ Sent side m ∷ []) ≡ told side id items ++ m ∷ []
-told_now side items m id to no_cause =
-    ap (filter (tells_to id)) (sent_own side m items) ∙ filter-append (tells_to id) (sent_by side items) (m ∷ [])
-    ∙ ap (λ more. told side id items ++ more) one
+pub outgoing_now : (side : Side) (items : List Item) (m : Message) (id : List ℕ) → is_id id (dtid_in m) ≡ true
+    → cause_in m ≡ None → outgoing side id (items ++ Sent side m ∷ []) ≡ outgoing side id items ++ m ∷ []
+outgoing_now side items m id to no_cause =
+    ap (filter (is_outgoing_to id)) (sent_own side m items) ∙ filter-append (is_outgoing_to id) (sent_by side items) (m ∷ [])
+    ∙ ap (λ more. outgoing side id items ++ more) one
   where
-    one : filter (tells_to id) (m ∷ []) ≡ m ∷ []
+    one : filter (is_outgoing_to id) (m ∷ []) ≡ m ∷ []
     one = rw (to, no_cause) refl
 
 -- A message to another ID changes nothing.
-pub told_not : (side : Side) (items : List Item) (m : Message) (id : List ℕ)
+pub outgoing_not : (side : Side) (items : List Item) (m : Message) (id : List ℕ)
     → (is_id id (dtid_in m) && is_none (cause_in m)) ≡ false
-    → told side id (items ++ Sent side m ∷ []) ≡ told side id items
-told_not side items m id apart =
-    ap (filter (tells_to id)) (sent_own side m items) ∙ filter-append (tells_to id) (sent_by side items) (m ∷ [])
-    ∙ ap (λ more. told side id items ++ more) none ∙ append-nil (told side id items)
+    → outgoing side id (items ++ Sent side m ∷ []) ≡ outgoing side id items
+outgoing_not side items m id apart =
+    ap (filter (is_outgoing_to id)) (sent_own side m items) ∙ filter-append (is_outgoing_to id) (sent_by side items) (m ∷ [])
+    ∙ ap (λ more. outgoing side id items ++ more) none ∙ append-nil (outgoing side id items)
   where
-    none : filter (tells_to id) (m ∷ []) ≡ []
+    none : filter (is_outgoing_to id) (m ∷ []) ≡ []
     none = rw apart refl
 
 -- If the end sent nothing more, it sent nothing more to the peer.
-pub told_same : (side : Side) (items later : List Item) (peer : Option (List ℕ))
+pub outgoing_same : (side : Side) (items later : List Item) (peer : Option (List ℕ))
     → sent_by side later ≡ sent_by side items
-    → told_to side later peer ≡ told_to side items peer
-told_same side items later peer is = grind (arith, is)
+    → outgoing_to side later peer ≡ outgoing_to side items peer
+outgoing_same side items later peer is = grind (arith, is)

@@ -18,8 +18,8 @@ use Rattle.tcap_refute.specs.EarlierMessages.{components_of, is_a}
 use Rattle.tcap_model.specs.SinceMark.{is_begin_with_request}
 use Rattle.tcap_faults.specs.Counts.{count}
 use Rattle.tcap_faults.specs.HalfByPeerId.{from_first, responds}
-use Rattle.tcap_faults.specs.SentToId.{begin_from, goes_on_to}
-use Rattle.tcap_faults.proofs.story_laws.Stories.{continues_to, from, heard_behind, may_have_heard}
+use Rattle.tcap_faults.specs.SentToId.{begin_from, is_continue_to}
+use Rattle.tcap_faults.proofs.story_laws.Stories.{continues_to, from, incoming_behind, may_have_incoming}
 use Rattle.tcap_faults.proofs.list_laws.CountLaws.{count_both}
 
 -- ---- counts
@@ -76,7 +76,7 @@ first_grows p (x ∷ xs) ys = by (p x) (first_grows p xs ys)
 
 -- More Continues have more that is heard, with any Begin.
 behind_grows : (begin : Option Message) (xs ys : List Message)
-    → HaveNoMore (heard_behind begin xs) (heard_behind begin (xs ++ ys))
+    → HaveNoMore (incoming_behind begin xs) (incoming_behind begin (xs ++ ys))
 behind_grows None xs ys = no_more_self []
 behind_grows (Some begin) xs ys = by (is_begin_with_request begin)
   where
@@ -86,13 +86,13 @@ behind_grows (Some begin) xs ys = by (is_begin_with_request begin)
 
 -- A half hears no less if the end keeps its Begins.
 behind_later : (side : Side) (items later : List Item) (own : List ℕ) (xs : List Message) → KeepsBegins side items later
-    → HaveNoMore (heard_behind (begin_from side own items) xs) (heard_behind (begin_from side own later) xs)
+    → HaveNoMore (incoming_behind (begin_from side own items) xs) (incoming_behind (begin_from side own later) xs)
 behind_later side items later own xs keeps = by (begin_from side own items) refl
   where
     by : (o : Option Message) → begin_from side own items ≡ o
-        → HaveNoMore (heard_behind o xs) (heard_behind (begin_from side own later) xs)
+        → HaveNoMore (incoming_behind o xs) (incoming_behind (begin_from side own later) xs)
     by None none = λ p. omega arith
-    by (Some begin) found = rw (keeps own begin found) (no_more_self (heard_behind (Some begin) xs))
+    by (Some begin) found = rw (keeps own begin found) (no_more_self (incoming_behind (Some begin) xs))
 
 -- ---- what a half may have heard
 
@@ -108,46 +108,46 @@ filters_grow p q xs ys =
 continues_grow : (id : List ℕ) (gone more : List Message) (own : Option (List ℕ))
     → HaveNoMore (continues_to id gone own) (continues_to id (gone ++ more) own)
 continues_grow id gone more None = no_more_self []
-continues_grow id gone more (Some own) = filters_grow _ (goes_on_to own) gone more
+continues_grow id gone more (Some own) = filters_grow _ (is_continue_to own) gone more
 
 -- More messages mean that more may have been heard.
-pub heard_grows : (side : Side) (items : List Item) (gone more : List Message) (slot : Slot)
+pub incoming_grows : (side : Side) (items : List Item) (gone more : List Message) (slot : Slot)
     (own peer : Option (List ℕ))
-    → HaveNoMore (may_have_heard side items gone slot own peer) (may_have_heard side items (gone ++ more) slot own peer)
-heard_grows side items gone more Begun None None = no_more_self []
-heard_grows side items gone more Begun (Some own) None = no_more_self []
-heard_grows side items gone more Accepted own None = no_more_self []
-heard_grows side items gone more Accepted own (Some id) =
+    → HaveNoMore (may_have_incoming side items gone slot own peer) (may_have_incoming side items (gone ++ more) slot own peer)
+incoming_grows side items gone more Begun None None = no_more_self []
+incoming_grows side items gone more Begun (Some own) None = no_more_self []
+incoming_grows side items gone more Accepted own None = no_more_self []
+incoming_grows side items gone more Accepted own (Some id) =
     no_more_both (filter (is_a forms.Begin) (from id gone)) (filter (is_a forms.Begin) (from id (gone ++ more)))
     (continues_to id gone own) (continues_to id (gone ++ more) own) (filters_grow _ (is_a forms.Begin) gone more)
     (continues_grow id gone more own)
-heard_grows side items gone more Begun None (Some id) = no_more_self []
-heard_grows side items gone more Begun (Some own) (Some id) =
-    subst (λ (ms : List Message). HaveNoMore (heard_behind (begin_from side own items) (continues_to id gone (Some own)))
-    (heard_behind (begin_from side own items) ms))
-    (sym (filters_append (λ m. is_id id (otid_in m)) (goes_on_to own) gone more))
+incoming_grows side items gone more Begun None (Some id) = no_more_self []
+incoming_grows side items gone more Begun (Some own) (Some id) =
+    subst (λ (ms : List Message). HaveNoMore (incoming_behind (begin_from side own items) (continues_to id gone (Some own)))
+    (incoming_behind (begin_from side own items) ms))
+    (sym (filters_append (λ m. is_id id (otid_in m)) (is_continue_to own) gone more))
     (behind_grows (begin_from side own items) (continues_to id gone (Some own)) (continues_to id more (Some own)))
 
 -- If the end keeps its Begins, no less may have been heard.
-pub heard_later : (side : Side) (items later : List Item) (gone : List Message) (slot : Slot)
+pub incoming_later : (side : Side) (items later : List Item) (gone : List Message) (slot : Slot)
     (own peer : Option (List ℕ))
     → KeepsBegins side items later
-    → HaveNoMore (may_have_heard side items gone slot own peer) (may_have_heard side later gone slot own peer)
-heard_later side items later gone Begun None None keeps = no_more_self []
-heard_later side items later gone Begun (Some own) None keeps = no_more_self []
-heard_later side items later gone Accepted own None keeps = no_more_self []
-heard_later side items later gone Accepted own (Some id) keeps =
-    no_more_self (may_have_heard side items gone Accepted own (Some id))
-heard_later side items later gone Begun None (Some id) keeps = no_more_self []
-heard_later side items later gone Begun (Some own) (Some id) keeps =
+    → HaveNoMore (may_have_incoming side items gone slot own peer) (may_have_incoming side later gone slot own peer)
+incoming_later side items later gone Begun None None keeps = no_more_self []
+incoming_later side items later gone Begun (Some own) None keeps = no_more_self []
+incoming_later side items later gone Accepted own None keeps = no_more_self []
+incoming_later side items later gone Accepted own (Some id) keeps =
+    no_more_self (may_have_incoming side items gone Accepted own (Some id))
+incoming_later side items later gone Begun None (Some id) keeps = no_more_self []
+incoming_later side items later gone Begun (Some own) (Some id) keeps =
     behind_later side items later own (continues_to id gone (Some own)) keeps
 
 -- If an accepted half chooses an own ID, no less may have been heard.
-pub heard_chosen : (side : Side) (items : List Item) (gone : List Message) (own : List ℕ) (peer : Option (List ℕ))
-    → HaveNoMore (may_have_heard side items gone Accepted None peer)
-    (may_have_heard side items gone Accepted (Some own) peer)
-heard_chosen side items gone own None = no_more_self []
-heard_chosen side items gone own (Some id) =
+pub incoming_chosen : (side : Side) (items : List Item) (gone : List Message) (own : List ℕ) (peer : Option (List ℕ))
+    → HaveNoMore (may_have_incoming side items gone Accepted None peer)
+    (may_have_incoming side items gone Accepted (Some own) peer)
+incoming_chosen side items gone own None = no_more_self []
+incoming_chosen side items gone own (Some id) =
     rw (append-nil begins) (no_more_than_all begins (continues_to id gone (Some own)))
   where
     begins : List Message

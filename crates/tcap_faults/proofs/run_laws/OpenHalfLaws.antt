@@ -8,8 +8,8 @@ use Rattle.tcap_msg.specs.Parts.{cause_in, dtid_in}
 use Rattle.tcap_record.specs.declared.entry.End.{End as Side}
 use Rattle.tcap_end.specs.Table.{Table}
 use Rattle.tcap_end.specs.Half.{is_closed}
-use Rattle.tcap_end.specs.End.{End, KeptHalf, is_id}
-use Rattle.tcap_end.specs.ReachableEnd.{Has, IsEnd}
+use Rattle.tcap_end.specs.End.{End, KeyedHalf, is_id}
+use Rattle.tcap_end.specs.ReachableEnd.{HasHalf, IsEnd}
 use Rattle.tcap_end.proofs.EndLaws.{no_half}
 use Rattle.tcap_end.proofs.FoundLaws.{none_peer}
 use Rattle.tcap_end.proofs.StepLaws.{sends}
@@ -17,18 +17,18 @@ use Rattle.tcap_record.specs.Ends.{other}
 use Rattle.tcap_model.specs.World.{Item, Sent}
 use Rattle.tcap_refute.specs.EarlierMessages.{sent_by}
 use Rattle.tcap_refute.proofs.Members.{has_first}
-use Rattle.tcap_faults.specs.SentToId.{begin_from, begins_from, told}
+use Rattle.tcap_faults.specs.SentToId.{begin_from, is_begin_from, outgoing}
 use Rattle.tcap_faults.proofs.view_laws.AdvanceLaws.{Refuses, refuses}
 use Rattle.tcap_faults.proofs.list_laws.FindLaws.{find_has}
-use Rattle.tcap_faults.proofs.view_laws.BegunHalfLaws.{all_use, begin_used, told_half}
+use Rattle.tcap_faults.proofs.view_laws.BegunHalfLaws.{all_use, begin_used, outgoing_half}
 use Rattle.tcap_faults.proofs.view_laws.InvariantLaws.{views_keep}
 use Rattle.tcap_faults.proofs.view_laws.GrowthLaws.{own_same, their_same}
 use Rattle.tcap_faults.proofs.view_laws.ViewLaws.{IsUnseen, View, view_sound}
 use Rattle.tcap_faults.proofs.run_laws.HalfGoesOnLaws.{Story, story_later, story_still}
-use Rattle.tcap_faults.proofs.run_laws.ItemLaws.{begins_kept, sent_own, told_not, told_same}
+use Rattle.tcap_faults.proofs.run_laws.ItemLaws.{begins_kept, sent_own, outgoing_not, outgoing_same}
 use Rattle.tcap_faults.proofs.run_laws.EndReceivesLaws.{ToldNone, closed_stories, expired_stories, received_stories, stories_still}
 use Rattle.tcap_faults.proofs.run_laws.EndSendsLaws.{BeganNone, HaveStories, sent_stories}
-use Rattle.tcap_faults.proofs.story_laws.Stories.{told_to}
+use Rattle.tcap_faults.proofs.story_laws.Stories.{outgoing_to}
 
 -- ---- what is known about an end
 
@@ -47,17 +47,17 @@ module _ {table : Table} {side : Side} {e : End} {coming : List Message} {items 
       by : (o : Option Message) → begin_from side id items ≡ o → begin_from side id items ≡ None
       by None is = is
       by (Some b) is =
-          let (has, begins) = find_has (begins_from id) (sent_by side items) b is in
+          let (has, begins) = find_has (is_begin_from id) (sent_by side items) b is in
           begin_used e id b (view_sound view) none begins (all_use view b has)
 
-  told_none : ToldNone side items e
-  told_none id none = by (told side id items) refl
+  outgoing_none : ToldNone side items e
+  outgoing_none id none = by (outgoing side id items) refl
     where
-      by : (ms : List Message) → told side id items ≡ ms → told side id items ≡ []
+      by : (ms : List Message) → outgoing side id items ≡ ms → outgoing side id items ≡ []
       by [] is = is
       by (m ∷ ms) is =
-          let has : Contains (told side id items) m = rw is (has_first m ms) in
-          let (f, had, peer) = told_half view m id has in none_peer e id f none had peer
+          let has : Contains (outgoing side id items) m = rw is (has_first m ms) in
+          let (f, had, peer) = outgoing_half view m id has in none_peer e id f none had peer
 
 -- ---- each step
 
@@ -92,9 +92,9 @@ module _ (table : Table) (side : Side) where
       never : (b : Bool) → (b && false) ≡ false
       never b = grind arith
 
-      untold : (peer : Option (List ℕ)) → told_to side (items ++ Sent side abort ∷ []) peer ≡ told_to side items peer
+      untold : (peer : Option (List ℕ)) → outgoing_to side (items ++ Sent side abort ∷ []) peer ≡ outgoing_to side items peer
       untold None = refl
-      untold (Some id) = told_not side items abort id (rw caused (never (is_id id (dtid_in abort))))
+      untold (Some id) = outgoing_not side items abort id (rw caused (never (is_id id (dtid_in abort))))
 
   -- The peer sends something, which is still coming.
   asks_lives : (e : End) (coming : List Message) (items : List Item) (m : Message) → HasLives table side e coming items
@@ -108,15 +108,15 @@ module _ (table : Table) (side : Side) where
         story_later table side items (items ++ Sent (other side) m ∷ []) it.gone g.slot g.key g.half
         (begins_kept side items (items ++ Sent (other side) m ∷ []) []
         (own_same side m items ∙ sym (append-nil (sent_by side items))))
-        (told_same side items (items ++ Sent (other side) m ∷ []) g.half.peer (own_same side m items))
+        (outgoing_same side items (items ++ Sent (other side) m ∷ []) g.half.peer (own_same side m items))
         (it.stories g in_g is_open);
   }
 
   -- A hidden step.
-  unseen_lives : (e next : End) (coming : List Message) (items : List Item) → IsEnd e → IsUnseen table e next
+  internal_lives : (e next : End) (coming : List Message) (items : List Item) → IsEnd e → IsUnseen table e next
       → HasLives table side e coming items → HasLives table side next coming items
-  unseen_lives e next coming items sound unseen it =
-      record { gone = it.gone; split = it.split; stories = by unseen }
+  internal_lives e next coming items sound internal it =
+      record { gone = it.gone; split = it.split; stories = by internal }
     where
       by : IsUnseen table e next → HaveStories table side items it.gone next
       by (inl (name, id, step)) = expired_stories table side items it.gone e next sound it.stories name id step
@@ -137,13 +137,13 @@ have_lives {table} {side} {e} {coming} {items} view = views_keep table side (Has
   hears = λ e next coming items m view is held. record {
     gone = held.gone ++ m ∷ [];
     split = held.split ∙ sym (append_assoc held.gone (m ∷ []) coming);
-    stories = received_stories table side items held.gone e next (view_sound view) held.stories (told_none view) m is;
+    stories = received_stories table side items held.gone e next (view_sound view) held.stories (outgoing_none view) m is;
   };
   refuses = λ e coming items m abort view is held.
       replies_lives table side e coming items abort (has_cause table side e m abort (refuses e m abort is))
       (loses_lives table side e coming items m held);
-  unseen = λ e next coming items view is_next acts unseen held.
-      unseen_lives table side e next coming items (view_sound view) unseen held;
+  internal = λ e next coming items view is_next acts internal held.
+      internal_lives table side e next coming items (view_sound view) internal held;
   loses = λ e coming items m view held. loses_lives table side e coming items m held;
   asks = λ e coming items m view held. asks_lives table side e coming items m held;
 }) e coming items view
@@ -151,7 +151,7 @@ have_lives {table} {side} {e} {coming} {items} view = views_keep table side (Has
 -- In each run in which an end keeps the rules, its open halves have their stories, by what was sent since the last
 -- quiet mark.
 pub lives : {table : Table} {side : Side} {e : End} {coming : List Message} {items : List Item}
-    → View table side e coming items → (f : KeptHalf) → Has e f → is_closed f.half.phase ≡ false
+    → View table side e coming items → (f : KeyedHalf) → HasHalf e f → is_closed f.half.phase ≡ false
     → Story table side items (sent_by (other side) items) f.slot f.key f.half
 lives {table} {side} {e} {coming} {items} view f had is_open =
     subst (λ (gone : List Message). Story table side items gone f.slot f.key f.half) (sym it.split)

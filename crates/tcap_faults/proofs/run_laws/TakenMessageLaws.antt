@@ -19,8 +19,8 @@ use Rattle.tcap_model.specs.SinceMark.{is_begin_with_request}
 use Rattle.tcap_end.proofs.FoundLaws.{is_that_id}
 use Rattle.tcap_faults.specs.Counts.{count}
 use Rattle.tcap_faults.specs.HalfByPeerId.{from_first, responds}
-use Rattle.tcap_faults.specs.SentToId.{begin_from, goes_on_to}
-use Rattle.tcap_faults.proofs.story_laws.Stories.{continues_to, from, heard_behind, may_have_heard}
+use Rattle.tcap_faults.specs.SentToId.{begin_from, is_continue_to}
+use Rattle.tcap_faults.proofs.story_laws.Stories.{continues_to, from, incoming_behind, may_have_incoming}
 use Rattle.tcap_faults.proofs.run_laws.MayHearLaws.{count_in, count_in_append, count_in_one}
 
 -- ---- one more message
@@ -73,11 +73,11 @@ itself id = is_that_id id (Some id) refl
 
 module _ (side : Side) (items : List Item) (gone : List Message) where
   -- A Begin that is taken may have been heard by a half with its peer.
-  pub heard_begin_too : (otid : List ℕ) (dialogue : Option Dialogue) (components : Option (List Component))
+  pub incoming_begin_too : (otid : List ℕ) (dialogue : Option Dialogue) (components : Option (List Component))
       (own : Option (List ℕ)) (p : Component → Bool)
       → count p (components_in (Begin otid dialogue components))
-      ≤ count_in p (may_have_heard side items (gone ++ Begin otid dialogue components ∷ []) Accepted own (Some otid))
-  heard_begin_too otid dialogue components own p =
+      ≤ count_in p (may_have_incoming side items (gone ++ Begin otid dialogue components ∷ []) Accepted own (Some otid))
+  incoming_begin_too otid dialogue components own p =
       let begins = both_more (λ n. is_id otid (otid_in n)) (is_a forms.Begin) gone m (itself otid) refl in
       let front = filter (is_a forms.Begin) (from otid gone) in
       let all = count_in_append p (filter (is_a forms.Begin) (from otid (gone ++ m ∷ [])))
@@ -93,12 +93,12 @@ module _ (side : Side) (items : List Item) (gone : List Message) where
     goes = Continue otid own dialogue components
 
     -- A Continue that is taken may have been heard by an accepted half.
-    pub heard_goes_too : HaveThatToo goes (may_have_heard side items gone Accepted (Some own) (Some otid))
-        (may_have_heard side items (gone ++ goes ∷ []) Accepted (Some own) (Some otid))
-    heard_goes_too =
+    pub incoming_goes_too : HaveThatToo goes (may_have_incoming side items gone Accepted (Some own) (Some otid))
+        (may_have_incoming side items (gone ++ goes ∷ []) Accepted (Some own) (Some otid))
+    incoming_goes_too =
         rw (
           none_more (λ n. is_id otid (otid_in n)) (is_a forms.Begin) gone goes (λ is. refl),
-          both_more (λ n. is_id otid (otid_in n)) (goes_on_to own) gone goes (itself otid) (itself own),
+          both_more (λ n. is_id otid (otid_in n)) (is_continue_to own) gone goes (itself otid) (itself own),
         )
         (too_among goes (filter (is_a forms.Begin) (from otid gone)) (continues_to otid gone (Some own)) _
         (too_behind goes (continues_to otid gone (Some own))))
@@ -108,16 +108,16 @@ module _ (side : Side) (items : List Item) (gone : List Message) where
     before = continues_to otid gone (Some own)
 
     pub more_before : continues_to otid (gone ++ goes ∷ []) (Some own) ≡ before ++ goes ∷ []
-    more_before = both_more (λ n. is_id otid (otid_in n)) (goes_on_to own) gone goes (itself otid) (itself own)
+    more_before = both_more (λ n. is_id otid (otid_in n)) (is_continue_to own) gone goes (itself otid) (itself own)
 
     -- A Continue that is taken may have been heard by a begun half, if its dialogue request was answered.
-    pub heard_back_too : (begin : Message) → begin_from side own items ≡ Some begin
+    pub incoming_back_too : (begin : Message) → begin_from side own items ≡ Some begin
         → (is_begin_with_request begin ≡ true → list_any responds (before ++ goes ∷ []) ≡ true)
-        → HaveThatToo goes (may_have_heard side items gone Begun (Some own) (Some otid))
-        (may_have_heard side items (gone ++ goes ∷ []) Begun (Some own) (Some otid))
-    heard_back_too begin found answered =
+        → HaveThatToo goes (may_have_incoming side items gone Begun (Some own) (Some otid))
+        (may_have_incoming side items (gone ++ goes ∷ []) Begun (Some own) (Some otid))
+    incoming_back_too begin found answered =
         rw found
-        (subst (λ (ms : List Message). HaveThatToo goes (heard_behind (Some begin) before) (heard_behind (Some begin) ms))
+        (subst (λ (ms : List Message). HaveThatToo goes (incoming_behind (Some begin) before) (incoming_behind (Some begin) ms))
         (sym more_before) (by (is_begin_with_request begin) answered))
       where
         by : (b : Bool) → (b ≡ true → list_any responds (before ++ goes ∷ []) ≡ true)

@@ -11,7 +11,7 @@ use Rattle.tcap_end.specs.Table.{Table}
 use Rattle.tcap_end.specs.Half.{Invocation}
 use Rattle.tcap_end.specs.Component.{class_reports, is_code, may_answer}
 use Rattle.tcap_refute.specs.EarlierMessages.{invokes, is_invoke_id}
-use Rattle.tcap_faults.specs.Counts.{any_problem, count, invokes_so, is_error, is_last_result, is_result_of, rejects_invoke, takes}
+use Rattle.tcap_faults.specs.Counts.{any_problem, count, invokes_where, is_error, is_last_result, is_result_of, rejects_invoke, takes}
 use Rattle.tcap_faults.proofs.list_laws.CountLaws.{count_apart, count_covered}
 use Rattle.tcap_faults.proofs.story_laws.ReceivedComponentLaws.{item_of}
 use Rattle.tcap_faults.proofs.story_laws.InvokeListLaws.{TakesWhat, gain}
@@ -25,7 +25,7 @@ use Rattle.tcap_faults.proofs.component_laws.CodeListLaws.{code_same}
 
 -- An invocation whose operation passes was brought by an Invoke of such an operation.
 pub code_brought : (table : Table) (x : ℤ) (test : Code → Bool)
-    → IsBrought table x (λ item. test item.code) (invokes_so x test)
+    → IsBrought table x (λ item. test item.code) (invokes_where x test)
 code_brought table x test h (Invoke id linked code parameter) = λ h1. grind (arith, h1)
 code_brought table x test h c = λ is. cc
 

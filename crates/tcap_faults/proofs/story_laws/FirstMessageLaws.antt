@@ -16,7 +16,7 @@ use Rattle.tcap_end.specs.Class.{reports_neither}
 use Rattle.tcap_end.specs.Table.{Table, class_of}
 use Rattle.tcap_end.specs.Half.{Half, fresh, one_fits}
 use Rattle.tcap_end.specs.Component.{links, send_component}
-use Rattle.tcap_end.specs.Dialogue.{first_standing, may_be_uni, may_begin}
+use Rattle.tcap_end.specs.Dialogue.{first_dialogue_state, may_be_uni, may_begin}
 use Rattle.tcap_end.specs.End.{End, put, with_own}
 use Rattle.tcap_end.specs.Message.{has_id, send_begin, send_components, send_uni, send_uni_components}
 use Rattle.tcap_end.specs.Step.{◌>>◌}
@@ -66,12 +66,12 @@ none_twice table g own h k c was is again = cc
 -- The components of a Begin are sent over a new half.
 begin_sends : (table : Table) (e made : End) (otid : List ℕ) (dialogue : Option Dialogue) (components : List Component)
     → send_begin table e otid dialogue components ≡ Ok made → (k : Half)
-    × (send_components table (fresh phases.Sent (Some otid) None (first_standing dialogue)) components ≡ Ok k)
+    × (send_components table (fresh phases.Sent (Some otid) None (first_dialogue_state dialogue)) components ≡ Ok k)
 begin_sends table e made otid dialogue components is =
     let free = needs_ok (is_none (with_own e otid)) faults.IdUsed _ made is in
     let may = needs_ok (may_begin dialogue) faults.WrongDialogue _ made free.1 in
     let (k, sent, done) =
-    then_ok (send_components table (fresh phases.Sent (Some otid) None (first_standing dialogue)) components)
+    then_ok (send_components table (fresh phases.Sent (Some otid) None (first_dialogue_state dialogue)) components)
     (λ half. Ok (put e Begun otid half)) made may.1 in
     (k, sent)
 
@@ -80,7 +80,7 @@ pub begin_none_again : (table : Table) (e made : End) (otid : List ℕ) (dialogu
     → has_component invokes_again [] [] components ≡ true → ⊥
 begin_none_again table e made otid dialogue components is =
     let (k, sent) = begin_sends table e made otid dialogue components is in
-    let g = fresh phases.Sent (Some otid) None (first_standing dialogue) in
+    let g = fresh phases.Sent (Some otid) None (first_dialogue_state dialogue) in
     none_has table g [] invokes_again (none_twice table g) components k sent
 
 pub begin_none_linked : (table : Table) (e made : End) (otid : List ℕ) (dialogue : Option Dialogue)
@@ -88,7 +88,7 @@ pub begin_none_linked : (table : Table) (e made : End) (otid : List ℕ) (dialog
     → list_any is_linked components ≡ true → ⊥
 begin_none_linked table e made otid dialogue components is =
     let (k, sent) = begin_sends table e made otid dialogue components is in
-    none_linked table components (fresh phases.Sent (Some otid) None (first_standing dialogue)) k refl sent
+    none_linked table components (fresh phases.Sent (Some otid) None (first_dialogue_state dialogue)) k refl sent
 
 -- ---- a Unidirectional
 

@@ -16,7 +16,7 @@ use Rattle.tcap_end.specs.Message.{send_components}
 use Rattle.tcap_refute.specs.EarlierMessages.{invokes, is_invoke_id}
 use Rattle.tcap_faults.specs.Components.{is_of_link, is_problem}
 use Rattle.tcap_faults.specs.Counts.{count, invokes_linked, rejects_invoke}
-use Rattle.tcap_faults.specs.HalfByPeerId.{HalfOf}
+use Rattle.tcap_faults.specs.HalfByPeerId.{HalfMessages}
 use Rattle.tcap_faults.proofs.story_laws.Stories.{Bounds, Happening, IsLed, got_in, sent_in}
 use Rattle.tcap_faults.proofs.story_laws.StoryLaws.{risen}
 use Rattle.tcap_faults.proofs.story_laws.AnsweredLaws.{any_brought, none_takes}
@@ -212,16 +212,16 @@ module _ (table : Table) (x : ℤ) where
           omega (arith, ap one invoked, some, all, count_more (invokes x) c (got_in past))
       by past g c led false is = omega (arith, count_more (invokes x) c (got_in past))
 
-  pub second_within : (s : HalfOf) (past : List Happening) (g h : Half) (own : List Component)
+  pub second_within : (s : HalfMessages) (past : List Happening) (g h : Half) (own : List Component)
       → Bounds s (sent_in past) (got_in past) → IsLed table past g → send_components table g own ≡ Ok h
-      → count (rejects_invoke x (is_problem 0)) s.told + count (rejects_invoke x (is_problem 0)) own
-      ≤ count (invokes x) s.heard - 1
+      → count (rejects_invoke x (is_problem 0)) s.outgoing + count (rejects_invoke x (is_problem 0)) own
+      ≤ count (invokes x) s.incoming - 1
   second_within s past g h own bounds led is =
       omega (
         arith,
         second past g led,
-        bounds.told (rejects_invoke x (is_problem 0)),
-        bounds.heard (invokes x),
+        bounds.outgoing (rejects_invoke x (is_problem 0)),
+        bounds.incoming (invokes x),
         spent_along table (inn_of table x) (rejects_invoke x (is_problem 0)) (allows_so (is_problem 0))
             (reject_takes table x (is_problem 0)) own g h (risen table past g led) is,
       )

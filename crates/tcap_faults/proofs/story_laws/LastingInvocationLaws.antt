@@ -11,8 +11,8 @@ use Rattle.tcap_end.specs.Table.{Table, expires_of}
 use Rattle.tcap_end.specs.Half.{Half}
 use Rattle.tcap_end.specs.Component.{operation_sent}
 use Rattle.tcap_refute.specs.EarlierMessages.{is_invoke_id}
-use Rattle.tcap_faults.specs.Counts.{any_problem, count, count_lasting, invokes_so, is_error, is_last_result, rejects_invoke, takes}
-use Rattle.tcap_faults.specs.HalfByPeerId.{HalfOf}
+use Rattle.tcap_faults.specs.Counts.{any_problem, count, count_lasting, invokes_where, is_error, is_last_result, rejects_invoke, takes}
+use Rattle.tcap_faults.specs.HalfByPeerId.{HalfMessages}
 use Rattle.tcap_faults.proofs.story_laws.Stories.{Bounds, Happening, IsLed, got_in, sent_in}
 use Rattle.tcap_faults.proofs.story_laws.AnsweredLaws.{count_takes_all}
 use Rattle.tcap_faults.proofs.list_laws.CountLaws.{one}
@@ -30,18 +30,18 @@ ends_takes table x (Reject (Some id) (problems.Invoke n)) code is = and_from (is
 ends_takes table x c code is = cc
 
 -- If the ID has nothing in Operation Sent, at most as many lasting Invokes were sent as heard components take.
-pub ended_any : (table : Table) (s : HalfOf) (past : List Happening) (g : Half) → Bounds s (sent_in past) (got_in past)
+pub ended_any : (table : Table) (s : HalfMessages) (past : List Happening) (g : Half) → Bounds s (sent_in past) (got_in past)
     → IsLed table past g → (x : ℤ) → operation_sent g x ≡ None
     → count_lasting table x (λ code. true) s.invoked
-    ≤ count (is_last_result x) s.heard + count (is_error x) s.heard + count (rejects_invoke x any_problem) s.heard
+    ≤ count (is_last_result x) s.incoming + count (is_error x) s.incoming + count (rejects_invoke x any_problem) s.incoming
 ended_any table s past g bounds led x none =
     omega (
       arith,
       sent_ended table lasts (takes x) x not_expires (λ c code ends is. ends_takes table x c code ends) past g led,
-      bounds.invoked (invokes_so x lasts),
-      bounds.heard (takes x),
+      bounds.invoked (invokes_where x lasts),
+      bounds.incoming (takes x),
       ap one free,
-      count_takes_all x s.heard,
+      count_takes_all x s.incoming,
     )
   where
     lasts : Code → Bool

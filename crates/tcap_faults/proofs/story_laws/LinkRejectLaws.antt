@@ -13,8 +13,8 @@ use Rattle.tcap_end.specs.Component.{allows, link_problems, link_problems_of, li
 use Rattle.tcap_end.specs.Message.{send_components}
 use Rattle.tcap_refute.specs.EarlierMessages.{is_invoke_id}
 use Rattle.tcap_faults.specs.ComponentKinds.{is_link_fine}
-use Rattle.tcap_faults.specs.Counts.{count, invokes_so}
-use Rattle.tcap_faults.specs.HalfByPeerId.{HalfOf}
+use Rattle.tcap_faults.specs.Counts.{count, invokes_where}
+use Rattle.tcap_faults.specs.HalfByPeerId.{HalfMessages}
 use Rattle.tcap_faults.specs.Components.{is_linked_to, is_problem, lists_nothing}
 use Rattle.tcap_faults.proofs.story_laws.Stories.{Bounds, Happening, IsLed, got_in, sent_in}
 use Rattle.tcap_faults.proofs.story_laws.StoryLaws.{risen}
@@ -33,9 +33,9 @@ linked_weaker : (names : Code → Code → Bool) (x : ℤ) (some more : List Com
     → ((test : Component → Bool) → list_any test some ≡ true → list_any test more ≡ true) → (c : Component)
     → is_linked_to names some x c ≡ true → is_linked_to names more x c ≡ true
 linked_weaker names x some more weaker (Invoke id (Some to) code parameter) is =
-    let (here, there) = and_parts (is_invoke_id x id) (list_any (invokes_so to (λ of. names of code)) some) is in
-    and_from (is_invoke_id x id) (list_any (invokes_so to (λ of. names of code)) more) here
-    (weaker (invokes_so to (λ of. names of code)) there)
+    let (here, there) = and_parts (is_invoke_id x id) (list_any (invokes_where to (λ of. names of code)) some) is in
+    and_from (is_invoke_id x id) (list_any (invokes_where to (λ of. names of code)) more) here
+    (weaker (invokes_where to (λ of. names of code)) there)
 linked_weaker names x some more weaker c is = cc
 
 -- The problem shows that the Invoke names an own invocation in Operation Sent, and that the operations of both pass a
@@ -78,7 +78,7 @@ module _ (table : Table) (n : ℕ) (names : Code → Code → Bool) (of_link : I
           let sent : is_sent_so (λ of. names of it.code) g id ≡ true =
           ap (sent_so (λ of. names of it.code)) there ∙ named in
           and_from (is_invoke_id x it.id) _ it.here
-          (counts_any (invokes_so id (λ of. names of it.code)) (sent_in past)
+          (counts_any (invokes_where id (λ of. names of it.code)) (sent_in past)
           (omega (arith, ap one sent, sent_invoked table (λ of. names of it.code) id past g led)))
 
   linked : (past : List Happening) (h : Half) → IsLed table past h
@@ -98,16 +98,16 @@ module _ (table : Table) (n : ℕ) (names : Code → Code → Bool) (of_link : I
       ))
 
   -- An Invoke that names such an own invocation was heard.
-  pub linked_within : (s : HalfOf) (past : List Happening) (g h : Half) (own : List Component)
+  pub linked_within : (s : HalfMessages) (past : List Happening) (g h : Half) (own : List Component)
       → Bounds s (sent_in past) (got_in past) → IsLed table past g → send_components table g own ≡ Ok h
       → 1 ≤ count (allows_so (is_problem n)) (listed x h.inn)
-      → list_any (is_linked_to names s.invoked x) s.heard ≡ true
+      → list_any (is_linked_to names s.invoked x) s.incoming ≡ true
   linked_within s past g h own bounds led is some =
-      counts_any (is_linked_to names s.invoked x) s.heard
+      counts_any (is_linked_to names s.invoked x) s.incoming
       (omega (
         arith,
         linked past g led before,
-        bounds.heard (is_linked_to names s.invoked x),
+        bounds.incoming (is_linked_to names s.invoked x),
         count_weaker (is_linked_to names (sent_in past) x) (is_linked_to names s.invoked x) (got_in past)
             (linked_weaker names x (sent_in past) s.invoked known),
       ))
@@ -168,7 +168,7 @@ shows_7 table code (Some to) found = (
         and_from (not (lists_nothing table to)) (not (links table to code)) (rw is refl) (ap not linked)
 
 -- If a problem of a link is allowed, what was heard has it.
-pub none_fine : (table : Table) (s : HalfOf) (past : List Happening) (g h : Half) (own : List Component)
+pub none_fine : (table : Table) (s : HalfMessages) (past : List Happening) (g h : Half) (own : List Component)
     → Bounds s (sent_in past) (got_in past) → IsLed table past g → send_components table g own ≡ Ok h
     → (id : ℤ) (problem : ℕ) → one_fits id (allows problem) h.inn ≡ true → is_link_fine table s id problem ≡ true → ⊥
 none_fine table s past g h own bounds led was id problem fits is = by (or_cases _ _ is)
@@ -179,15 +179,15 @@ none_fine table s past g h own bounds led was id problem fits is = by (or_cases 
     names_others : Code → Code → Bool
     names_others to code = not (lists_nothing table to) && not (links table to code)
 
-    by : ((problem == 6 && not (list_any (is_linked_to names_none s.invoked id) s.heard)) ≡ true)
-        ⊎ ((problem == 7 && not (list_any (is_linked_to names_others s.invoked id) s.heard)) ≡ true) → ⊥
+    by : ((problem == 6 && not (list_any (is_linked_to names_none s.invoked id) s.incoming)) ≡ true)
+        ⊎ ((problem == 7 && not (list_any (is_linked_to names_others s.invoked id) s.incoming)) ≡ true) → ⊥
     by (inl so) =
         let (six, none) = and_parts (problem == 6) _ so in
-        both_ways (list_any (is_linked_to names_none s.invoked id) s.heard) (not-true _ none)
+        both_ways (list_any (is_linked_to names_none s.invoked id) s.incoming) (not-true _ none)
         (linked_within table 6 names_none of_6 (shows_6 table) id s past g h own bounds led was
         (fits_so h id problem (is_problem 6) fits six))
     by (inr so) =
         let (seven, none) = and_parts (problem == 7) _ so in
-        both_ways (list_any (is_linked_to names_others s.invoked id) s.heard) (not-true _ none)
+        both_ways (list_any (is_linked_to names_others s.invoked id) s.incoming) (not-true _ none)
         (linked_within table 7 names_others of_7 (shows_7 table) id s past g h own bounds led was
         (fits_so h id problem (is_problem 7) fits seven))

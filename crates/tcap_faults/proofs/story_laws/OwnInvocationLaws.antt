@@ -15,9 +15,9 @@ use Rattle.tcap_end.specs.HiddenSteps.{may_expire}
 use Rattle.tcap_end.specs.Message.{send_components}
 use Rattle.tcap_end.proofs.AnsweringLaws.{ok_same, then_ok}
 use Rattle.tcap_refute.specs.EarlierMessages.{invokes, is_invoke_id}
-use Rattle.tcap_faults.specs.Counts.{count, invokes_so}
+use Rattle.tcap_faults.specs.Counts.{count, invokes_where}
 use Rattle.tcap_faults.proofs.story_laws.Stories.{Happening, IsLed, SameLists, got_in, sent_in}
-use Rattle.tcap_faults.proofs.story_laws.StoryLaws.{IsKept, holds}
+use Rattle.tcap_faults.proofs.story_laws.StoryLaws.{IsHalfKey, holds}
 use Rattle.tcap_faults.proofs.list_laws.CountLaws.{count_more, one, one_weaker}
 use Rattle.tcap_faults.proofs.story_laws.ReceivedComponentLaws.{ends_by, got_out, stays, without_out}
 use Rattle.tcap_faults.proofs.story_laws.InvokeListLaws.{id_same}
@@ -44,14 +44,14 @@ sent_none passes x h none = rw none refl
 -- An Invoke that is sent puts its ID in Operation Sent, if the ID was free.
 began_so : (passes : Code → Bool) (x : ℤ) (c : Component) (was now : Option OwnInvocation)
     → Began (invoked_by x c) was now
-    → one (invokes_so x passes c) + one (sent_so passes (operation_sent_by was))
+    → one (invokes_where x passes c) + one (sent_so passes (operation_sent_by was))
     ≡ one (sent_so passes (operation_sent_by now))
 began_so passes x (Invoke id linked code parameter) was now began = grind (arith, began)
 began_so passes x c was now began = rw began (omega arith)
 
 pub sent_began : (table : Table) (passes : Code → Bool) (x : ℤ) (g k : Half) (c : Component)
     → send_component table g c ≡ Ok k
-    → one (invokes_so x passes c) + one (is_sent_so passes g x) ≡ one (is_sent_so passes k x)
+    → one (invokes_where x passes c) + one (is_sent_so passes g x) ≡ one (is_sent_so passes k x)
 sent_began table passes x g k c is =
     began_so passes x c (own_invocation g x) (own_invocation k x) (sent_out table g k c x is)
 
@@ -76,14 +76,14 @@ stays_ended passes ends shown (Some code) shows = by (ends code) refl
 -- ---- an invocation in Operation Sent was sent
 
 abbrev AreInvoked : (Code → Bool) → ℤ → List Happening → Half → Type 0
-AreInvoked passes x past h = one (is_sent_so passes h x) ≤ count (invokes_so x passes) (sent_in past)
+AreInvoked passes x past h = one (is_sent_so passes h x) ≤ count (invokes_where x passes) (sent_in past)
 
-are_invoked : (table : Table) (passes : Code → Bool) (x : ℤ) → IsKept table (AreInvoked passes x)
+are_invoked : (table : Table) (passes : Code → Bool) (x : ℤ) → IsHalfKey table (AreInvoked passes x)
 are_invoked table passes x = record {
   same = λ past g h lists was. rw (sent_same passes x g h lists) was;
   start = λ h out inn grants. rw (sent_none passes x h out) (omega arith);
   sends = λ past g k c led risen is was.
-      omega (arith, was, sent_began table passes x g k c is, count_more (invokes_so x passes) c (sent_in past));
+      omega (arith, was, sent_began table passes x g k c is, count_more (invokes_where x passes) c (sent_in past));
   gets = λ past g c led risen was.
       rw (got_out table g c x risen.out)
       (let fewer = stays_fewer passes (ends_by table x c) (operation_sent g x) in omega (arith, was, fewer));
@@ -93,7 +93,7 @@ are_invoked table passes x = record {
 }
 
 pub sent_invoked : (table : Table) (passes : Code → Bool) (x : ℤ) (past : List Happening) (h : Half)
-    → IsLed table past h → one (is_sent_so passes h x) ≤ count (invokes_so x passes) (sent_in past)
+    → IsLed table past h → one (is_sent_so passes h x) ≤ count (invokes_where x passes) (sent_in past)
 sent_invoked table passes x = holds table (AreInvoked passes x) (are_invoked table passes x)
 
 -- ---- an invocation that is not in Operation Sent was ended
@@ -110,7 +110,7 @@ module _ (table : Table) (passes : Code → Bool) (shows : Component → Bool) (
     (shown : (c : Component) (code : Code) → ends_by table x c code ≡ true → passes code ≡ true → shows c ≡ true) where
   abbrev AreEnded : List Happening → Half → Type 0
   AreEnded past h =
-      count (invokes_so x passes) (sent_in past) ≤ count shows (got_in past) + one (is_sent_so passes h x)
+      count (invokes_where x passes) (sent_in past) ≤ count shows (got_in past) + one (is_sent_so passes h x)
 
   none_ends : (g : Half) (id : ℤ) → may_expire table (own_invocation g id) ≡ true → (code : Code)
       → is_invoke_id x id ≡ true → operation_sent g x ≡ Some code → passes code ≡ true → false ≡ true
@@ -118,12 +118,12 @@ module _ (table : Table) (passes : Code → Bool) (shows : Component → Bool) (
       let there : operation_sent_by (own_invocation g id) ≡ Some code = rw (id_same x id here) at is in
       sym (lasts code pass) ∙ expires_sent table (own_invocation g id) code there may
 
-  are_ended : IsKept table AreEnded
+  are_ended : IsHalfKey table AreEnded
   are_ended = record {
     same = λ past g h lists was. rw (sent_same passes x g h lists) was;
     start = λ h out inn grants. omega arith;
     sends = λ past g k c led risen is was.
-        omega (arith, was, sent_began table passes x g k c is, count_more (invokes_so x passes) c (sent_in past));
+        omega (arith, was, sent_began table passes x g k c is, count_more (invokes_where x passes) c (sent_in past));
     gets = λ past g c led risen was.
         rw (got_out table g c x risen.out)
         (let ended = stays_ended passes (ends_by table x c) (shows c) (operation_sent g x)
@@ -136,7 +136,7 @@ module _ (table : Table) (passes : Code → Bool) (shows : Component → Bool) (
   }
 
   pub sent_ended : (past : List Happening) (h : Half) → IsLed table past h
-      → count (invokes_so x passes) (sent_in past) ≤ count shows (got_in past) + one (is_sent_so passes h x)
+      → count (invokes_where x passes) (sent_in past) ≤ count shows (got_in past) + one (is_sent_so passes h x)
   sent_ended = holds table AreEnded are_ended
 
 -- ---- along the components of a message

@@ -14,7 +14,7 @@ use Rattle.tcap_end.specs.Half.{Answer, Half, listed}
 use Rattle.tcap_end.specs.Component.{allows_for, answer_problems, class_reports, operation_sent}
 use Rattle.tcap_refute.specs.EarlierMessages.{is_invoke_id}
 use Rattle.tcap_faults.specs.Components.{is_problem}
-use Rattle.tcap_faults.specs.Counts.{count, invokes_so, is_error, is_result, rejects_error, rejects_result}
+use Rattle.tcap_faults.specs.Counts.{count, invokes_where, is_error, is_result, rejects_error, rejects_result}
 use Rattle.tcap_faults.proofs.story_laws.Stories.{Happening, IsLed, got_in, sent_in}
 use Rattle.tcap_faults.proofs.list_laws.CountLaws.{count_more, one}
 use Rattle.tcap_faults.proofs.story_laws.ReceivedComponentLaws.{answered_by, gains_grants, grant_of, problems_of}
@@ -142,11 +142,11 @@ module _ (table : Table) (x : ℤ) (sort : Bool) (passes : ℕ → Bool) where
   pub shown : (test : Code → Bool) → ((o : Option Code)
       → list_any passes (problems_of sort (answered_by table o)) ≡ true → sent_so test o ≡ true)
       → (past : List Happening) (h : Half) → IsLed table past h
-      → 1 ≤ count (grant_so sort passes) (listed x h.grants) → 1 ≤ count (invokes_so x test) (sent_in past)
+      → 1 ≤ count (grant_so sort passes) (listed x h.grants) → 1 ≤ count (invokes_where x test) (sent_in past)
   shown test shows =
       spent_shown table (grants_of table x) (rejects_of sort x passes) (grant_so sort passes) (grant_takes sort x passes)
-      (λ past. count (invokes_so x test) (sent_in past))
-      (λ past c. omega (arith, count_more (invokes_so x test) c (sent_in past))) (λ past c. omega arith)
+      (λ past. count (invokes_where x test) (sent_in past))
+      (λ past c. omega (arith, count_more (invokes_where x test) c (sent_in past))) (λ past c. omega arith)
       (λ past id. omega arith)
       (λ past g c led gained.
       let sent : is_sent_so test g x ≡ true = shows (operation_sent g x) (granted table g x c sort passes gained).1 in

@@ -10,9 +10,9 @@ use Rattle.tcap_end.specs.Component.{receive_component, send_component}
 use Rattle.tcap_end.specs.Message.{send_components}
 use Rattle.tcap_end.proofs.AnsweringLaws.{ok_same, then_ok}
 use Rattle.tcap_faults.specs.Counts.{count}
-use Rattle.tcap_faults.specs.HalfByPeerId.{HalfOf}
+use Rattle.tcap_faults.specs.HalfByPeerId.{HalfMessages}
 use Rattle.tcap_faults.proofs.story_laws.Stories.{Bounds, Happening, IsLed, got_in, sent_in, Ends, Gets, SameLists, Sends}
-use Rattle.tcap_faults.proofs.story_laws.StoryLaws.{IsKept, IsRisen, holds, risen, risen_sends}
+use Rattle.tcap_faults.proofs.story_laws.StoryLaws.{IsHalfKey, IsRisen, holds, risen, risen_sends}
 use Rattle.tcap_faults.proofs.list_laws.CountLaws.{count_more, one, one_weaker}
 use Rattle.tcap_faults.proofs.story_laws.ReceivedComponentLaws.{gains_inn, got_inn, gains_grants, got_grants}
 use Rattle.tcap_faults.proofs.story_laws.InvokeListLaws.{TakesWhat, count_gained, count_taken, gain, Gained, Took}
@@ -99,7 +99,7 @@ module _ {A : Type 0} (table : Table) (kept : IsLedger table A) (spends : Compon
     abbrev AreSpent : List Happening → Half → Type 0
     AreSpent past h = count spends (sent_in past) + count passes (kept.of h) ≤ most past
 
-    are_spent : IsKept table AreSpent
+    are_spent : IsHalfKey table AreSpent
     are_spent = record {
       same = λ past g h lists was. rw (kept.same g h lists) was;
       start = λ h out inn grants. rw (kept.start h inn grants) (omega arith);
@@ -127,16 +127,16 @@ module _ {A : Type 0} (table : Table) (kept : IsLedger table A) (spends : Compon
         )) (λ past id. omega arith)
 
     -- This holds after some components of a message, by what is known about the half.
-    pub spent_within : (s : HalfOf) (past : List Happening) (g h : Half) (own : List Component)
+    pub spent_within : (s : HalfMessages) (past : List Happening) (g h : Half) (own : List Component)
         → Bounds s (sent_in past) (got_in past) → IsLed table past g → send_components table g own ≡ Ok h
-        → count spends s.told + count spends own + count passes (kept.of h) ≤ count brings s.heard
+        → count spends s.outgoing + count spends own + count passes (kept.of h) ≤ count brings s.incoming
     spent_within s past g h own bounds led is =
         omega (
           arith,
           spent past g led,
           spent_along own g h (risen table past g led) is,
-          bounds.told spends,
-          bounds.heard brings,
+          bounds.outgoing spends,
+          bounds.incoming brings,
         )
 
   -- If an element is there, what each added element shows holds, if it remains true.
@@ -156,7 +156,7 @@ module _ {A : Type 0} (table : Table) (kept : IsLedger table A) (spends : Compon
         by true is = adds past g c led is
         by false is = omega (arith, was (omega (arith, some, got_gains g c risen, ap one is)), shown_got past c)
 
-    are_shown : IsKept table AreShown
+    are_shown : IsHalfKey table AreShown
     are_shown = record {
       same = λ past g h lists was. rw (kept.same g h lists) was;
       start = λ h out inn grants. rw (kept.start h inn grants) (λ some. absurd (omega (arith, some)));

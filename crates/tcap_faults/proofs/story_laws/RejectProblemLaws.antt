@@ -14,8 +14,8 @@ use Rattle.tcap_end.specs.Component.{allows_for, answer_problems, class_reports,
 use Rattle.tcap_end.specs.Message.{send_components}
 use Rattle.tcap_refute.specs.EarlierMessages.{invokes, is_invoke_id}
 use Rattle.tcap_faults.specs.ComponentKinds.{is_answer_reject_wrong, is_expected, is_invoke_reject_wrong}
-use Rattle.tcap_faults.specs.Counts.{any_problem, count, count_suited, invokes_linked, invokes_so, is_error, is_result, rejects_invoke}
-use Rattle.tcap_faults.specs.HalfByPeerId.{HalfOf}
+use Rattle.tcap_faults.specs.Counts.{any_problem, count, count_suited, invokes_linked, invokes_where, is_error, is_result, rejects_invoke}
+use Rattle.tcap_faults.specs.HalfByPeerId.{HalfMessages}
 use Rattle.tcap_faults.specs.Components.{is_of_link, is_problem}
 use Rattle.tcap_faults.proofs.story_laws.Stories.{Bounds, Happening, IsLed, got_in, sent_in}
 use Rattle.tcap_faults.proofs.story_laws.StoryLaws.{risen}
@@ -32,7 +32,7 @@ use Rattle.tcap_faults.proofs.story_laws.InvokeRejectLaws.{allows_so, fits_so, l
 use Rattle.tcap_faults.proofs.story_laws.ComponentStepLaws.{answer_problem, rejects_answer_step, rejects_invoke_step}
 use Rattle.tcap_faults.proofs.story_laws.ReceivedInvocationLaws.{spent_within, inn_of, grants_of, spent_along}
 
-module _ (table : Table) (s : HalfOf) (past : List Happening) (g : Half)
+module _ (table : Table) (s : HalfMessages) (past : List Happening) (g : Half)
     (bounds : Bounds s (sent_in past) (got_in past))
     (led : IsLed table past g) (own : List Component) (h k : Half) (id : ℤ) (n : ℕ)
     (was : send_components table g own ≡ Ok h) where
@@ -46,19 +46,19 @@ module _ (table : Table) (s : HalfOf) (past : List Happening) (g : Half)
     behind : send_components table g (own ++ reject ∷ []) ≡ Ok k
     behind = sent_more table own reject g h k was is
 
-    counted : (passes : Component → Bool) → count passes (s.told ++ own ++ reject ∷ [])
-        ≡ count passes s.told + count passes (own ++ reject ∷ [])
+    counted : (passes : Component → Bool) → count passes (s.outgoing ++ own ++ reject ∷ [])
+        ≡ count passes s.outgoing + count passes (own ++ reject ∷ [])
     counted passes =
         omega (
           arith,
-          count_last passes (s.told ++ own) reject,
-          count_both passes s.told own,
+          count_last passes (s.outgoing ++ own) reject,
+          count_both passes s.outgoing own,
           count_last passes own reject,
         )
 
     -- duplicateInvokeID: more Invokes of the ID were heard than such Rejects were sent.
-    none_second : (eqb n 0 && leb (count (invokes id) s.heard)
-        (count (rejects_invoke id (is_problem 0)) (s.told ++ own ++ reject ∷ []))) ≡ true → ⊥
+    none_second : (eqb n 0 && leb (count (invokes id) s.incoming)
+        (count (rejects_invoke id (is_problem 0)) (s.outgoing ++ own ++ reject ∷ []))) ≡ true → ⊥
     none_second so =
         let (zero, more) = and_parts (eqb n 0) _ so in
         let it = and_from (is_invoke_id id id) (is_problem 0 n) (id_itself id) zero in
@@ -72,8 +72,8 @@ module _ (table : Table) (s : HalfOf) (past : List Happening) (g : Half)
         ))
 
     -- A problem of a link: as many linked Invokes were heard as such Rejects were sent, or more.
-    none_linked : (is_of_link n && ltb (count (invokes_linked id) s.heard)
-        (count (rejects_invoke id is_of_link) (s.told ++ own ++ reject ∷ []))) ≡ true → ⊥
+    none_linked : (is_of_link n && ltb (count (invokes_linked id) s.incoming)
+        (count (rejects_invoke id is_of_link) (s.outgoing ++ own ++ reject ∷ []))) ≡ true → ⊥
     none_linked so =
         absurd (omega (
           arith,
@@ -90,12 +90,12 @@ module _ (table : Table) (s : HalfOf) (past : List Happening) (g : Half)
         absurd (omega (
           arith,
           fits_so h id n over_7 fits so,
-          count_never s.heard,
+          count_never s.incoming,
           spent_within table (inn_of table id) (λ c. false) (allows_so over_7) (none_takes table id (allows_so over_7)) (λ c. false)
               (over_brought table id) s past g h own bounds led was,
         ))
 
-    pub invoke_not_wrong : is_invoke_reject_wrong table s (s.told ++ own ++ reject ∷ []) id n ≡ true → ⊥
+    pub invoke_not_wrong : is_invoke_reject_wrong table s (s.outgoing ++ own ++ reject ∷ []) id n ≡ true → ⊥
     invoke_not_wrong =
         none_of_four _ _ _ _ none_second none_linked
         (none_fine table s past g h own bounds led was id n (rejects_invoke_step h k id n is).0) none_over
@@ -126,21 +126,21 @@ module _ (table : Table) (s : HalfOf) (past : List Happening) (g : Half)
         )
 
     -- At most as many answers are rejected as were heard.
-    none_more : ltb (count (answers_of sort id) s.heard)
-        (count (rejects_of sort id any_problem) (s.told ++ own ++ answer_reject ∷ [])) ≡ true → ⊥
+    none_more : ltb (count (answers_of sort id) s.incoming)
+        (count (rejects_of sort id any_problem) (s.outgoing ++ own ++ answer_reject ∷ [])) ≡ true → ⊥
     none_more so =
         absurd (omega (
           arith,
           ltb-true _ _ so,
-          count_last (rejects_of sort id any_problem) (s.told ++ own) answer_reject,
-          count_both (rejects_of sort id any_problem) s.told own,
+          count_last (rejects_of sort id any_problem) (s.outgoing ++ own) answer_reject,
+          count_both (rejects_of sort id any_problem) s.outgoing own,
           count_last (rejects_of sort id any_problem) own answer_reject,
-          bounds.told (rejects_of sort id any_problem),
+          bounds.outgoing (rejects_of sort id any_problem),
           spent_along table (grants_of table id) (rejects_of sort id any_problem) (grant_so sort any_problem)
               (grant_takes sort id any_problem) (own ++ answer_reject ∷ []) g k
               (risen table past g led) (sent_more table own answer_reject g h k was is),
           rejected table id sort any_problem past g led,
-          bounds.heard (answers_of sort id),
+          bounds.incoming (answers_of sort id),
         ))
 
     -- The problem is an answer's.
@@ -169,11 +169,11 @@ module _ (table : Table) (s : HalfOf) (past : List Happening) (g : Half)
             by : (b : Bool) → list_any (λ m. ltb (cond b 2 4) m) (answer_problems b) ≡ true → ⊥
             by b found = grind (arith, nat_tests, found)
 
-        never : (cs : List Component) → count (invokes_so id (λ code. false)) cs ≡ 0
+        never : (cs : List Component) → count (invokes_where id (λ code. false)) cs ≡ 0
         never cs =
-            omega (arith, count_never cs, count_weaker (invokes_so id (λ code. false)) (λ c. false) cs none)
+            omega (arith, count_never cs, count_weaker (invokes_where id (λ code. false)) (λ c. false) cs none)
           where
-            none : (c : Component) → invokes_so id (λ code. false) c ≡ true → false ≡ true
+            none : (c : Component) → invokes_where id (λ code. false) c ≡ true → false ≡ true
             none (Invoke other linked code parameter) is = (and_parts (is_invoke_id id other) false is).1
             none c is = is
 
@@ -182,7 +182,7 @@ module _ (table : Table) (s : HalfOf) (past : List Happening) (g : Half)
     none_unexpected so =
         let (is_1, expected) = and_parts (eqb n 1) _ so in
         let (two, known) = and_parts (eqb (count_suited table sort id s.invoked) (count (invokes id) s.invoked)
-        && nat_lt (count (is_result id) s.heard + count (is_error id) s.heard) 2) _ expected in
+        && nat_lt (count (is_result id) s.incoming + count (is_error id) s.incoming) 2) _ expected in
         let (same, few) = and_parts (eqb (count_suited table sort id s.invoked) (count (invokes id) s.invoked)) _ two in
         absurd (omega (
           arith,
@@ -192,7 +192,7 @@ module _ (table : Table) (s : HalfOf) (past : List Happening) (g : Half)
           shown table id sort (is_problem 1) (λ code. not (class_reports table sort code))
               (shows_other table sort) past g led
               (there (is_problem 1) is_1),
-          bounds.all (invokes_so id (λ code. not (class_reports table sort code))),
+          bounds.all (invokes_where id (λ code. not (class_reports table sort code))),
         ))
 
     -- With problem 2 or more, the class of an own invocation allows such an answer.
@@ -203,13 +203,13 @@ module _ (table : Table) (s : HalfOf) (past : List Happening) (g : Half)
           arith,
           eqb-true _ _ none,
           count_reports table sort id s.invoked,
-          bounds.all (invokes_so id (class_reports table sort)),
+          bounds.all (invokes_where id (class_reports table sort)),
           shown table id sort (nat_le 2) (class_reports table sort)
               (λ o found. (shows_reported table sort (nat_le 2) o refl refl found).0) past g led
               (there (nat_le 2) high),
         ))
 
     pub answer_not_wrong : is_answer_reject_wrong table s sort id n
-        (count (rejects_of sort id any_problem) (s.told ++ own ++ answer_reject ∷ []))
-        (count (answers_of sort id) s.heard) ≡ true → ⊥
+        (count (rejects_of sort id any_problem) (s.outgoing ++ own ++ answer_reject ∷ []))
+        (count (answers_of sort id) s.incoming) ≡ true → ⊥
     answer_not_wrong = none_of_four _ _ _ _ none_more none_higher none_unexpected none_suited

@@ -15,8 +15,8 @@ use Rattle.tcap_end.specs.HiddenSteps.{may_expire, without_invocation}
 use Rattle.tcap_model.specs.World.{Item}
 use Rattle.tcap_refute.specs.EarlierMessages.{is_a}
 use Rattle.tcap_faults.specs.Counts.{count}
-use Rattle.tcap_faults.specs.HalfByPeerId.{HalfOf, heard_of}
-use Rattle.tcap_faults.specs.SentToId.{begin_from, goes_on_to, told}
+use Rattle.tcap_faults.specs.HalfByPeerId.{HalfMessages, incoming_continues}
+use Rattle.tcap_faults.specs.SentToId.{begin_from, is_continue_to, outgoing}
 
 -- ---- a half's own story
 
@@ -61,9 +61,9 @@ abbrev pub AreWithin : List Component → List Component → Type 0
 AreWithin xs ys = (passes : Component → Bool) → count passes xs ≤ count passes ys
 
 -- What the list has of a half bounds what was sent and received over it.
-pub record Bounds (s : HalfOf) (sent got : List Component) : Type 0 where
-  pub heard : AreWithin got s.heard
-  pub told : AreWithin s.told sent
+pub record Bounds (s : HalfMessages) (sent got : List Component) : Type 0 where
+  pub incoming : AreWithin got s.incoming
+  pub outgoing : AreWithin s.outgoing sent
   pub invoked : AreWithin s.invoked sent
   pub all : AreWithin sent s.invoked
 
@@ -76,23 +76,23 @@ from id messages = filter (λ m. is_id id (otid_in m)) messages
 -- The Continues from the peer's ID to the own ID.
 abbrev pub continues_to : List ℕ → List Message → Option (List ℕ) → List Message
 continues_to id gone None = []
-continues_to id gone (Some own) = filter (goes_on_to own) (from id gone)
+continues_to id gone (Some own) = filter (is_continue_to own) (from id gone)
 
 -- What a half with this Begin, if it is known, heard of these Continues.
-abbrev pub heard_behind : Option Message → List Message → List Message
-heard_behind None continues = []
-heard_behind (Some begin) continues = heard_of (Some begin) continues
+abbrev pub incoming_behind : Option Message → List Message → List Message
+incoming_behind None continues = []
+incoming_behind (Some begin) continues = incoming_continues (Some begin) continues
 
 -- What a half may have heard of these messages of its peer: the Begin that an accepted half received, and the
 -- Continues from its peer's ID to its own.
-abbrev pub may_have_heard : Side → List Item → List Message → Slot → Option (List ℕ) → Option (List ℕ) → List Message
-may_have_heard side items gone slot own None = []
-may_have_heard side items gone Accepted own (Some id) =
+abbrev pub may_have_incoming : Side → List Item → List Message → Slot → Option (List ℕ) → Option (List ℕ) → List Message
+may_have_incoming side items gone slot own None = []
+may_have_incoming side items gone Accepted own (Some id) =
     filter (is_a forms.Begin) (from id gone) ++ continues_to id gone own
-may_have_heard side items gone Begun None (Some id) = []
-may_have_heard side items gone Begun (Some own) (Some id) =
-    heard_behind (begin_from side own items) (continues_to id gone (Some own))
+may_have_incoming side items gone Begun None (Some id) = []
+may_have_incoming side items gone Begun (Some own) (Some id) =
+    incoming_behind (begin_from side own items) (continues_to id gone (Some own))
 
-abbrev pub told_to : Side → List Item → Option (List ℕ) → List Message
-told_to side items None = []
-told_to side items (Some id) = told side id items
+abbrev pub outgoing_to : Side → List Item → Option (List ℕ) → List Message
+outgoing_to side items None = []
+outgoing_to side items (Some id) = outgoing side id items

@@ -57,7 +57,7 @@ risen table (Ends id ∷ past) h (g, led, may, same) =
 -- ---- what each happening keeps
 
 -- `P` depends on the invocations and answers alone. It holds for a half without any, and each happening keeps it.
-pub record IsKept (table : Table) (P : List Happening → Half → Type 0) : Type 0 where
+pub record IsHalfKey (table : Table) (P : List Happening → Half → Type 0) : Type 0 where
   pub same : (past : List Happening) (g h : Half) → SameLists g h → P past g → P past h
   pub start : (h : Half) → h.out ≡ [] → h.inn ≡ [] → h.grants ≡ [] → P [] h
   pub sends : (past : List Happening) (g k : Half) (c : Component) → IsLed table past g → IsRisen g
@@ -67,7 +67,7 @@ pub record IsKept (table : Table) (P : List Happening → Half → Type 0) : Typ
   pub ends : (past : List Happening) (g : Half) (id : ℤ) → IsLed table past g → IsRisen g
       → may_expire table (own_invocation g id) ≡ true → P past g → P (Ends id ∷ past) (without_invocation id g)
 
-pub holds : (table : Table) (P : List Happening → Half → Type 0) → IsKept table P → (past : List Happening) (h : Half)
+pub holds : (table : Table) (P : List Happening → Half → Type 0) → IsHalfKey table P → (past : List Happening) (h : Half)
     → IsLed table past h → P past h
 holds table P kept [] h (out, inn, grants) = kept.start h out inn grants
 holds table P kept (Sends c ∷ past) h (g, k, led, is, same) =

@@ -13,7 +13,7 @@ use Rattle.tcap_msg.specs.Parts.{dtid_in}
 use Rattle.tcap_record.specs.declared.entry.End.{End as Side}
 use Rattle.tcap_record.specs.Ends.{other}
 use Rattle.tcap_model.specs.World.{Item}
-use Rattle.tcap_refute.specs.EarlierMessages.{asked, has_a, is_a}
+use Rattle.tcap_refute.specs.EarlierMessages.{peer_sent_from, has_a, is_a}
 use Rattle.tcap_refute.proofs.Members.{has_first, has_later, has_not}
 use Rattle.tcap_faults.specs.declared.verdict.unblamed_reason.Tangle.{Tangle}
 use Rattle.tcap_faults.specs.declared.verdict.unblamed_reason.Tangle.TheVariants.{TwoIds, BegunTwice, BothBegan, Guessed}
@@ -154,9 +154,9 @@ first_over side items own id t is = by
 -- ---- the IDs that a message goes over
 
 -- There is a first tangled ID near an ID of the peer, or beyond, exactly if one is tangled.
-pub id_told : (side : Side) (items : List Item) (own : List (List ℕ)) (id : List ℕ)
+pub id_outgoing : (side : Side) (items : List Item) (own : List (List ℕ)) (id : List ℕ)
     → is_some (tangled_id side items own id) ≡ are_tangled side items own id
-id_told side items own id =
+id_outgoing side items own id =
     either_some (tangled_for (other side) id (tangle_of_peer side items id)) _
     ∙ ap₂ (λ a b. a || b) (for_has (other side) id (tangle_of_peer side items id) ∙ peer_has side items id)
     (either_some (first_tangled side (tangle_of_own side items) (near side items own id)) _
@@ -170,13 +170,13 @@ id_told side items own id =
     turned a b c = grind arith
 
 -- There is a first tangled ID of a message exactly if it goes over tangled IDs.
-pub tangled_told : (side : Side) (items : List Item) (m : Message)
+pub tangled_outgoing : (side : Side) (items : List Item) (m : Message)
     → is_some (tangled_in side items m) ≡ goes_over_tangled side items m
-tangled_told side items m = by (dtid_in m) refl
+tangled_outgoing side items m = by (dtid_in m) refl
   where
     by : (o : Option (List ℕ)) → dtid_in m ≡ o → is_some (tangled_in side items m) ≡ goes_over_tangled side items m
     by None none = rw none refl
-    by (Some id) to = rw to (id_told side items (own_of_continue m) id)
+    by (Some id) to = rw to (id_outgoing side items (own_of_continue m) id)
 
 -- The message goes over the first tangled ID.
 pub tangled_over : (side : Side) (items : List Item) (m : Message) (t : TangledId) → tangled_in side items m ≡ Some t
@@ -235,7 +235,7 @@ module _ (side : Side) (items : List Item) (id : List ℕ) where
       pub tangled_itself : (own : List ℕ) → Contains (owns_of side items id) own → None ≡ tangled_id side items (own ∷ []) id
       tangled_itself own has =
           sym (none_from (tangled_id side items (own ∷ []) id)
-          (id_told side items (own ∷ []) id ∙ sym (plain_itself side items id (plain (sym none)) none_own own has)))
+          (id_outgoing side items (own ∷ []) id ∙ sym (plain_itself side items id (plain (sym none)) none_own own has)))
 
       near_besides : (own : List ℕ) → first_tangled side (tangle_of_own side items) (owns_of side items id ++ own ∷ [])
           ≡ option_or (tangled_for side own (tangle_of_own side items own)) None

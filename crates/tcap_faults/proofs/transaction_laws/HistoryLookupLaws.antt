@@ -15,18 +15,18 @@ use Rattle.tcap_end.specs.End.{is_id}
 use Rattle.tcap_end.specs.Table.{Table, octets_cmp}
 use Rattle.tcap_model.specs.World.{Item}
 use Rattle.tcap_model.specs.SinceMark.{ended_by}
-use Rattle.tcap_refute.specs.EarlierMessages.{asked, ends_to, has_a, is_a, sent_by}
-use Rattle.tcap_refute.specs.Facts.{FromFact, From, shows_from, told_since}
-use Rattle.tcap_refute.specs.KeptFacts.{tells_from}
+use Rattle.tcap_refute.specs.EarlierMessages.{peer_sent_from, ends_to, has_a, is_a, sent_by}
+use Rattle.tcap_refute.specs.Facts.{FromFact, From, shows_from, fact_in_items}
+use Rattle.tcap_refute.specs.KeptFacts.{from_fact_noted}
 use Rattle.tcap_refute.proofs.TestLaws.{and_false, and_true}
 use Rattle.tcap_faults.specs.Counts.{is_nothing}
-use Rattle.tcap_faults.specs.SentToId.{began, begin_from, goes_on_to, has_ended, has_used, told}
+use Rattle.tcap_faults.specs.SentToId.{began, begin_from, is_continue_to, has_ended, has_used, outgoing}
 use Rattle.tcap_faults.specs.declared.transaction.history.SideFacts.{SideFacts}
-use Rattle.tcap_faults.specs.declared.transaction.sent_from_id.Came.{Came}
+use Rattle.tcap_faults.specs.declared.transaction.sent_from_id.ContinueTallies.{ContinueTallies}
 use Rattle.tcap_faults.specs.declared.transaction.sent_from_id.FirstBegin.{FirstBegin}
 use Rattle.tcap_faults.specs.declared.transaction.sent_from_id.SentFrom.{SentFrom}
 use Rattle.tcap_faults.specs.declared.transaction.sent_to_id.SentTo.{SentTo}
-use Rattle.tcap_faults.specs.History.{IsCameAt, IsFirstBegin, IsFrom, IsFromAt, IsFromWhole, IsSide, IsTo, ends, of_user, sent_from, sent_to, silences}
+use Rattle.tcap_faults.specs.History.{IsContinueTalliesAt, IsFirstBegin, IsFrom, IsFromAt, IsFromWhole, IsSide, IsTo, ends, of_user, sent_from, sent_to, is_end_or_abort}
 use Rattle.tcap_faults.proofs.list_laws.TwoTests.{any_agree, any_both, any_found, any_kept, any_turned, filter_both, found_both}
 
 -- The peer's peer is the end.
@@ -60,12 +60,12 @@ module _ {table : Table} {side : Side} {items : List Item} {facts : SideFacts} (
 module _ (table : Table) (side : Side) (items : List Item) (id : List ℕ) where
   -- What F2 to F7 need of it.
   pub first_there : (kept : SentFrom) → IsFromWhole table (sent_from side items id) kept → (fact : FromFact)
-      → tells_from fact kept.first ≡ told_since table side items (From id fact)
+      → from_fact_noted fact kept.first ≡ fact_in_items table side items (From id fact)
   first_there kept is fact =
       is.first fact ∙ any_both (λ m. is_id id (otid_in m)) (shows_from table fact) (sent_by side items)
 
   pub first_nowhere : sent_from side items id ≡ [] → (fact : FromFact)
-      → false ≡ told_since table side items (From id fact)
+      → false ≡ fact_in_items table side items (From id fact)
   first_nowhere none fact =
       ap (list_any (shows_from table fact)) (sym none)
       ∙ any_both (λ m. is_id id (otid_in m)) (shows_from table fact) (sent_by side items)
@@ -96,9 +96,9 @@ begin_is side items id = found_both (λ m. is_id id (otid_in m)) (is_a forms.Beg
 
 -- The peer began an ID exactly if it sent a Begin from it.
 pub began_asked : (side : Side) (items : List Item) (id : List ℕ)
-    → began (other side) id items ≡ has_a forms.Begin (asked side id items)
+    → began (other side) id items ≡ has_a forms.Begin (peer_sent_from side id items)
 began_asked side items id =
-    ap is_some (sym (begin_is (other side) items id)) ∙ sym (any_found (is_a forms.Begin) (asked side id items))
+    ap is_some (sym (begin_is (other side) items id)) ∙ sym (any_found (is_a forms.Begin) (peer_sent_from side id items))
 
 module _ (table : Table) (side : Side) (items : List Item) (id : List ℕ) where
   pub began_there : (kept : SentFrom) → IsFrom table (sent_from side items id) kept
@@ -110,24 +110,24 @@ module _ (table : Table) (side : Side) (items : List Item) (id : List ℕ) where
       ap (λ ms. is_some (find (is_a forms.Begin) ms)) (sym none) ∙ ap is_some (begin_is side items id)
 
 -- A Continue to an ID is kept exactly if one was sent.
-came_where : (table : Table) (p : Message → Bool) (ms : List Message) (o : Option Came)
-    → IsCameAt table (filter p ms) o → is_some o ≡ list_any p ms
+came_where : (table : Table) (p : Message → Bool) (ms : List Message) (o : Option ContinueTallies)
+    → IsContinueTalliesAt table (filter p ms) o → is_some o ≡ list_any p ms
 came_where table p ms None is = sym (any_kept p ms ∙ ap (λ kept. not (is_nothing kept)) is)
 came_where table p ms (Some kept) is = sym (any_kept p ms ∙ ap not is.0)
 
 pub goes_there : (table : Table) (ms : List Message) (kept : SentFrom) → IsFrom table ms kept → (id : List ℕ)
-    → is_some (lookup (is_at (octets_cmp id)) kept.came.entries) ≡ list_any (goes_on_to id) ms
-goes_there table ms kept is id = came_where table (goes_on_to id) ms _ (is.came id)
+    → is_some (lookup (is_at (octets_cmp id)) kept.came.entries) ≡ list_any (is_continue_to id) ms
+goes_there table ms kept is id = came_where table (is_continue_to id) ms _ (is.came id)
 
 -- ---- what was sent to an ID
 
 -- What was sent to an ID, without the Aborts of the provider.
-pub told_is : (side : Side) (items : List Item) (id : List ℕ) → of_user (sent_to side items id) ≡ told side id items
-told_is side items id = filter_both (λ m. is_id id (dtid_in m)) (λ m. is_none (cause_in m)) (sent_by side items)
+pub outgoing_is : (side : Side) (items : List Item) (id : List ℕ) → of_user (sent_to side items id) ≡ outgoing side id items
+outgoing_is side items id = filter_both (λ m. is_id id (dtid_in m)) (λ m. is_none (cause_in m)) (sent_by side items)
 
 pub silenced_is : (side : Side) (items : List Item) (id : List ℕ)
-    → list_any silences (sent_to side items id) ≡ list_any (ends_to id) (sent_by side items)
-silenced_is side items id = any_turned (λ m. is_id id (dtid_in m)) silences (sent_by side items)
+    → list_any is_end_or_abort (sent_to side items id) ≡ list_any (ends_to id) (sent_by side items)
+silenced_is side items id = any_turned (λ m. is_id id (dtid_in m)) is_end_or_abort (sent_by side items)
 
 -- A message that ends an ID goes to it.
 ends_it : (id : List ℕ) (m : Message) → (is_id id (dtid_in m) && ends m) ≡ is_id id (ended_by m)
@@ -143,19 +143,19 @@ ended_is side items id =
 
 module _ (table : Table) (side : Side) (items : List Item) (id : List ℕ) where
   pub spoken_there : (kept : SentTo) → IsTo table (sent_to side items id) kept
-      → kept.spoke ≡ not (is_nothing (told side id items))
-  spoken_there kept is = is.spoke ∙ ap (λ ms. not (is_nothing ms)) (told_is side items id)
+      → kept.spoke ≡ not (is_nothing (outgoing side id items))
+  spoken_there kept is = is.spoke ∙ ap (λ ms. not (is_nothing ms)) (outgoing_is side items id)
 
-  pub spoken_nowhere : sent_to side items id ≡ [] → false ≡ not (is_nothing (told side id items))
+  pub spoken_nowhere : sent_to side items id ≡ [] → false ≡ not (is_nothing (outgoing side id items))
   spoken_nowhere none =
-      ap (λ ms. not (is_nothing (of_user ms))) (sym none) ∙ ap (λ ms. not (is_nothing ms)) (told_is side items id)
+      ap (λ ms. not (is_nothing (of_user ms))) (sym none) ∙ ap (λ ms. not (is_nothing ms)) (outgoing_is side items id)
 
   pub silenced_there : (kept : SentTo) → IsTo table (sent_to side items id) kept
       → kept.silenced ≡ list_any (ends_to id) (sent_by side items)
   silenced_there kept is = is.silenced ∙ silenced_is side items id
 
   pub silenced_nowhere : sent_to side items id ≡ [] → false ≡ list_any (ends_to id) (sent_by side items)
-  silenced_nowhere none = ap (list_any silences) (sym none) ∙ silenced_is side items id
+  silenced_nowhere none = ap (list_any is_end_or_abort) (sym none) ∙ silenced_is side items id
 
   pub ended_there : (kept : SentTo) → IsTo table (sent_to side items id) kept → kept.ended ≡ has_ended side items id
   ended_there kept is = is.ended ∙ ended_is side items id

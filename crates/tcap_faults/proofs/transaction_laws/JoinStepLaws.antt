@@ -17,7 +17,7 @@ use Rattle.tcap_record.specs.Ends.{other}
 use Rattle.tcap_end.specs.Table.{Table, octets_cmp}
 use Rattle.tcap_model.specs.World.{Item}
 use Rattle.tcap_refute.specs.EarlierMessages.{sent_by}
-use Rattle.tcap_faults.specs.SentToId.{goes_on_from, goes_on_to, has_ended, has_used}
+use Rattle.tcap_faults.specs.SentToId.{is_continue_from, is_continue_to, has_ended, has_used}
 use Rattle.tcap_faults.specs.declared.transaction.id_list.Ids.{Ids}
 use Rattle.tcap_faults.specs.declared.transaction.history.SideFacts.{SideFacts}
 use Rattle.tcap_faults.specs.declared.transaction.sent_to_id.SentTo.{SentTo}
@@ -103,7 +103,7 @@ module _ (side : Side) (items : List Item) (id : List ℕ) where
   end_more ended_not old mid new one two = λ own.
       two own
       ∙ ap (λ b. b || list_any (bytes_eq own) (filter (has_used (other (other side)) items) (dtids_of (sent_from (other side) items id)))) (one own)
-      ∙ rw (ended_not, other_twice side, otids_are side items id, dtids_are (other side) items id, list_any-append (bytes_eq own) (filter_map otid_in (filter (goes_on_to id) (sent_by side items))) (filter (has_used side items) (filter_map dtid_in (filter (goes_on_from id) (sent_by (other side) items)))))
+      ∙ rw (ended_not, other_twice side, otids_are side items id, dtids_are (other side) items id, list_any-append (bytes_eq own) (filter_map otid_in (filter (is_continue_to id) (sent_by side items))) (filter (has_used side items) (filter_map dtid_in (filter (is_continue_from id) (sent_by (other side) items)))))
       (by (set.contains octets_cmp old own) _ _)
     where
       by : (a b c : Bool) → ((a || b) || c) ≡ (a || (b || c))

@@ -16,11 +16,11 @@ use Rattle.tcap_record.specs.declared.entry.End.{End as Side}
 use Rattle.tcap_record.specs.Ends.{other}
 use Rattle.tcap_end.specs.End.{is_id}
 use Rattle.tcap_model.specs.World.{Item}
-use Rattle.tcap_refute.specs.EarlierMessages.{asked, has_a, is_a, sent_by}
+use Rattle.tcap_refute.specs.EarlierMessages.{peer_sent_from, has_a, is_a, sent_by}
 use Rattle.tcap_refute.proofs.TestLaws.{and_false, or_none}
 use Rattle.tcap_refute.proofs.Members.{filter_has, filter_map_has}
 use Rattle.tcap_faults.specs.Counts.{count}
-use Rattle.tcap_faults.specs.SentToId.{began, goes_on_from, goes_on_to, has_used}
+use Rattle.tcap_faults.specs.SentToId.{began, is_continue_from, is_continue_to, has_used}
 use Rattle.tcap_faults.specs.declared.transaction.id_list.Ids.{Ids}
 use Rattle.tcap_faults.specs.IdList.{AreAmong}
 use Rattle.tcap_faults.specs.History.{dtids_of, otids_of, sent_from, sent_to}
@@ -35,12 +35,12 @@ use Rattle.tcap_faults.proofs.list_laws.TwoTests.{and_turned, any_agree, any_bot
 
 -- The destination IDs of an end's Continues from an ID, and the originating IDs of those to an ID.
 pub dtids_are : (side : Side) (items : List Item) (id : List ℕ)
-    → dtids_of (sent_from side items id) ≡ filter_map dtid_in (filter (goes_on_from id) (sent_by side items))
+    → dtids_of (sent_from side items id) ≡ filter_map dtid_in (filter (is_continue_from id) (sent_by side items))
 dtids_are side items id =
     ap (filter_map dtid_in) (filter_turned (λ m. is_id id (otid_in m)) (is_a forms.Continue) (sent_by side items))
 
 pub otids_are : (side : Side) (items : List Item) (id : List ℕ)
-    → otids_of (sent_to side items id) ≡ filter_map otid_in (filter (goes_on_to id) (sent_by side items))
+    → otids_of (sent_to side items id) ≡ filter_map otid_in (filter (is_continue_to id) (sent_by side items))
 otids_are side items id =
     ap (filter_map otid_in) (filter_turned (λ m. is_id id (dtid_in m)) (is_a forms.Continue) (sent_by side items))
 
@@ -63,23 +63,23 @@ module _ (side : Side) (items : List Item) where
 
 module _ (side : Side) (items : List Item) (own id : List ℕ) where
   -- By a Continue of the end.
-  joined_sent : list_any (bytes_eq own) (filter_map otid_in (filter (goes_on_to id) (sent_by side items)))
-      ≡ list_any (goes_on_to id) (sent_from side items own)
+  joined_sent : list_any (bytes_eq own) (filter_map otid_in (filter (is_continue_to id) (sent_by side items)))
+      ≡ list_any (is_continue_to id) (sent_from side items own)
   joined_sent =
-      any_id otid_in own (filter (goes_on_to id) (sent_by side items))
-      ∙ any_both (goes_on_to id) (λ m. is_id own (otid_in m)) (sent_by side items)
-      ∙ any_agree _ _ (sent_by side items) (λ m. and_turned (goes_on_to id m) (is_id own (otid_in m)))
-      ∙ sym (any_both (λ m. is_id own (otid_in m)) (goes_on_to id) (sent_by side items))
+      any_id otid_in own (filter (is_continue_to id) (sent_by side items))
+      ∙ any_both (is_continue_to id) (λ m. is_id own (otid_in m)) (sent_by side items)
+      ∙ any_agree _ _ (sent_by side items) (λ m. and_turned (is_continue_to id m) (is_id own (otid_in m)))
+      ∙ sym (any_both (λ m. is_id own (otid_in m)) (is_continue_to id) (sent_by side items))
 
   -- By a Continue of the peer.
-  joined_heard : list_any (bytes_eq own) (filter_map dtid_in (filter (goes_on_from id) (sent_by (other side) items)))
-      ≡ list_any (goes_on_to own) (sent_from (other side) items id)
-  joined_heard =
-      any_id dtid_in own (filter (goes_on_from id) (sent_by (other side) items))
-      ∙ any_both (goes_on_from id) (λ m. is_id own (dtid_in m)) (sent_by (other side) items)
+  joined_incoming : list_any (bytes_eq own) (filter_map dtid_in (filter (is_continue_from id) (sent_by (other side) items)))
+      ≡ list_any (is_continue_to own) (sent_from (other side) items id)
+  joined_incoming =
+      any_id dtid_in own (filter (is_continue_from id) (sent_by (other side) items))
+      ∙ any_both (is_continue_from id) (λ m. is_id own (dtid_in m)) (sent_by (other side) items)
       ∙ any_agree _ _ (sent_by (other side) items)
       (λ m. parts (is_a forms.Continue m) (is_id id (otid_in m)) (is_id own (dtid_in m)))
-      ∙ sym (any_both (λ m. is_id id (otid_in m)) (goes_on_to own) (sent_by (other side) items))
+      ∙ sym (any_both (λ m. is_id id (otid_in m)) (is_continue_to own) (sent_by (other side) items))
     where
       parts : (c i d : Bool) → ((c && i) && d) ≡ (i && (c && d))
       parts c i d = grind arith
@@ -98,13 +98,13 @@ module _ (side : Side) (items : List Item) (own id : List ℕ) where
       so one false apart = and_false (has_used side items one)
 
   pub joined_is : has_used side items own ≡ true
-      → (list_any (goes_on_to id) (sent_from side items own)
-      || list_any (goes_on_to own) (sent_from (other side) items id))
+      → (list_any (is_continue_to id) (sent_from side items own)
+      || list_any (is_continue_to own) (sent_from (other side) items id))
       ≡ list_any (bytes_eq own) (owns_of side items id)
   joined_is used =
       sym (
-      list_any-append (bytes_eq own) (filter_map otid_in (filter (goes_on_to id) (sent_by side items))) _
-      ∙ ap₂ (λ a b. a || b) joined_sent (among_used used _ ∙ joined_heard)
+      list_any-append (bytes_eq own) (filter_map otid_in (filter (is_continue_to id) (sent_by side items))) _
+      ∙ ap₂ (λ a b. a || b) joined_sent (among_used used _ ∙ joined_incoming)
       )
 
 -- ---- Continues from one ID to another
@@ -125,48 +125,48 @@ pub record Goes (ms : List Message) (from to : List ℕ) : Type 0 where
   pub dtid : dtid_in message ≡ Some to
 
 module _ (ms : List Message) (from to : List ℕ) where
-  pub goes_to : Contains (filter_map dtid_in (filter (goes_on_from from) ms)) to → Goes ms from to
+  pub goes_to : Contains (filter_map dtid_in (filter (is_continue_from from) ms)) to → Goes ms from to
   goes_to has =
-      let (m, kept, made) = filter_map_is dtid_in (filter (goes_on_from from) ms) to has in
-      let (there, passes) = filter_is (goes_on_from from) ms m kept in
+      let (m, kept, made) = filter_map_is dtid_in (filter (is_continue_from from) ms) to has in
+      let (there, passes) = filter_is (is_continue_from from) ms m kept in
       let (goes, it) = and_parts (is_a forms.Continue m) (is_id from (otid_in m)) passes in
       record { message = m; there = there; goes = goes; otid = it_is from (otid_in m) it; dtid = made }
 
-  pub goes_from : Contains (filter_map otid_in (filter (goes_on_to to) ms)) from → Goes ms from to
+  pub goes_from : Contains (filter_map otid_in (filter (is_continue_to to) ms)) from → Goes ms from to
   goes_from has =
-      let (m, kept, made) = filter_map_is otid_in (filter (goes_on_to to) ms) from has in
-      let (there, passes) = filter_is (goes_on_to to) ms m kept in
+      let (m, kept, made) = filter_map_is otid_in (filter (is_continue_to to) ms) from has in
+      let (there, passes) = filter_is (is_continue_to to) ms m kept in
       let (goes, it) = and_parts (is_a forms.Continue m) (is_id to (dtid_in m)) passes in
       record { message = m; there = there; goes = goes; otid = made; dtid = it_is to (dtid_in m) it }
 
-  pub to_goes : Goes ms from to → Contains (filter_map dtid_in (filter (goes_on_from from) ms)) to
+  pub to_goes : Goes ms from to → Contains (filter_map dtid_in (filter (is_continue_from from) ms)) to
   to_goes g =
-      filter_map_has dtid_in (filter (goes_on_from from) ms) g.message to
-      (filter_has (goes_on_from from) ms g.message g.there (and_from _ _ g.goes (rw g.otid (is_it from)))) g.dtid
+      filter_map_has dtid_in (filter (is_continue_from from) ms) g.message to
+      (filter_has (is_continue_from from) ms g.message g.there (and_from _ _ g.goes (rw g.otid (is_it from)))) g.dtid
 
-  pub from_goes : Goes ms from to → Contains (filter_map otid_in (filter (goes_on_to to) ms)) from
+  pub from_goes : Goes ms from to → Contains (filter_map otid_in (filter (is_continue_to to) ms)) from
   from_goes g =
-      filter_map_has otid_in (filter (goes_on_to to) ms) g.message from
-      (filter_has (goes_on_to to) ms g.message g.there (and_from _ _ g.goes (rw g.dtid (is_it to)))) g.otid
+      filter_map_has otid_in (filter (is_continue_to to) ms) g.message from
+      (filter_has (is_continue_to to) ms g.message g.there (and_from _ _ g.goes (rw g.dtid (is_it to)))) g.otid
 
 -- If an own ID is joined with an ID of the peer, that ID is joined with the own ID.
 pub joined_back : (side : Side) (items : List Item) (own id : List ℕ) → Contains (owns_of side items id) own
     → Contains (peers_of side items own) id
 joined_back side items own id has =
-    by (Contains-append_cases (filter_map otid_in (filter (goes_on_to id) (sent_by side items))) _ own has)
+    by (Contains-append_cases (filter_map otid_in (filter (is_continue_to id) (sent_by side items))) _ own has)
   where
-    by : Contains (filter_map otid_in (filter (goes_on_to id) (sent_by side items))) own
+    by : Contains (filter_map otid_in (filter (is_continue_to id) (sent_by side items))) own
         ⊎ Contains (filter (has_used side items)
-        (filter_map dtid_in (filter (goes_on_from id) (sent_by (other side) items)))) own
+        (filter_map dtid_in (filter (is_continue_from id) (sent_by (other side) items)))) own
         → Contains (peers_of side items own) id
     by (inl in_sent) =
-        Contains-append_left (filter_map dtid_in (filter (goes_on_from own) (sent_by side items))) _ id
+        Contains-append_left (filter_map dtid_in (filter (is_continue_from own) (sent_by side items))) _ id
         (to_goes (sent_by side items) own id (goes_from (sent_by side items) own id in_sent))
-    by (inr in_heard) =
-        let (among, used) = filter_is (has_used side items) _ own in_heard in
-        let back : Contains (filter_map otid_in (filter (goes_on_to own) (sent_by (other side) items))) id =
+    by (inr in_incoming) =
+        let (among, used) = filter_is (has_used side items) _ own in_incoming in
+        let back : Contains (filter_map otid_in (filter (is_continue_to own) (sent_by (other side) items))) id =
         from_goes (sent_by (other side) items) id own (goes_to (sent_by (other side) items) id own among) in
-        Contains-append_right (filter_map dtid_in (filter (goes_on_from own) (sent_by side items))) _ id
+        Contains-append_right (filter_map dtid_in (filter (is_continue_from own) (sent_by side items))) _ id
         (rw used back)
 
 -- ---- an ID of the peer that both ends began
@@ -190,9 +190,9 @@ module _ (side : Side) (items : List Item) where
       of (m ∷ ns) = of ns
 
   -- If all joined own IDs are equal, so are the destination IDs of the peer's Continues.
-  pub heard_same : (id : List ℕ) → two_differ (owns_of side items id) ≡ false
+  pub incoming_same : (id : List ℕ) → two_differ (owns_of side items id) ≡ false
       → two_differ (filter (has_used side items) (dtids_of (sent_from (other side) items id))) ≡ false
-  heard_same id none =
+  incoming_same id none =
       differ_so (filter (has_used side items) (dtids_of (sent_from (other side) items id))) (owns_of side items id)
       (λ own has. rw (← owns_are side items id)
       (Contains-append_right (otids_of (sent_to side items id)) _ own has)) none
@@ -200,14 +200,14 @@ module _ (side : Side) (items : List Item) where
   pub of_both : (id : List ℕ)
       → list_any (λ own. began side own items)
       (filter (has_used side items) (dtids_of (sent_from (other side) items id)))
-      ≡ list_any (goes_to_begun side items) (asked side id items)
+      ≡ list_any (goes_to_begun side items) (peer_sent_from side id items)
   of_both id = begun_among (sent_from (other side) items id)
 
   -- The peer's used destination IDs are those that the end used.
-  pub heard_among : (id : List ℕ) (o : Option Ids)
+  pub incoming_among : (id : List ℕ) (o : Option Ids)
       → AreAmong (filter (has_used (other (other side)) items) (dtids_of (sent_from (other side) items id))) o
       → AreAmong (filter (has_used side items) (dtids_of (sent_from (other side) items id))) o
-  heard_among id o are =
+  incoming_among id o are =
       subst (λ (s : Side). AreAmong (filter (has_used s items) (dtids_of (sent_from (other side) items id))) o)
       (other_twice side) are
 
@@ -218,11 +218,11 @@ module _ (side : Side) (items : List Item) (id : List ℕ) where
   pub plain_same : is_peer_tangled side items id ≡ false → two_differ (owns_of side items id) ≡ false
   plain_same plain =
       let (three, guessed) = or_parts (two_differ (owns_of side items id)
-      || nat_le 2 (count (is_a forms.Begin) (asked side id items))
-      || (has_a forms.Begin (asked side id items) && list_any (goes_to_begun side items) (asked side id items))) _ plain
+      || nat_le 2 (count (is_a forms.Begin) (peer_sent_from side id items))
+      || (has_a forms.Begin (peer_sent_from side id items) && list_any (goes_to_begun side items) (peer_sent_from side id items))) _ plain
       in
       let (two, apart) = or_parts (two_differ (owns_of side items id)
-      || nat_le 2 (count (is_a forms.Begin) (asked side id items))) _ three in
+      || nat_le 2 (count (is_a forms.Begin) (peer_sent_from side id items))) _ three in
       (or_parts (two_differ (owns_of side items id)) _ two).0
 
   -- So only an additional own ID, and the IDs that are joined with it, are left to check.

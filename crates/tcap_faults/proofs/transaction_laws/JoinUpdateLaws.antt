@@ -23,7 +23,7 @@ use Rattle.tcap_model.proofs.ListLaws.{contains_first}
 use Rattle.tcap_refute.specs.EarlierMessages.{is_a, sent_by}
 use Rattle.tcap_refute.proofs.Members.{any_has, filter_has, has_first, has_not}
 use Rattle.tcap_refute.proofs.TestLaws.{or_none}
-use Rattle.tcap_faults.specs.SentToId.{goes_on_from, goes_on_to, has_ended, has_used}
+use Rattle.tcap_faults.specs.SentToId.{is_continue_from, is_continue_to, has_ended, has_used}
 use Rattle.tcap_faults.specs.declared.transaction.id_list.Ids.{Ids}
 use Rattle.tcap_faults.specs.IdList.{AreAmong, AreSame}
 use Rattle.tcap_faults.specs.JoinedIds.{GetsMore, HasMore, id_if}
@@ -66,7 +66,7 @@ module _ (side : Side) (items : List Item) (m : Message) where
       → ((id : List ℕ) → e id ≡ true
       → first id ≡ (not (has_used side items id) && list_any (has_ended side items) (backs side items id)))
       → ((id : List ℕ) → e id ≡ false → first id ≡ false)
-      → ((id : List ℕ) → (goes_on_from id m && passes_of (has_ended side items) (dtid_in m)) ≡ (e id && g))
+      → ((id : List ℕ) → (is_continue_from id m && passes_of (has_ended side items) (dtid_in m)) ≡ (e id && g))
       → (old mid new : BTreeSet (List ℕ))
       → ((id : List ℕ) → set.contains octets_cmp old id ≡ list_any (has_ended side items) (peers_of side items id))
       → HasMore first old mid → HasMore (λ id. e id && g) mid new
@@ -131,7 +131,7 @@ module _ (side : Side) (items : List Item) (m : Message) where
   -- ---- IDs of the peer that are joined with an own ID that it ended
 
   -- A Continue to an ID that the peer used: the own ID counts.
-  pub peer_over_more : (e : List ℕ → Bool) (r : Bool) → ((id : List ℕ) → goes_on_to id m ≡ e id)
+  pub peer_over_more : (e : List ℕ → Bool) (r : Bool) → ((id : List ℕ) → is_continue_to id m ≡ e id)
       → ((id : List ℕ) → e id ≡ true
       → r ≡ (has_used (other side) items id && passes_of (has_ended (other side) items) (otid_in m)))
       → (old new : BTreeSet (List ℕ))

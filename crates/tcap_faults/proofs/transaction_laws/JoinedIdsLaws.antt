@@ -19,7 +19,7 @@ use Rattle.tcap_model.specs.World.{Item}
 use Rattle.tcap_refute.specs.EarlierMessages.{sent_by}
 use Rattle.tcap_refute.proofs.TestLaws.{or_none, and_true}
 use Rattle.tcap_refute.proofs.Members.{any_has, filter_has, has_not}
-use Rattle.tcap_faults.specs.SentToId.{goes_on_from, goes_on_to, has_used}
+use Rattle.tcap_faults.specs.SentToId.{is_continue_from, is_continue_to, has_used}
 use Rattle.tcap_faults.specs.declared.transaction.id_list.Ids.{Ids}
 use Rattle.tcap_faults.specs.IdList.{AreAmong, AreIds, AreSame, ids_kept}
 use Rattle.tcap_faults.specs.JoinedIds.{GetsMore, HasMore, id_if}
@@ -243,26 +243,26 @@ module _ (side : Side) (items : List Item) (own id : List ℕ) where
   -- If an ID of the peer is joined with an own ID, that own ID is joined with it.
   owns : Contains (peers_of side items own) id → Contains (owns_of side items id) own
   owns has =
-      by (Contains-append_cases (filter_map dtid_in (filter (goes_on_from own) (sent_by side items)))
-      (cond (has_used side items own) (filter_map otid_in (filter (goes_on_to own) (sent_by (other side) items))) []) id
+      by (Contains-append_cases (filter_map dtid_in (filter (is_continue_from own) (sent_by side items)))
+      (cond (has_used side items own) (filter_map otid_in (filter (is_continue_to own) (sent_by (other side) items))) []) id
       has)
     where
       back : (b : Bool) → has_used side items own ≡ b
-          → Contains (cond b (filter_map otid_in (filter (goes_on_to own) (sent_by (other side) items))) []) id
+          → Contains (cond b (filter_map otid_in (filter (is_continue_to own) (sent_by (other side) items))) []) id
           → Contains (owns_of side items id) own
       back true used in_back =
-          Contains-append_right (filter_map otid_in (filter (goes_on_to id) (sent_by side items))) _ own
+          Contains-append_right (filter_map otid_in (filter (is_continue_to id) (sent_by side items))) _ own
           (filter_has (has_used side items)
-          (filter_map dtid_in (filter (goes_on_from id) (sent_by (other side) items))) own
+          (filter_map dtid_in (filter (is_continue_from id) (sent_by (other side) items))) own
           (to_goes (sent_by (other side) items) id own (goes_from (sent_by (other side) items) id own in_back)) used)
       back false used in_none = has_not id in_none
 
-      by : Contains (filter_map dtid_in (filter (goes_on_from own) (sent_by side items))) id
+      by : Contains (filter_map dtid_in (filter (is_continue_from own) (sent_by side items))) id
           ⊎ Contains (cond (has_used side items own)
-          (filter_map otid_in (filter (goes_on_to own) (sent_by (other side) items))) []) id
+          (filter_map otid_in (filter (is_continue_to own) (sent_by (other side) items))) []) id
           → Contains (owns_of side items id) own
       by (inl front) =
-          Contains-append_left (filter_map otid_in (filter (goes_on_to id) (sent_by side items))) _ own
+          Contains-append_left (filter_map otid_in (filter (is_continue_to id) (sent_by side items))) _ own
           (from_goes (sent_by side items) own id (goes_to (sent_by side items) own id front))
       by (inr there) = back (has_used side items own) refl there
 

@@ -10,14 +10,14 @@ use Rattle.tcap_msg.specs.Parts.{dtid_in, otid_in}
 use Rattle.tcap_record.specs.declared.entry.End.{End as Side}
 use Rattle.tcap_end.specs.Table.{Table}
 use Rattle.tcap_model.specs.World.{Item}
-use Rattle.tcap_refute.specs.EarlierMessages.{asked, has_a}
+use Rattle.tcap_refute.specs.EarlierMessages.{peer_sent_from, has_a}
 use Rattle.tcap_faults.specs.Counts.{is_nothing}
-use Rattle.tcap_faults.specs.SentToId.{has_used, told}
+use Rattle.tcap_faults.specs.SentToId.{has_used, outgoing}
 use Rattle.tcap_faults.specs.TangledIds.{owns_of, tangled_id, tangled_in}
 use Rattle.tcap_faults.specs.UsedAgain.{may_be_over, uses_again}
-use Rattle.tcap_faults.specs.declared.transaction.lookup.Own.{Own}
-use Rattle.tcap_faults.specs.declared.transaction.lookup.There.{There}
-use Rattle.tcap_faults.specs.KeptForMessage.{IsOwn, IsOwnAt, IsThere, IsThereAt}
+use Rattle.tcap_faults.specs.declared.transaction.lookup.OwnId.{OwnId}
+use Rattle.tcap_faults.specs.declared.transaction.lookup.PeerId.{PeerId}
+use Rattle.tcap_faults.specs.KeptForMessage.{IsOwnId, IsOwnIdAt, IsPeerId, IsPeerIdAt}
 
 -- A reference is there exactly if its value is.
 pub some_lent : {X : Type 0} (o : Option (Bor X)) → is_some o ≡ is_some (option_copied o)
@@ -25,21 +25,21 @@ some_lent o = grind arith
 
 module _ (table : Table) (side : Side) (items : List Item) where
   -- If an own ID is found, the message has one.
-  pub own_is : (o : Option (List ℕ)) (own : Own) → IsOwnAt table side items o (Some own)
-      → (id : List ℕ) × (o ≡ Some id) × IsOwn table side items id own
+  pub own_is : (o : Option (List ℕ)) (own : OwnId) → IsOwnIdAt table side items o (Some own)
+      → (id : List ℕ) × (o ≡ Some id) × IsOwnId table side items id own
   own_is None own is = absurd is
   own_is (Some id) own is = (id, refl, is)
 
-  pub there_is : (o : Option (List ℕ)) (there : There) → IsThereAt table side items o (Some there)
-      → (id : List ℕ) × (o ≡ Some id) × IsThere table side items id there
+  pub there_is : (o : Option (List ℕ)) (there : PeerId) → IsPeerIdAt table side items o (Some there)
+      → (id : List ℕ) × (o ≡ Some id) × IsPeerId table side items id there
   there_is None there is = absurd is
   there_is (Some id) there is = (id, refl, is)
 
   -- If none is found, the message has none.
-  pub own_none : (o : Option (List ℕ)) → IsOwnAt table side items o None → o ≡ None
+  pub own_none : (o : Option (List ℕ)) → IsOwnIdAt table side items o None → o ≡ None
   own_none o is = grind (arith, is)
 
-  pub there_none : (o : Option (List ℕ)) → IsThereAt table side items o None → o ≡ None
+  pub there_none : (o : Option (List ℕ)) → IsPeerIdAt table side items o None → o ≡ None
   there_none o is = grind (arith, is)
 
 -- ---- a message that goes over tangled IDs
@@ -85,7 +85,7 @@ module _ (table : Table) (side : Side) (items : List Item) where
   pub again_continue : (m : Message) (own id : List ℕ) → otid_in m ≡ Some own → dtid_in m ≡ Some id
       → has_used side items own ≡ true → may_be_over table side items own ≡ true → (anew : Bool)
       → anew
-      ≡ (has_a forms.Begin (asked side id items) && is_nothing (told side id items)
+      ≡ (has_a forms.Begin (peer_sent_from side id items) && is_nothing (outgoing side id items)
       && not (list_any (bytes_eq own) (owns_of side items id)))
       → anew ≡ uses_again table side items m
   again_continue (Continue otid dtid dialogue components) own id it there used over anew is =

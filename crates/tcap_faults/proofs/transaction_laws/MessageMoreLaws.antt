@@ -16,7 +16,7 @@ use Rattle.tcap_model.specs.World.{Item, Sent}
 use Rattle.tcap_model.specs.SinceMark.{ended_by}
 use Rattle.tcap_refute.specs.EarlierMessages.{is_a, sent_by}
 use Rattle.tcap_refute.proofs.TestLaws.{or_none}
-use Rattle.tcap_faults.specs.SentToId.{goes_on_from, goes_on_to, has_ended, has_used}
+use Rattle.tcap_faults.specs.SentToId.{is_continue_from, is_continue_to, has_ended, has_used}
 use Rattle.tcap_faults.specs.History.{dtids_of, sent_from, sent_to}
 use Rattle.tcap_faults.specs.HistoryUpdate.{with_more}
 use Rattle.tcap_faults.specs.TangledIds.{peers_of}
@@ -77,11 +77,11 @@ any_mapped {A} {B} p f q xs x =
 
 -- The IDs of the peer that Continues of the end join with an own ID.
 abbrev pub fronts : Side → List Item → List ℕ → List (List ℕ)
-fronts side items own = filter_map dtid_in (filter (goes_on_from own) (sent_by side items))
+fronts side items own = filter_map dtid_in (filter (is_continue_from own) (sent_by side items))
 
 -- The IDs of the peer that Continues of the peer join with an own ID.
 abbrev pub backs : Side → List Item → List ℕ → List (List ℕ)
-backs side items own = filter_map otid_in (filter (goes_on_to own) (sent_by (other side) items))
+backs side items own = filter_map otid_in (filter (is_continue_to own) (sent_by (other side) items))
 
 pub peers_any : (p : List ℕ → Bool) (side : Side) (items : List Item) (own : List ℕ)
     → list_any p (peers_of side items own)
@@ -145,19 +145,19 @@ module _ (side : Side) (items : List Item) (m : Message) where
 
   pub peers_own : (p : List ℕ → Bool) (own : List ℕ)
       → list_any p (peers_of side (items ++ Sent side m ∷ []) own)
-      ≡ ((list_any p (fronts side items own) || (goes_on_from own m && passes_of p (dtid_in m)))
+      ≡ ((list_any p (fronts side items own) || (is_continue_from own m && passes_of p (dtid_in m)))
       || ((has_used side items own || is_id own (otid_in m)) && list_any p (backs side items own)))
   peers_own p own =
       peers_any p side (items ++ Sent side m ∷ []) own
-      ∙ rw (sent_own side m items, their_same side m items, any_mapped p dtid_in (goes_on_from own) (sent_by side items) m, any_more (λ m. is_id own (otid_in m)) (sent_by side items) m)
+      ∙ rw (sent_own side m items, their_same side m items, any_mapped p dtid_in (is_continue_from own) (sent_by side items) m, any_more (λ m. is_id own (otid_in m)) (sent_by side items) m)
       refl
 
   pub peers_theirs : (p : List ℕ → Bool) (id : List ℕ)
       → list_any p (peers_of (other side) (items ++ Sent side m ∷ []) id)
       ≡ (list_any p (fronts (other side) items id)
       || (has_used (other side) items id
-      && (list_any p (backs (other side) items id) || (goes_on_to id m && passes_of p (otid_in m)))))
+      && (list_any p (backs (other side) items id) || (is_continue_to id m && passes_of p (otid_in m)))))
   peers_theirs p id =
       peers_any p (other side) (items ++ Sent side m ∷ []) id
-      ∙ rw (their_same side m items, twice_own side m items, any_mapped p otid_in (goes_on_to id) (sent_by (other (other side)) items) m)
+      ∙ rw (their_same side m items, twice_own side m items, any_mapped p otid_in (is_continue_to id) (sent_by (other (other side)) items) m)
       refl

@@ -17,20 +17,20 @@ use Rattle.tcap_end.specs.Dialogue.{is_request}
 use Rattle.tcap_end.specs.Table.{Table, octets_cmp}
 use Rattle.tcap_refute.specs.EarlierMessages.{components_of, is_a}
 use Rattle.tcap_refute.specs.Facts.{FromFact, shows_from}
-use Rattle.tcap_refute.specs.KeptFacts.{tells_from}
+use Rattle.tcap_refute.specs.KeptFacts.{from_fact_noted}
 use Rattle.tcap_model.specs.SinceMark.{is_begin_with_request}
 use Rattle.tcap_refute.specs.declared.sent_from_id.FromId.{FromId}
 use Rattle.tcap_refute.proofs.TestLaws.{or_none}
 use Rattle.tcap_faults.specs.Counts.{count}
-use Rattle.tcap_faults.specs.SentToId.{goes_on_to}
+use Rattle.tcap_faults.specs.SentToId.{is_continue_to}
 use Rattle.tcap_faults.specs.declared.transaction.id_list.Ids.{Ids}
-use Rattle.tcap_faults.specs.declared.transaction.sent_from_id.Came.{Came}
+use Rattle.tcap_faults.specs.declared.transaction.sent_from_id.ContinueTallies.{ContinueTallies}
 use Rattle.tcap_faults.specs.declared.transaction.sent_from_id.FirstBegin.{FirstBegin}
 use Rattle.tcap_faults.specs.declared.transaction.sent_from_id.SentFrom.{SentFrom}
 use Rattle.tcap_faults.specs.HalfByPeerId.{from_first, responds}
 use Rattle.tcap_faults.specs.IdList.{AreIds}
-use Rattle.tcap_faults.specs.History.{IsCame, IsCameAt, IsFirstBegin, IsFrom, before_response, dtids_of}
-use Rattle.tcap_faults.specs.HistoryUpdate.{AreCame, with_more}
+use Rattle.tcap_faults.specs.History.{IsContinueTallies, IsContinueTalliesAt, IsFirstBegin, IsFrom, before_response, dtids_of}
+use Rattle.tcap_faults.specs.HistoryUpdate.{AreContinueTallies, with_more}
 use Rattle.tcap_faults.specs.InvokeCounts.{more_if, sum}
 use Rattle.tcap_faults.specs.TallyMeaning.{IsTally}
 use Rattle.tcap_faults.proofs.list_laws.OneMoreLaws.{any_more, components_more, count_kept, filter_more, ids_more, ids_same}
@@ -53,7 +53,7 @@ first_more : (ms : List Message) (m : Message)
 first_more [] m = refl
 first_more (x ∷ ms) m = grind (arith, first_more ms m)
 
-module _ (table : Table) (ms : List Message) (m : Message) (old new : Came) (was : IsCame table ms old)
+module _ (table : Table) (ms : List Message) (m : Message) (old new : ContinueTallies) (was : IsContinueTallies table ms old)
     (is : new.answered ≡ (old.answered || responds m)) where
   answers : answered ms m ≡ new.answered
   answers = rw (is, was.answered) refl
@@ -61,7 +61,7 @@ module _ (table : Table) (ms : List Message) (m : Message) (old new : Came) (was
   -- The request was answered, now or before.
   pub came_since : new.answered ≡ true → new.sooner ≡ old.sooner
       → IsTally table (components_of (from_first responds ms) ++ components_in m) new.since
-      → IsCame table (ms ++ m ∷ []) new
+      → IsContinueTallies table (ms ++ m ∷ []) new
   came_since so same since =
       let now : answered ms m ≡ true = answers ∙ so in
       record {
@@ -73,7 +73,7 @@ module _ (table : Table) (ms : List Message) (m : Message) (old new : Came) (was
   -- The request was not answered.
   pub came_sooner : new.answered ≡ false → new.since ≡ old.since
       → IsTally table (components_of (before_response ms) ++ components_in m) new.sooner
-      → IsCame table (ms ++ m ∷ []) new
+      → IsContinueTallies table (ms ++ m ∷ []) new
   came_sooner so same sooner =
       let now : answered ms m ≡ false = answers ∙ so in
       record {
@@ -131,11 +131,11 @@ from_same table ms old was first =
     record { begin = was.begin; twice = was.twice; continues = was.continues; to = was.to; came = was.came }
 
 pub first_noted : (table : Table) (ms : List Message) (m : Message) (old new : FromId)
-    → ((fact : FromFact) → tells_from fact old ≡ list_any (shows_from table fact) ms)
-    → ((fact : FromFact) → tells_from fact new ≡ (tells_from fact old || shows_from table fact m))
-    → (fact : FromFact) → tells_from fact new ≡ list_any (shows_from table fact) (ms ++ m ∷ [])
-first_noted table ms m old new was told fact =
-    told fact
+    → ((fact : FromFact) → from_fact_noted fact old ≡ list_any (shows_from table fact) ms)
+    → ((fact : FromFact) → from_fact_noted fact new ≡ (from_fact_noted fact old || shows_from table fact m))
+    → (fact : FromFact) → from_fact_noted fact new ≡ list_any (shows_from table fact) (ms ++ m ∷ [])
+first_noted table ms m old new was outgoing fact =
+    outgoing fact
     ∙ ap (λ b. b || shows_from table fact m) (was fact)
     ∙ ap (λ b. list_any (shows_from table fact) ms || b) (or_none (shows_from table fact m))
     ∙ sym (list_any-append (shows_from table fact) ms (m ∷ []))
@@ -188,7 +188,7 @@ module _ (table : Table) (ms : List Message) (m : Message) (old : SentFrom) (was
       continues = count_kept (is_a forms.Continue) ms m old.continues new.continues was.continues
           (rw no_continue continues);
       to = rw (to, ids_same (is_a forms.Continue) dtid_in ms m (inl no_continue)) was.to;
-      came = λ own. rw (came, filter_more (goes_on_to own) ms m, no_continue, append-nil (filter (goes_on_to own) ms))
+      came = λ own. rw (came, filter_more (is_continue_to own) ms m, no_continue, append-nil (filter (is_continue_to own) ms))
           (was.came own);
     }
 
@@ -209,7 +209,7 @@ module _ (table : Table) (ms : List Message) (m : Message) (old : SentFrom) (was
       → new.begun_twice ≡ old.begun_twice
       → new.continues ≡ more_if (is_a forms.Continue m) old.continues
       → AreIds (dtids_of (ms ++ m ∷ [])) new.to
-      → ((own : List ℕ) → IsCameAt table (filter (goes_on_to own) (ms ++ m ∷ []))
+      → ((own : List ℕ) → IsContinueTalliesAt table (filter (is_continue_to own) (ms ++ m ∷ []))
       (lookup (is_at (octets_cmp own)) new.came.entries)) → IsFrom table (ms ++ m ∷ []) new
   from_other new it begin twice continues to came = record {
     begin = rw begin (begin_stays (inl it));
@@ -224,7 +224,7 @@ module _ (table : Table) (ms : List Message) (m : Message) (old : SentFrom) (was
   from_neither (no_begin, no_continue) =
       from_other old no_begin refl refl (rw no_continue refl)
       (rw (ids_same (is_a forms.Continue) dtid_in ms m (inl no_continue)) was.to)
-      (λ own. rw (filter_more (goes_on_to own) ms m, no_continue, append-nil (filter (goes_on_to own) ms)) (was.came own))
+      (λ own. rw (filter_more (is_continue_to own) ms m, no_continue, append-nil (filter (is_continue_to own) ms)) (was.came own))
 
   -- ---- a Continue
 
@@ -258,9 +258,9 @@ module _ (table : Table) (ms : List Message) (m : Message) (old : SentFrom) (was
     }
 
     -- The Continue is kept at its destination ID.
-    pub from_continue : (new : SentFrom) (came : BTreeMap (List ℕ) Came) → IsContinued new
-        → AreCame table (with_more dtid_in m (λ own. filter (goes_on_to own) ms)) came
+    pub from_continue : (new : SentFrom) (came : BTreeMap (List ℕ) ContinueTallies) → IsContinued new
+        → AreContinueTallies table (with_more dtid_in m (λ own. filter (is_continue_to own) ms)) came
         → IsFrom table (ms ++ m ∷ []) (record new { came = came })
     from_continue new came is are =
         from_other (record new { came = came }) (continue_only m it) is.begin is.twice (rw it is.continues) is.to
-        (λ own. rw (filter_more (goes_on_to own) ms m, it) (are own))
+        (λ own. rw (filter_more (is_continue_to own) ms m, it) (are own))

@@ -14,8 +14,8 @@ use Rattle.tcap_faults.specs.declared.transaction.id_list.Ids.{Ids}
 use Rattle.tcap_faults.specs.declared.transaction.sent_to_id.SentTo.{SentTo}
 use Rattle.tcap_faults.specs.declared.component.tally.Tally.{Tally}
 use Rattle.tcap_faults.specs.IdList.{AreIds}
-use Rattle.tcap_faults.specs.History.{IsTo, ends, of_user, otids_of, silences}
-use Rattle.tcap_faults.specs.HistoryUpdate.{IsCaused, IsTold}
+use Rattle.tcap_faults.specs.History.{IsTo, ends, of_user, otids_of, is_end_or_abort}
+use Rattle.tcap_faults.specs.HistoryUpdate.{IsCaused, IsOutgoingAdded}
 use Rattle.tcap_faults.specs.TallyMeaning.{IsTally}
 use Rattle.tcap_faults.proofs.list_laws.OneMoreLaws.{any_more, components_more, count_kept, filter_more, ids_more, ids_same, something}
 
@@ -36,7 +36,7 @@ module _ (table : Table) (ms : List Message) (m : Message) where
 
   -- The summary, with whether the message ends something.
   abbrev pub ended_more : SentTo → SentTo
-  ended_more old = record old { ended = old.ended || ends m; silenced = old.silenced || silences m }
+  ended_more old = record old { ended = old.ended || ends m; silenced = old.silenced || is_end_or_abort m }
 
   -- ---- a message of the user
 
@@ -76,10 +76,10 @@ module _ (table : Table) (ms : List Message) (m : Message) where
     }
 
     -- The components of the message are counted.
-    pub told : (new : SentTo) (parts : Tally) → cause_in m ≡ None → HasSpoken new
+    pub outgoing : (new : SentTo) (parts : Tally) → cause_in m ≡ None → HasSpoken new
         → IsTally table (components_of (of_user ms) ++ components_in m) parts
-        → IsTold table ms m old (record new { components = parts })
-    told new parts none is components = record {
+        → IsOutgoingAdded table ms m old (record new { components = parts })
+    outgoing new parts none is components = record {
       spoke = is.spoke;
       from = is.from;
       components = rw (user_more none, components_more (of_user ms) m) components;
@@ -101,12 +101,12 @@ module _ (table : Table) (ms : List Message) (m : Message) where
       refused = rw (is.refused, any_more (λ m. is_cause 4 (cause_in m)) ms m, it, was.refused) refl;
       unknown = count_kept (λ m. is_cause 1 (cause_in m)) ms m old.unknown new.unknown was.unknown (rw it is.unknown);
       ended = rw (is.ended, any_more ends ms m, was.ended) refl;
-      silenced = rw (is.silenced, any_more silences ms m, was.silenced) refl;
+      silenced = rw (is.silenced, any_more is_end_or_abort ms m, was.silenced) refl;
       components = rw (is.components, user_same cause it) was.components;
     }
 
     -- Another message is the user's.
-    pub to_user : (new : SentTo) → cause_in m ≡ None → IsTold table ms m (ended_more old) new
+    pub to_user : (new : SentTo) → cause_in m ≡ None → IsOutgoingAdded table ms m (ended_more old) new
         → IsTo table (ms ++ m ∷ []) new
     to_user new none is = record {
       spoke = rw (is.spoke, user_more none, something (of_user ms) m) refl;
@@ -114,6 +114,6 @@ module _ (table : Table) (ms : List Message) (m : Message) where
       refused = rw (is.refused, any_more (λ m. is_cause 4 (cause_in m)) ms m, none, was.refused) (or_none _);
       unknown = count_kept (λ m. is_cause 1 (cause_in m)) ms m old.unknown new.unknown was.unknown (rw none is.unknown);
       ended = rw (is.ended, any_more ends ms m, was.ended) refl;
-      silenced = rw (is.silenced, any_more silences ms m, was.silenced) refl;
+      silenced = rw (is.silenced, any_more is_end_or_abort ms m, was.silenced) refl;
       components = is.components;
     }

@@ -10,11 +10,11 @@ use Rattle.tcap_msg.specs.Parts.{dtid_in, otid_in}
 use Rattle.tcap_record.specs.declared.entry.End.{End as Side}
 use Rattle.tcap_record.specs.Ends.{other}
 use Rattle.tcap_model.specs.World.{Item, Sent}
-use Rattle.tcap_refute.specs.EarlierMessages.{asked, has_a, is_a}
+use Rattle.tcap_refute.specs.EarlierMessages.{peer_sent_from, has_a, is_a}
 use Rattle.tcap_model.proofs.WorldLaws.{itself}
-use Rattle.tcap_faults.specs.ClosedHalves.{all_go_on_to}
+use Rattle.tcap_faults.specs.ClosedHalves.{all_continue_to}
 use Rattle.tcap_faults.specs.Counts.{is_nothing}
-use Rattle.tcap_faults.specs.SentToId.{began, goes_on_to, has_used}
+use Rattle.tcap_faults.specs.SentToId.{began, is_continue_to, has_used}
 use Rattle.tcap_faults.specs.declared.transaction.id_list.Ids.{Ids}
 use Rattle.tcap_faults.specs.IdList.{AreAmong, AreIds, AreSame, ids_first}
 use Rattle.tcap_faults.specs.History.{dtids_of}
@@ -35,14 +35,14 @@ some_go (Continue otid dtid dialogue components ∷ ms) = refl
 some_go (m ∷ ms) = some_go ms
 
 elsewhere : (own : List ℕ) (ms : List Message)
-    → list_any (λ m. is_a forms.Continue m && not (goes_on_to own m)) ms
+    → list_any (λ m. is_a forms.Continue m && not (is_continue_to own m)) ms
     ≡ list_any (λ x. not (bytes_eq own x)) (dtids_of ms)
 elsewhere own [] = refl
 elsewhere own (Continue otid dtid dialogue components ∷ ms) =
     ap (λ b. not (bytes_eq own dtid) || b) (elsewhere own ms)
 elsewhere own (m ∷ ms) = elsewhere own ms
 
-all_go : (own : List ℕ) (ms : List Message) → all_go_on_to own ms ≡ all_to own (dtids_of ms)
+all_go : (own : List ℕ) (ms : List Message) → all_continue_to own ms ≡ all_to own (dtids_of ms)
 all_go own ms = rw (some_go ms, elsewhere own ms) refl
 
 pub some_there : (ids : List (List ℕ)) → not (is_nothing ids) ≡ list_any (λ id. true) ids
@@ -76,42 +76,42 @@ all_one own x (y ∷ more) differ first =
 
 module _ (own : List ℕ) (ms : List Message) (used : List ℕ → Bool) where
   -- There are no Continues.
-  pub closed_none : dtids_of ms ≡ [] → false ≡ (all_go_on_to own ms && used own)
+  pub closed_none : dtids_of ms ≡ [] → false ≡ (all_continue_to own ms && used own)
   closed_none none = sym (and_left _ _ (all_go own ms ∙ ap (all_to own) none))
 
   module _ (kept : Ids) (are : AreAmong (dtids_of ms) (Some kept)) where
-    kept_go : (b : Bool) → ((ids : List (List ℕ)) → AreIds ids kept → all_to own ids ≡ b) → all_go_on_to own ms ≡ b
+    kept_go : (b : Bool) → ((ids : List (List ℕ)) → AreIds ids kept → all_to own ids ≡ b) → all_continue_to own ms ≡ b
     kept_go b says =
         all_go own ms ∙ sym (all_same own are.0 (dtids_of ms) are.2) ∙ says are.0 are.1
 
     -- The Continues go to several IDs.
     pub closed_several : ((ids : List (List ℕ)) → AreIds ids kept → true ≡ two_differ ids)
-        → false ≡ (all_go_on_to own ms && used own)
+        → false ≡ (all_continue_to own ms && used own)
     closed_several differ = sym (and_left _ _ (kept_go false (λ ids is. all_differ own ids (differ ids is))))
 
     pub closed_first_none : ((ids : List (List ℕ)) → AreIds ids kept → None ≡ ids_first ids)
-        → false ≡ (all_go_on_to own ms && used own)
+        → false ≡ (all_continue_to own ms && used own)
     closed_first_none none = sym (and_left _ _ (kept_go false (λ ids is. all_none own ids (none ids is))))
 
     -- All Continues go to one ID, which was used or not.
     module _ (x : List ℕ) (differ : (ids : List (List ℕ)) → AreIds ids kept → false ≡ two_differ ids)
         (first : (ids : List (List ℕ)) → AreIds ids kept → Some x ≡ ids_first ids) where
-      goes : all_go_on_to own ms ≡ bytes_eq own x
+      goes : all_continue_to own ms ≡ bytes_eq own x
       goes = kept_go (bytes_eq own x) (λ ids is. all_one own x ids (differ ids is) (first ids is))
 
-      pub closed_used : true ≡ used x → bytes_eq own x ≡ (all_go_on_to own ms && used own)
+      pub closed_used : true ≡ used x → bytes_eq own x ≡ (all_continue_to own ms && used own)
       closed_used is = by (bytes_eq own x) refl
         where
-          by : (b : Bool) → bytes_eq own x ≡ b → b ≡ (all_go_on_to own ms && used own)
+          by : (b : Bool) → bytes_eq own x ≡ b → b ≡ (all_continue_to own ms && used own)
           by false apart = sym (and_left _ _ (goes ∙ apart))
           by true same =
               let one : own ≡ x = (bytes_eq-Decides own x).0 same in
               sym (and_from _ _ (goes ∙ same) (rw one (sym is)))
 
-      pub closed_unused : false ≡ used x → false ≡ (all_go_on_to own ms && used own)
+      pub closed_unused : false ≡ used x → false ≡ (all_continue_to own ms && used own)
       closed_unused is = by (bytes_eq own x) refl
         where
-          by : (b : Bool) → bytes_eq own x ≡ b → false ≡ (all_go_on_to own ms && used own)
+          by : (b : Bool) → bytes_eq own x ≡ b → false ≡ (all_continue_to own ms && used own)
           by false apart = sym (and_left _ _ (goes ∙ apart))
           by true same =
               let one : own ≡ x = (bytes_eq-Decides own x).0 same in
@@ -121,7 +121,7 @@ module _ (own : List ℕ) (ms : List Message) (used : List ℕ → Bool) where
 -- ---- what a message guesses
 
 begun_there : (side : Side) (items : List Item) (id : List ℕ)
-    → has_a forms.Begin (asked (other side) id items) ≡ began side id items
+    → has_a forms.Begin (peer_sent_from (other side) id items) ≡ began side id items
 begun_there side items id = sym (began_asked (other side) items id) ∙ rw (other_twice side) refl
 
 module _ (side : Side) (items : List Item) (m : Message) (from to : List ℕ) (otid : otid_in m ≡ Some from)

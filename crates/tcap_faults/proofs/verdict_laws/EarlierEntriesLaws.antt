@@ -15,7 +15,7 @@ use Rattle.tcap_refute.proofs.ItemLaws.{since_mark, since_more}
 use Rattle.tcap_faults.specs.declared.transaction.history.Facts.{Facts}
 use Rattle.tcap_faults.specs.declared.verdict.earlier_entries.Replay.{Replay}
 use Rattle.tcap_faults.specs.Replay.{IsReplayed, items_up_to}
-use Rattle.tcap_faults.specs.SearchState.{AreCounted, AreRoomy, IsKept, components_in_all}
+use Rattle.tcap_faults.specs.SearchState.{AreCounted, AreRoomy, IsHalfKey, components_in_all}
 use Rattle.tcap_faults.specs.FaultSubject.{items_among}
 use Rattle.tcap_faults.specs.Unblamed.{again_behind}
 use Rattle.tcap_faults.specs.UsedAgain.{has_used_again, is_used_again}
@@ -107,7 +107,7 @@ module _ (table : Table) (side : Side) where
 
 -- ---- the history, entry by entry
 
-pub replayed_none : (table : Table) (side : Side) (entries : List Entry) (kept : Facts) → IsKept table [] kept
+pub replayed_none : (table : Table) (side : Side) (entries : List Entry) (kept : Facts) → IsHalfKey table [] kept
     → IsReplayed table side entries 0 (record { kept = kept; again = None })
 replayed_none table side entries kept are = record { are = are; counted = none_counted; again = refl }
 
@@ -116,7 +116,7 @@ module _ (table : Table) (side : Side) (entries : List Entry) (number : ℕ) (ol
   -- All entries are noted.
   pub replayed_all : (to : ℕ) → length entries ≤ number → number ≤ to → IsReplayed table side entries to old
   replayed_all to up on = record {
-    are = subst (λ (es : List Entry). IsKept table (items_among (map item_of es)) old.kept) same so_far.are;
+    are = subst (λ (es : List Entry). IsHalfKey table (items_among (map item_of es)) old.kept) same so_far.are;
     counted = weaker (subst (λ (es : List Entry). AreCounted (items_among (map item_of es)) number) same so_far.counted);
     again = so_far.again ∙ ap (λ es. again_behind table side 0 (map item_of es) [] None) same;
   }
@@ -134,12 +134,12 @@ module _ (table : Table) (side : Side) (entries : List Entry) (number : ℕ) (ol
       (counted : (item : Item) → item_of entry ≡ Ok item → components_in_all (item ∷ []) ≤ count) (small : count < 2 ^ 63) where
     -- The next entry is noted.
     pub replayed_more : (new : Replay)
-        → IsKept table (items_up_to entries number ++ items_among (item_of entry ∷ [])) new.kept
+        → IsHalfKey table (items_up_to entries number ++ items_among (item_of entry ∷ [])) new.kept
         → new.again ≡ cond (has_used_again table side (since_quiet (items_up_to entries number ++ items_among (item_of entry ∷ []))))
         (option_or old.again (Some number)) None
         → IsReplayed table side entries (number + 1) new
     replayed_more new are again = record {
-      are = subst (λ (items : List Item). IsKept table items new.kept) (sym (one_item entries number entry there)) are;
+      are = subst (λ (items : List Item). IsHalfKey table items new.kept) (sym (one_item entries number entry there)) are;
       counted = subst (λ (items : List Item). AreCounted items (number + 1)) (sym (one_item entries number entry there))
           (by (item_of entry) refl);
       again = again

@@ -18,10 +18,10 @@ use Rattle.tcap_refute.specs.FirstKinds.{first_kinds, is_of_first_kind}
 use Rattle.tcap_refute.proofs.TestLaws.{some_first}
 use Rattle.tcap_faults.specs.declared.component.component_faults.ComponentFaults.{ComponentFaults}
 use Rattle.tcap_faults.specs.ComponentKinds.{answers_again, invokes_busy, links_badly, rejects_wrongly}
-use Rattle.tcap_faults.specs.Faults.{component_at}
+use Rattle.tcap_faults.specs.ComponentFaults.{component_at}
 use Rattle.tcap_faults.specs.Fault.{further_kinds, is_fault, is_of_further_kind, is_of_half_kind, is_of_kind_to}
 use Rattle.tcap_faults.specs.HalfKinds.{is_wrong_dialogue, is_wrong_half}
-use Rattle.tcap_faults.specs.HalfByPeerId.{HalfOf, half_of}
+use Rattle.tcap_faults.specs.HalfByPeerId.{HalfMessages, half_of}
 use Rattle.tcap_faults.specs.SearchState.{kind_of_components}
 use Rattle.tcap_faults.specs.FaultSubject.{alone_component, half_component}
 use Rattle.tcap_faults.specs.TangledIds.{are_tangled, goes_over_tangled, is_own_tangled, is_peer_tangled, near, own_of_continue}
@@ -48,33 +48,33 @@ by_half half dialogue busy linked answered rejected =
     (kind_of_components (not half && busy) (not half && linked) (not half && answered) (not half && rejected)))
 
 -- The lowest kind of a message over a half, from whether it has F8 and F9.
-abbrev kind_by : Table → HalfOf → Message → Bool → Bool → Option Kind
+abbrev kind_by : Table → HalfMessages → Message → Bool → Bool → Option Kind
 kind_by table h m half dialogue =
-    by_half half dialogue (has_component (invokes_busy table h (h.told ++ components_in m)) [] h.told (components_in m))
-    (has_component (links_badly table h) [] h.told (components_in m))
-    (has_component (answers_again table h) [] h.told (components_in m))
-    (has_component (rejects_wrongly table h) [] h.told (components_in m))
+    by_half half dialogue (has_component (invokes_busy table h (h.outgoing ++ components_in m)) [] h.outgoing (components_in m))
+    (has_component (links_badly table h) [] h.outgoing (components_in m))
+    (has_component (answers_again table h) [] h.outgoing (components_in m))
+    (has_component (rejects_wrongly table h) [] h.outgoing (components_in m))
 
-found_over : (table : Table) (side : Side) (id : List ℕ) (items : List Item) (m : Message) (h : HalfOf)
+found_over : (table : Table) (side : Side) (id : List ℕ) (items : List Item) (m : Message) (h : HalfMessages)
     → find (is_of_half_kind table side id items m h) further_kinds
     ≡ kind_by table h m (is_wrong_half side items m h) (is_wrong_dialogue side items id m h)
 found_over table side id items m h = refl
 
 -- If F8 does not hold and F9 does.
-pub kind_of_dialogue : (table : Table) (side : Side) (id : List ℕ) (items : List Item) (m : Message) (h : HalfOf)
+pub kind_of_dialogue : (table : Table) (side : Side) (id : List ℕ) (items : List Item) (m : Message) (h : HalfMessages)
     → false ≡ is_wrong_half side items m h → true ≡ is_wrong_dialogue side items id m h
     → Some kinds.WrongDialogue ≡ find (is_of_half_kind table side id items m h) further_kinds
 kind_of_dialogue table side id items m h half dialogue =
     ap₂ (λ a b. kind_by table h m a b) half dialogue ∙ sym (found_over table side id items m h)
 
 -- If neither F8 nor F9 holds.
-pub kind_last : (table : Table) (side : Side) (id : List ℕ) (items : List Item) (m : Message) (h : HalfOf) (k : Option Kind)
+pub kind_last : (table : Table) (side : Side) (id : List ℕ) (items : List Item) (m : Message) (h : HalfMessages) (k : Option Kind)
     → false ≡ is_wrong_half side items m h → false ≡ is_wrong_dialogue side items id m h
     → k ≡ kind_of_components
-    (has_component (invokes_busy table h (h.told ++ components_in m)) [] h.told (components_in m))
-    (has_component (links_badly table h) [] h.told (components_in m))
-    (has_component (answers_again table h) [] h.told (components_in m))
-    (has_component (rejects_wrongly table h) [] h.told (components_in m))
+    (has_component (invokes_busy table h (h.outgoing ++ components_in m)) [] h.outgoing (components_in m))
+    (has_component (links_badly table h) [] h.outgoing (components_in m))
+    (has_component (answers_again table h) [] h.outgoing (components_in m))
+    (has_component (rejects_wrongly table h) [] h.outgoing (components_in m))
     → k ≡ find (is_of_half_kind table side id items m h) further_kinds
 kind_last table side id items m h k half dialogue is =
     is ∙ ap₂ (λ a b. kind_by table h m a b) half dialogue ∙ sym (found_over table side id items m h)
@@ -82,28 +82,28 @@ kind_last table side id items m h k half dialogue is =
 -- ---- the components
 
 -- A message over a half has a kind exactly if a component with the kind was found.
-pub kinds_found : (table : Table) (h : HalfOf) (cs : List Component) (found : ComponentFaults)
+pub kinds_found : (table : Table) (h : HalfMessages) (cs : List Component) (found : ComponentFaults)
     → ((kind : Kind) → component_at kind found ≡ half_component table h cs kind)
     → kind_of_components (is_some found.busy) (is_some found.badly_linked) (is_some found.answered_already)
     (is_some found.wrongly_rejected)
     ≡ kind_of_components
-    (has_component (invokes_busy table h (h.told ++ cs)) [] h.told cs)
-    (has_component (links_badly table h) [] h.told cs)
-    (has_component (answers_again table h) [] h.told cs)
-    (has_component (rejects_wrongly table h) [] h.told cs)
+    (has_component (invokes_busy table h (h.outgoing ++ cs)) [] h.outgoing cs)
+    (has_component (links_badly table h) [] h.outgoing cs)
+    (has_component (answers_again table h) [] h.outgoing cs)
+    (has_component (rejects_wrongly table h) [] h.outgoing cs)
 kinds_found table h cs found are = λ i. kind_of_components (busy i) (linked i) (answered i) (rejected i)
   where
-    busy : is_some found.busy ≡ has_component (invokes_busy table h (h.told ++ cs)) [] h.told cs
-    busy = ap is_some (are kinds.InvokeIdBusy) ∙ some_component (invokes_busy table h (h.told ++ cs)) 0 [] h.told cs
+    busy : is_some found.busy ≡ has_component (invokes_busy table h (h.outgoing ++ cs)) [] h.outgoing cs
+    busy = ap is_some (are kinds.InvokeIdBusy) ∙ some_component (invokes_busy table h (h.outgoing ++ cs)) 0 [] h.outgoing cs
 
-    linked : is_some found.badly_linked ≡ has_component (links_badly table h) [] h.told cs
-    linked = ap is_some (are kinds.BadLink) ∙ some_component (links_badly table h) 0 [] h.told cs
+    linked : is_some found.badly_linked ≡ has_component (links_badly table h) [] h.outgoing cs
+    linked = ap is_some (are kinds.BadLink) ∙ some_component (links_badly table h) 0 [] h.outgoing cs
 
-    answered : is_some found.answered_already ≡ has_component (answers_again table h) [] h.told cs
-    answered = ap is_some (are kinds.AnsweredAlready) ∙ some_component (answers_again table h) 0 [] h.told cs
+    answered : is_some found.answered_already ≡ has_component (answers_again table h) [] h.outgoing cs
+    answered = ap is_some (are kinds.AnsweredAlready) ∙ some_component (answers_again table h) 0 [] h.outgoing cs
 
-    rejected : is_some found.wrongly_rejected ≡ has_component (rejects_wrongly table h) [] h.told cs
-    rejected = ap is_some (are kinds.RejectNotAllowed) ∙ some_component (rejects_wrongly table h) 0 [] h.told cs
+    rejected : is_some found.wrongly_rejected ≡ has_component (rejects_wrongly table h) [] h.outgoing cs
+    rejected = ap is_some (are kinds.RejectNotAllowed) ∙ some_component (rejects_wrongly table h) 0 [] h.outgoing cs
 
 -- A message without destination ID has a kind exactly if a component with the kind was found.
 pub alone_found : (table : Table) (side : Side) (items : List Item) (m : Message) (found : ComponentFaults)

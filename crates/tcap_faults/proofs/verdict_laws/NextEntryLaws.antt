@@ -16,12 +16,12 @@ use Rattle.tcap_refute.proofs.ItemLaws.{since_mark, since_more}
 use Rattle.tcap_faults.specs.declared.transaction.history.Facts.{Facts}
 use Rattle.tcap_faults.specs.Fault.{fault_since, further_kinds, is_fault, is_of_further_kind}
 use Rattle.tcap_faults.specs.History.{AreFacts}
-use Rattle.tcap_faults.specs.SearchState.{IsKept}
+use Rattle.tcap_faults.specs.SearchState.{IsHalfKey}
 use Rattle.tcap_faults.specs.TangledIds.{goes_over_tangled, tangled_in}
 use Rattle.tcap_faults.specs.UsedAgain.{has_used_again, is_used_again, uses_again}
 use Rattle.tcap_faults.proofs.list_laws.FindLaws.{one_more}
 use Rattle.tcap_faults.proofs.verdict_laws.LowestKindLaws.{fault_found, none_found}
-use Rattle.tcap_faults.proofs.transaction_laws.FirstTangled.{tangled_told}
+use Rattle.tcap_faults.proofs.transaction_laws.FirstTangled.{tangled_outgoing}
 use Rattle.tcap_faults.specs.declared.verdict.unblamed_reason.TangledId.{TangledId}
 
 -- ---- own IDs that are used again
@@ -76,8 +76,8 @@ either_fault table side items m is =
     by false false same so = fault_found table side items m same
 
 -- The first of three conditions makes their disjunction hold.
-pub first_so : (a b c : Bool) → a ≡ true → (a || b || c) ≡ true
-first_so a b c is = grind (arith, is)
+pub first_where : (a b c : Bool) → a ≡ true → (a || b || c) ≡ true
+first_where a b c is = grind (arith, is)
 
 pub second_so : (a b c : Bool) → b ≡ true → (a || b || c) ≡ true
 second_so a b c is = grind (arith, is)
@@ -120,15 +120,15 @@ peer_alone table side sender items m is =
 
 pub kept_more : (table : Table) (sender : Side) (items : List Item) (m : Message) (kept : Facts)
     → AreFacts table (since_quiet items ++ Sent sender m ∷ []) kept
-    → IsKept table (items ++ Sent sender m ∷ []) kept
+    → IsHalfKey table (items ++ Sent sender m ∷ []) kept
 kept_more table sender items m kept facts =
     subst (λ (xs : List Item). AreFacts table xs kept) (sym (since_more sender m items)) facts
 
 pub kept_mark : (table : Table) (items : List Item) (kept : Facts) → AreFacts table [] kept
-    → IsKept table (items ++ Item.Quiet ∷ []) kept
+    → IsHalfKey table (items ++ Item.Quiet ∷ []) kept
 kept_mark table items kept facts = subst (λ (xs : List Item). AreFacts table xs kept) (sym (since_mark items)) facts
 
 -- A message goes over tangled IDs exactly if a first tangled ID is found.
 pub over : (table : Table) (side : Side) (items : List Item) (m : Message) (o : Option TangledId) (found : Bool)
     → o ≡ tangled_in side items m → found ≡ is_some o → goes_over_tangled side items m ≡ found
-over table side items m o found is so = sym (so ∙ ap is_some is ∙ tangled_told side items m)
+over table side items m o found is so = sym (so ∙ ap is_some is ∙ tangled_outgoing side items m)

@@ -15,21 +15,21 @@ use Rattle.tcap_record.specs.Ends.{other}
 use Rattle.tcap_end.specs.End.{is_id}
 use Rattle.tcap_end.specs.Table.{Table}
 use Rattle.tcap_model.specs.declared.reason.Reason.{Reason}
-use Rattle.tcap_model.specs.Run.{then_so, where_so}
+use Rattle.tcap_model.specs.Run.{option_then, only_if}
 use Rattle.tcap_model.specs.World.{Item, Sent, has_quiet, is_side}
 use Rattle.tcap_refute.specs.declared.kind.Kind.{Kind}
 use Rattle.tcap_refute.specs.declared.kind.Kind.TheVariants as kinds
-use Rattle.tcap_refute.specs.EarlierMessages.{asked, components_of, has_a, is_a, sent_by, since_quiet}
-use Rattle.tcap_refute.specs.FirstComponent.{answers_nothing_in, first_component, first_so, is_wrong_in}
+use Rattle.tcap_refute.specs.EarlierMessages.{peer_sent_from, components_of, has_a, is_a, sent_by, since_quiet}
+use Rattle.tcap_refute.specs.FirstComponent.{answers_nothing_in, first_component, first_where, is_wrong_in}
 use Rattle.tcap_refute.specs.FirstKinds.{answers_none}
 use Rattle.tcap_refute.specs.Kind.{answers_none_of, is_unknown_operation, no_class_allows}
-use Rattle.tcap_faults.specs.declared.dialogue.half_origin.How.TheVariants.{Accepted, Refused, Begun, Unanswered, Nowhere}
+use Rattle.tcap_faults.specs.declared.dialogue.half_origin.HalfOrigin.TheVariants.{Accepted, Refused, Begun, Unanswered, Nowhere}
 use Rattle.tcap_faults.specs.Counts.{is_nothing}
-use Rattle.tcap_faults.specs.SentToId.{begin_from, begins_from, goes_on_to, is_abort_with, tells_to, told, was_refused}
+use Rattle.tcap_faults.specs.SentToId.{begin_from, is_begin_from, is_continue_to, is_abort_with, is_outgoing_to, outgoing, was_refused}
 use Rattle.tcap_faults.specs.TangledIds.{goes_to_begun}
-use Rattle.tcap_faults.specs.HalfByPeerId.{accepted_half, answered_from, begun_from, begun_half, continued_to, half_by, half_of, heard_of}
+use Rattle.tcap_faults.specs.HalfByPeerId.{accepted_half, answered_from, begun_from, begun_half, continued_to, half_by, half_of, incoming_continues}
 use Rattle.tcap_faults.specs.FaultSubject.{alone_component, half_component, subject, subject_by}
-use Rattle.tcap_faults.specs.RelevantItems.{matters, those_for, those_for_entry}
+use Rattle.tcap_faults.specs.RelevantItems.{matters_for_half, items_for_half, items_for_entry}
 use Rattle.tcap_faults.proofs.verdict_laws.SubjectLaws.{alone_is, half_is}
 use Rattle.tcap_faults.proofs.list_laws.TwoTests.{any_kept}
 use Rattle.std.proofs.lemmas.Bool.{and_parts, or_right}
@@ -58,14 +58,14 @@ since_all (Item.Quiet ∷ items) none = cc
 
 module _ (side : Side) (id : List ℕ) where
   abbrev those : List Item → List Item
-  those items = filter (matters side id) items
+  those items = filter (matters_for_half side id) items
 
   -- ---- quiet marks are kept
 
   quiet_stays : (items : List Item) → has_quiet (those items) ≡ has_quiet items
   quiet_stays [] = refl
   quiet_stays (Item.Quiet ∷ items) = refl
-  quiet_stays (Sent sender m ∷ items) = by (matters side id (Sent sender m)) (quiet_stays items)
+  quiet_stays (Sent sender m ∷ items) = by (matters_for_half side id (Sent sender m)) (quiet_stays items)
     where
       by : (b : Bool) → has_quiet (those items) ≡ has_quiet items
           → has_quiet (cond b (Sent sender m ∷ those items) (those items)) ≡ has_quiet items
@@ -76,9 +76,9 @@ module _ (side : Side) (id : List ℕ) where
   since_those [] = refl
   since_those (Item.Quiet ∷ items) = since_those items
   since_those (Sent sender m ∷ items) =
-      by (matters side id (Sent sender m)) refl (has_quiet items) refl (quiet_stays items) (since_those items)
+      by (matters_for_half side id (Sent sender m)) refl (has_quiet items) refl (quiet_stays items) (since_those items)
     where
-      by : (b : Bool) → matters side id (Sent sender m) ≡ b → (q : Bool) → has_quiet items ≡ q
+      by : (b : Bool) → matters_for_half side id (Sent sender m) ≡ b → (q : Bool) → has_quiet items ≡ q
           → has_quiet (those items) ≡ has_quiet items → since_quiet (those items) ≡ those (since_quiet items)
           → since_quiet (cond b (Sent sender m ∷ those items) (those items))
           ≡ those (cond q (since_quiet items) (Sent sender m ∷ items))
@@ -97,18 +97,18 @@ module _ (side : Side) (id : List ℕ) where
   -- If each message that passes matters, the same messages pass among those that matter.
   module _ (test : Message → Bool) where
     passed : (end : Side)
-        → ((m : Message) (sender : Side) → test m ≡ true → is_side end sender ≡ true → matters side id (Sent sender m) ≡ true)
+        → ((m : Message) (sender : Side) → test m ≡ true → is_side end sender ≡ true → matters_for_half side id (Sent sender m) ≡ true)
         → (items : List Item) → filter test (sent_by end (those items)) ≡ filter test (sent_by end items)
     passed end so [] = refl
     passed end so (Item.Quiet ∷ items) = passed end so items
     passed end so (Sent sender m ∷ items) =
-        by (is_side end sender) refl (test m) refl (matters side id (Sent sender m)) (so m sender) (passed end so items)
+        by (is_side end sender) refl (test m) refl (matters_for_half side id (Sent sender m)) (so m sender) (passed end so items)
       where
         by : (s : Bool) → is_side end sender ≡ s → (t : Bool) → test m ≡ t → (b : Bool)
             → (test m ≡ true → is_side end sender ≡ true → b ≡ true)
             → filter test (sent_by end (those items)) ≡ filter test (sent_by end items)
             → filter test (sent_by end (cond b (Sent sender m ∷ those items) (those items)))
-            ≡ filter test (cons_option (where_so s (Some m)) (sent_by end items))
+            ≡ filter test (cons_option (only_if s (Some m)) (sent_by end items))
         by true is true passes true must rest = rw (is, passes) (ap (λ ms. m ∷ ms) rest)
         by true is true passes false must rest = let never = must passes is in cc
         by true is false passes true must rest = rw (is, passes) rest
@@ -117,40 +117,40 @@ module _ (side : Side) (id : List ℕ) where
         by false is t passes false must rest = rest
 
   peer_matters : (m : Message) (sender : Side) → is_id id (otid_in m) ≡ true → is_side (other side) sender ≡ true
-      → matters side id (Sent sender m) ≡ true
+      → matters_for_half side id (Sent sender m) ≡ true
   peer_matters m sender so is = by side sender is
     where
-      by : (s t : Side) → is_side (other s) t ≡ true → matters s id (Sent t m) ≡ true
+      by : (s t : Side) → is_side (other s) t ≡ true → matters_for_half s id (Sent t m) ≡ true
       by sides.A sides.A is = cc
       by sides.A sides.B is = so
       by sides.B sides.A is = so
       by sides.B sides.B is = cc
 
   own_matters : (m : Message) (sender : Side) → (is_a forms.Begin m || is_id id (dtid_in m)) ≡ true
-      → is_side side sender ≡ true → matters side id (Sent sender m) ≡ true
+      → is_side side sender ≡ true → matters_for_half side id (Sent sender m) ≡ true
   own_matters m sender so is = by side sender is
     where
-      by : (s t : Side) → is_side s t ≡ true → matters s id (Sent t m) ≡ true
+      by : (s t : Side) → is_side s t ≡ true → matters_for_half s id (Sent t m) ≡ true
       by sides.A sides.A is = so
       by sides.A sides.B is = cc
       by sides.B sides.A is = cc
       by sides.B sides.B is = so
 
   to_matters : (m : Message) (sender : Side) (b : Bool) → (is_id id (dtid_in m) && b) ≡ true → is_side side sender ≡ true
-      → matters side id (Sent sender m) ≡ true
+      → matters_for_half side id (Sent sender m) ≡ true
   to_matters m sender b so = own_matters m sender (or_right (is_a forms.Begin m) _ (and_parts (is_id id (dtid_in m)) b so).0)
 
   begin_matters : (m : Message) (sender : Side) (b : Bool) → (is_a forms.Begin m && b) ≡ true → is_side side sender ≡ true
-      → matters side id (Sent sender m) ≡ true
+      → matters_for_half side id (Sent sender m) ≡ true
   begin_matters m sender b so =
       own_matters m sender (ap (λ x. x || is_id id (dtid_in m)) (and_parts (is_a forms.Begin m) b so).0)
 
   module _ (items : List Item) where
-    same_asked : asked side id (those items) ≡ asked side id items
+    same_asked : peer_sent_from side id (those items) ≡ peer_sent_from side id items
     same_asked = passed (λ m. is_id id (otid_in m)) (other side) peer_matters items
 
-    same_told : told side id (those items) ≡ told side id items
-    same_told = passed (tells_to id) side (λ m sender so. to_matters m sender _ so) items
+    same_outgoing : outgoing side id (those items) ≡ outgoing side id items
+    same_outgoing = passed (is_outgoing_to id) side (λ m sender so. to_matters m sender _ so) items
 
     same_refused : was_refused side id (those items) ≡ was_refused side id items
     same_refused =
@@ -160,9 +160,9 @@ module _ (side : Side) (id : List ℕ) where
 
     same_begin : (own : List ℕ) → begin_from side own (those items) ≡ begin_from side own items
     same_begin own =
-        find_first (begins_from own) (sent_by side (those items))
-        ∙ ap first_of (passed (begins_from own) side (λ m sender so. begin_matters m sender _ so) items)
-        ∙ sym (find_first (begins_from own) (sent_by side items))
+        find_first (is_begin_from own) (sent_by side (those items))
+        ∙ ap first_of (passed (is_begin_from own) side (λ m sender so. begin_matters m sender _ so) items)
+        ∙ sym (find_first (is_begin_from own) (sent_by side items))
 
     same_goes : (m : Message) → goes_to_begun side (those items) m ≡ goes_to_begun side items m
     same_goes (Continue otid dtid dialogue components) = ap is_some (same_begin dtid)
@@ -171,23 +171,23 @@ module _ (side : Side) (id : List ℕ) where
     -- ---- the half
 
     same_own : begun_from side (those items) id ≡ begun_from side items id
-    same_own = λ i. then_so (find (λ m. same_goes m i) (same_asked i)) dtid_in
+    same_own = λ i. option_then (find (λ m. same_goes m i) (same_asked i)) dtid_in
 
     same_answered : answered_from side (those items) id ≡ answered_from side items id
-    same_answered = ap (λ ms. then_so (find (is_a forms.Continue) ms) otid_in) same_told
+    same_answered = ap (λ ms. option_then (find (is_a forms.Continue) ms) otid_in) same_outgoing
 
     same_continued : (own : Option (List ℕ)) → continued_to side (those items) id own ≡ continued_to side items id own
     same_continued None = refl
-    same_continued (Some own) = ap (filter (goes_on_to own)) same_asked
+    same_continued (Some own) = ap (filter (is_continue_to own)) same_asked
 
     same_accepted : accepted_half side (those items) id ≡ accepted_half side items id
     same_accepted = λ i. record {
-      how = cond (same_refused i) Refused Accepted;
+      origin = cond (same_refused i) Refused Accepted;
       own = same_answered i;
       begin = find (is_a forms.Begin) (same_asked i);
-      heard = components_of (option_to_list (find (is_a forms.Begin) (same_asked i)) ++ continued i);
-      told = components_of (same_told i);
-      invoked = components_of (same_told i);
+      incoming = components_of (option_to_list (find (is_a forms.Begin) (same_asked i)) ++ continued i);
+      outgoing = components_of (same_outgoing i);
+      invoked = components_of (same_outgoing i);
     }
       where
         continued : continued_to side (those items) id (answered_from side (those items) id)
@@ -197,17 +197,17 @@ module _ (side : Side) (id : List ℕ) where
 
     same_begun : (own : List ℕ) → begun_half side (those items) id own ≡ begun_half side items id own
     same_begun own = λ i. record {
-      how = cond (is_nothing (heard i)) Unanswered Begun;
+      origin = cond (is_nothing (incoming i)) Unanswered Begun;
       own = Some own;
       begin = same_begin own i;
-      heard = components_of (heard i);
-      told = components_of (same_told i);
-      invoked = components_of (option_to_list (same_begin own i) ++ same_told i);
+      incoming = components_of (incoming i);
+      outgoing = components_of (same_outgoing i);
+      invoked = components_of (option_to_list (same_begin own i) ++ same_outgoing i);
     }
       where
-        heard : heard_of (begin_from side own (those items)) (continued_to side (those items) id (Some own))
-            ≡ heard_of (begin_from side own items) (continued_to side items id (Some own))
-        heard = ap₂ heard_of (same_begin own) (same_continued (Some own))
+        incoming : incoming_continues (begin_from side own (those items)) (continued_to side (those items) id (Some own))
+            ≡ incoming_continues (begin_from side own items) (continued_to side items id (Some own))
+        incoming = ap₂ incoming_continues (same_begin own) (same_continued (Some own))
 
     same_by : (b : Bool) (own : Option (List ℕ)) → half_by side (those items) id b own ≡ half_by side items id b own
     same_by true own = same_accepted
@@ -217,7 +217,7 @@ module _ (side : Side) (id : List ℕ) where
     pub same_half : half_of side (those items) id ≡ half_of side items id
     same_half =
         ap₂ (half_by side (those items) id) (ap (has_a forms.Begin) same_asked) same_own
-        ∙ same_by (has_a forms.Begin (asked side id items)) (begun_from side items id)
+        ∙ same_by (has_a forms.Begin (peer_sent_from side id items)) (begun_from side items id)
 
 -- ---- the component
 
@@ -227,8 +227,8 @@ module _ (of_one : Bool) (table : Table) (side : Side) where
       → ((c : Component) → answers_nothing_in of_one side xs m c ≡ answers_nothing_in of_one side ys m c)
       → ((c : Component) → is_wrong_in table side xs m c ≡ is_wrong_in table side ys m c)
       → first_component of_one table side xs m kind ≡ first_component of_one table side ys m kind
-  same_first xs ys m kinds.AnswersNothing answers wrong = λ i. first_so (λ c. answers c i) 0 (components_in m)
-  same_first xs ys m kinds.WrongOperation answers wrong = λ i. first_so (λ c. wrong c i) 0 (components_in m)
+  same_first xs ys m kinds.AnswersNothing answers wrong = λ i. first_where (λ c. answers c i) 0 (components_in m)
+  same_first xs ys m kinds.WrongOperation answers wrong = λ i. first_where (λ c. wrong c i) 0 (components_in m)
   same_first xs ys m kind answers wrong = refl
 
   module _ (items : List Item) where
@@ -237,7 +237,7 @@ module _ (of_one : Bool) (table : Table) (side : Side) where
         → first_component of_one table side (those side id items) m kind ≡ first_component of_one table side items m kind
     asked_first id m kind to = same_first (those side id items) items m kind (answers m to) (wrong m to)
       where
-        asks : (dtid : List ℕ) → Some id ≡ Some dtid → asked side dtid (those side id items) ≡ asked side dtid items
+        asks : (dtid : List ℕ) → Some id ≡ Some dtid → peer_sent_from side dtid (those side id items) ≡ peer_sent_from side dtid items
         asks dtid to = rw (← same_Some id dtid to) (same_asked side id items)
 
         answers : (m : Message) → Some id ≡ dtid_in m → (c : Component)
@@ -267,7 +267,7 @@ module _ (of_one : Bool) (table : Table) (side : Side) where
     same_subject id m kind to =
         sym (half_is of_one table side (those side id items) kind m id to)
         ∙ (λ i. record {
-          how = (same_half side id items i).how;
+          origin = (same_half side id items i).origin;
           own = (same_half side id items i).own;
           component = option_or (asked_first id m kind to i)
               (half_component table (same_half side id items i) (components_in m) kind);
@@ -280,7 +280,7 @@ module _ (of_one : Bool) (table : Table) (side : Side) where
     alone_same m kind none =
         sym (alone_is of_one table side [] kind m none)
         ∙ ap (λ first. record {
-          how = Nowhere;
+          origin = Nowhere;
           own = None;
           component = option_or first (alone_component (components_in m) kind);
         }) (same_first [] items m kind (answers m none) (wrong m none))
@@ -300,7 +300,7 @@ module _ (of_one : Bool) (table : Table) (side : Side) where
 
   -- The subject of a message after the items that matter is its subject after all items.
   matters_for : (items : List Item) (m : Message) (kind : Kind) (o : Option (List ℕ)) → o ≡ dtid_in m
-      → subject of_one table side (since_quiet (those_for side o items)) m kind
+      → subject of_one table side (since_quiet (items_for_half side o items)) m kind
       ≡ subject of_one table side (since_quiet items) m kind
   matters_for items m kind None to = alone_same (since_quiet items) m kind to
   matters_for items m kind (Some id) to =
@@ -308,7 +308,7 @@ module _ (of_one : Bool) (table : Table) (side : Side) where
       ∙ same_subject (since_quiet items) id m kind to
 
   pub matters_alone : (items : List Item) (r : Result Item Reason) (kind : Kind)
-      → subject_by of_one table side (since_quiet (those_for_entry side r items)) (Some r) kind
+      → subject_by of_one table side (since_quiet (items_for_entry side r items)) (Some r) kind
       ≡ subject_by of_one table side (since_quiet items) (Some r) kind
   matters_alone items (Ok (Sent sender m)) kind = matters_for items m kind (dtid_in m) refl
   matters_alone items r kind = refl

@@ -17,144 +17,144 @@ use Rattle.tcap_refute.specs.declared.kind.Kind.{Kind}
 use Rattle.tcap_refute.specs.declared.kind.Refutation.{Refutation}
 use Rattle.tcap_refute.specs.EarlierMessages.{since_quiet}
 use Rattle.tcap_refute.specs.Kind.{refutation_at}
-use Rattle.tcap_faults.specs.declared.verdict.first_fault.Looking.{Looking}
+use Rattle.tcap_faults.specs.declared.verdict.first_fault.EndSearch.{EndSearch}
 use Rattle.tcap_faults.specs.declared.verdict.first_fault.SearchState.{SearchState}
 use Rattle.tcap_faults.specs.declared.transaction.history.Facts.{Facts}
 use Rattle.tcap_faults.specs.Fault.{bad_entry_of, blamed, blamed_behind, fault_since}
-use Rattle.tcap_faults.specs.SearchState.{AreCounted, AreRoomy, IsFound, IsKept, IsTaken, Takes, components_in_all, looking_at, looking_bad, looking_behind, looking_first, looking_on, looking_put, looking_with}
+use Rattle.tcap_faults.specs.SearchState.{AreCounted, AreRoomy, IsFound, IsHalfKey, IsTaken, Takes, components_in_all, search_of, search_after_bad, search_after_item, search_begun, search_continued, with_search, search_ended}
 use Rattle.tcap_faults.proofs.component_laws.FewComponentsLaws.{counted_roomy, more_counted, none_counted}
 use Rattle.tcap_faults.proofs.verdict_laws.NextEntryLaws.{peer_alone}
 
-abbrev look : Bool → Option Refutation → Looking
+abbrev look : Bool → Option Refutation → EndSearch
 look is_over found = record { is_over = is_over; found = found }
 
 -- ---- an item is judged
 
 -- If an item is no fault of an end, the state does not change.
 still : (number : ℕ) (kind : Option Kind) (is_over : Bool) (found : Option Refutation) → kind ≡ None
-    → looking_on number kind (look is_over found) ≡ look is_over found
+    → search_continued number kind (look is_over found) ≡ look is_over found
 still number kind is_over found none = grind (arith, none)
 
 -- If the search is over, the state does not change.
-over_still : (table : Table) (items : List Item) (number : ℕ) (item : Item) (side : Side) (looking : Looking)
-    → looking.is_over ≡ true → looking_behind table items number item side looking ≡ looking
-over_still table items number item side looking over =
-    ap (λ b. cond b looking (looking_with number (fault_since table side (since_quiet items) item) looking)) over
+over_still : (table : Table) (items : List Item) (number : ℕ) (item : Item) (side : Side) (end_search : EndSearch)
+    → end_search.is_over ≡ true → search_after_item table items number item side end_search ≡ end_search
+over_still table items number item side end_search over =
+    ap (λ b. cond b end_search (search_ended number (fault_since table side (since_quiet items) item) end_search)) over
 
 -- Otherwise the state has what was found in the item.
-looked_on : (table : Table) (items : List Item) (number : ℕ) (item : Item) (side : Side) (looking : Looking)
-    (kind : Option Kind) → looking.is_over ≡ false → kind ≡ fault_since table side (since_quiet items) item
-    → looking_behind table items number item side looking ≡ looking_with number kind looking
-looked_on table items number item side looking kind over is =
-    ap (λ b. cond b looking (looking_with number (fault_since table side (since_quiet items) item) looking)) over
-    ∙ ap (λ k. looking_with number k looking) (sym is)
+looked_on : (table : Table) (items : List Item) (number : ℕ) (item : Item) (side : Side) (end_search : EndSearch)
+    (kind : Option Kind) → end_search.is_over ≡ false → kind ≡ fault_since table side (since_quiet items) item
+    → search_after_item table items number item side end_search ≡ search_ended number kind end_search
+looked_on table items number item side end_search kind over is =
+    ap (λ b. cond b end_search (search_ended number (fault_since table side (since_quiet items) item) end_search)) over
+    ∙ ap (λ k. search_ended number k end_search) (sym is)
 
-peer_still : (table : Table) (items : List Item) (number : ℕ) (sender : Side) (m : Message) (side : Side) (looking : Looking)
-    → is_side side sender ≡ false → looking_behind table items number (Sent sender m) side looking ≡ looking
-peer_still table items number sender m side looking is =
-    still number _ looking.is_over looking.found (peer_alone table side sender (since_quiet items) m is)
+peer_still : (table : Table) (items : List Item) (number : ℕ) (sender : Side) (m : Message) (side : Side) (end_search : EndSearch)
+    → is_side side sender ≡ false → search_after_item table items number (Sent sender m) side end_search ≡ end_search
+peer_still table items number sender m side end_search is =
+    still number _ end_search.is_over end_search.found (peer_alone table side sender (since_quiet items) m is)
 
 -- ---- a message of an end
 
 -- The state of the sender is updated, and that of the other end did not change.
 pub record IsLookedAt (table : Table) (items : List Item) (number : ℕ) (sender : Side) (m : Message) (old new : SearchState) : Type 0 where
   pub kept : new.kept ≡ old.kept
-  pub own : looking_at sender new ≡ looking_behind table items number (Sent sender m) sender (looking_at sender old)
-  pub peer : (side : Side) → is_side side sender ≡ false → looking_at side new ≡ looking_at side old
+  pub own : search_of sender new ≡ search_after_item table items number (Sent sender m) sender (search_of sender old)
+  pub peer : (side : Side) → is_side side sender ≡ false → search_of side new ≡ search_of side old
 
-put_kept : (side : Side) (looking : Looking) (old : SearchState) → (looking_put side looking old).kept ≡ old.kept
-put_kept side looking old = grind arith
+put_kept : (side : Side) (end_search : EndSearch) (old : SearchState) → (with_search side end_search old).kept ≡ old.kept
+put_kept side end_search old = grind arith
 
-put_own : (side : Side) (looking : Looking) (old : SearchState) → looking_at side (looking_put side looking old) ≡ looking
-put_own side looking old = grind arith
+put_own : (side : Side) (end_search : EndSearch) (old : SearchState) → search_of side (with_search side end_search old) ≡ end_search
+put_own side end_search old = grind arith
 
-put_peer : (side sender : Side) (looking : Looking) (old : SearchState) → is_side side sender ≡ false
-    → looking_at side (looking_put sender looking old) ≡ looking_at side old
-put_peer side sender looking old is = grind (arith, is)
+put_peer : (side sender : Side) (end_search : EndSearch) (old : SearchState) → is_side side sender ≡ false
+    → search_of side (with_search sender end_search old) ≡ search_of side old
+put_peer side sender end_search old is = grind (arith, is)
 
 -- If the search for the sender is not over.
 pub looked_put : (table : Table) (items : List Item) (number : ℕ) (sender : Side) (m : Message) (old : SearchState)
-    (looking with_it : Looking) (kind : Option Kind) → looking ≡ looking_at sender old → looking.is_over ≡ false
-    → kind ≡ fault_since table sender (since_quiet items) (Sent sender m) → with_it ≡ looking_with number kind looking
-    → IsLookedAt table items number sender m old (looking_put sender with_it old)
-looked_put table items number sender m old looking with_it kind same over is put = record {
+    (end_search with_it : EndSearch) (kind : Option Kind) → end_search ≡ search_of sender old → end_search.is_over ≡ false
+    → kind ≡ fault_since table sender (since_quiet items) (Sent sender m) → with_it ≡ search_ended number kind end_search
+    → IsLookedAt table items number sender m old (with_search sender with_it old)
+looked_put table items number sender m old end_search with_it kind same over is put = record {
   kept = put_kept sender with_it old;
   own =
       put_own sender with_it old
       ∙ put
-      ∙ sym (looked_on table items number (Sent sender m) sender looking kind over is)
-      ∙ ap (looking_behind table items number (Sent sender m) sender) same;
+      ∙ sym (looked_on table items number (Sent sender m) sender end_search kind over is)
+      ∙ ap (search_after_item table items number (Sent sender m) sender) same;
   peer = λ side apart. put_peer side sender with_it old apart;
 }
 
 -- If the search for the sender is over.
 pub looked_over : (table : Table) (items : List Item) (number : ℕ) (sender : Side) (m : Message) (old : SearchState)
-    (looking : Looking) → looking ≡ looking_at sender old → looking.is_over ≡ true
+    (end_search : EndSearch) → end_search ≡ search_of sender old → end_search.is_over ≡ true
     → IsLookedAt table items number sender m old old
-looked_over table items number sender m old looking same over = record {
+looked_over table items number sender m old end_search same over = record {
   kept = refl;
   own =
-      sym (over_still table items number (Sent sender m) sender (looking_at sender old) (sym (ap (λ l. l.is_over) same) ∙ over));
+      sym (over_still table items number (Sent sender m) sender (search_of sender old) (sym (ap (λ l. l.is_over) same) ∙ over));
   peer = λ side apart. refl;
 }
 
 pub message_taken : (table : Table) (items : List Item) (number : ℕ) (sender : Side) (m : Message) (old new : SearchState)
-    (kept : Facts) → IsLookedAt table items number sender m old new → IsKept table (items ++ Sent sender m ∷ []) kept
+    (kept : Facts) → IsLookedAt table items number sender m old new → IsHalfKey table (items ++ Sent sender m ∷ []) kept
     → IsTaken table items number (Sent sender m) old (record { kept = kept; a = new.a; b = new.b })
 message_taken table items number sides.A m old new kept looked are = record {
   are = are;
-  looking = by;
+  end_search = by;
 }
   where
-    by : (side : Side) → looking_at side (record { kept = kept; a = new.a; b = new.b })
-        ≡ looking_behind table items number (Sent sides.A m) side (looking_at side old)
+    by : (side : Side) → search_of side (record { kept = kept; a = new.a; b = new.b })
+        ≡ search_after_item table items number (Sent sides.A m) side (search_of side old)
     by sides.A = looked.own
     by sides.B = looked.peer sides.B refl ∙ sym (peer_still table items number sides.A m sides.B old.b refl)
 message_taken table items number sides.B m old new kept looked are = record {
   are = are;
-  looking = by;
+  end_search = by;
 }
   where
-    by : (side : Side) → looking_at side (record { kept = kept; a = new.a; b = new.b })
-        ≡ looking_behind table items number (Sent sides.B m) side (looking_at side old)
+    by : (side : Side) → search_of side (record { kept = kept; a = new.a; b = new.b })
+        ≡ search_after_item table items number (Sent sides.B m) side (search_of side old)
     by sides.A = looked.peer sides.A refl ∙ sym (peer_still table items number sides.B m sides.A old.a refl)
     by sides.B = looked.own
 
-pub mark_taken : (table : Table) (items : List Item) (number : ℕ) (old : SearchState) (kept : Facts) (a b : Looking)
-    → IsKept table (items ++ Item.Quiet ∷ []) kept → a ≡ looking_behind table items number Item.Quiet sides.A old.a
-    → b ≡ looking_behind table items number Item.Quiet sides.B old.b
+pub mark_taken : (table : Table) (items : List Item) (number : ℕ) (old : SearchState) (kept : Facts) (a b : EndSearch)
+    → IsHalfKey table (items ++ Item.Quiet ∷ []) kept → a ≡ search_after_item table items number Item.Quiet sides.A old.a
+    → b ≡ search_after_item table items number Item.Quiet sides.B old.b
     → IsTaken table items number Item.Quiet old (record { kept = kept; a = a; b = b })
 mark_taken table items number old kept a b are is_a is_b = record {
   are = are;
-  looking = by;
+  end_search = by;
 }
   where
-    by : (side : Side) → looking_at side (record { kept = kept; a = a; b = b })
-        ≡ looking_behind table items number Item.Quiet side (looking_at side old)
+    by : (side : Side) → search_of side (record { kept = kept; a = a; b = b })
+        ≡ search_after_item table items number Item.Quiet side (search_of side old)
     by sides.A = is_a
     by sides.B = is_b
 
 -- ---- the entries
 
 -- The entries, each with its end.
-abbrev told : List Entry → List (Option Side × Result Item Reason)
-told entries = map (λ e. (e.side, item_of e)) entries
+abbrev outgoing : List Entry → List (Option Side × Result Item Reason)
+outgoing entries = map (λ e. (e.side, item_of e)) entries
 
 -- The next entry, with those after it.
-abbrev told_at : List Entry → ℕ → Entry → List (Option Side × Result Item Reason)
-told_at entries number entry = (entry.side, item_of entry) ∷ told (drop (number + 1) entries)
+abbrev outgoing_at : List Entry → ℕ → Entry → List (Option Side × Result Item Reason)
+outgoing_at entries number entry = (entry.side, item_of entry) ∷ outgoing (drop (number + 1) entries)
 
-next_told : (entries : List Entry) (number : ℕ) (entry : Entry) → number < length entries
-    → entry ≡ get_or entries number entry → told (drop number entries) ≡ told_at entries number entry
-next_told entries number entry there is =
+next_outgoing : (entries : List Entry) (number : ℕ) (entry : Entry) → number < length entries
+    → entry ≡ get_or entries number entry → outgoing (drop number entries) ≡ outgoing_at entries number entry
+next_outgoing entries number entry there is =
     let e : drop number entries ≡ get_or entries number entry ∷ drop (suc number) entries = drop-cons entries number entry there in
     let f : drop (suc number) entries ≡ drop (number + 1) entries = ap (λ k. drop k entries) (suc-eq-add-one number) in
-    ap told (e ∙ ap (λ xs. get_or entries number entry ∷ xs) f ∙ ap (λ x. x ∷ drop (number + 1) entries) (sym is))
+    ap outgoing (e ∙ ap (λ xs. get_or entries number entry ∷ xs) f ∙ ap (λ x. x ∷ drop (number + 1) entries) (sym is))
 
 -- ---- what is known of an end
 
 first_found : (table : Table) (side : Side) (entries : List Entry) (asked : Bool) → asked ≡ true
-    → IsFound table side entries [] 0 (looking_first asked)
+    → IsFound table side entries [] 0 (search_begun asked)
 first_found table side entries true is = (refl, refl)
 first_found table side entries false is = cc
 
@@ -168,47 +168,47 @@ module _ (table : Table) (side : Side) (entries : List Entry) (items : List Item
       → drop number entries ≡ [] → found ≡ blamed table side entries
   end_found true found known nothing = known
   end_found false found (none, left) nothing =
-      none ∙ sym (ap (λ xs. blamed_behind table side items number (told xs)) nothing) ∙ left
+      none ∙ sym (ap (λ xs. blamed_behind table side items number (outgoing xs)) nothing) ∙ left
 
   -- If nothing was found before, the next entry decides.
   module _ (entry : Entry) (there : number < length entries) (is : entry ≡ get_or entries number entry) where
-    next_left : blamed_behind table side items number (told (drop number entries)) ≡ blamed table side entries
-        → blamed_behind table side items number (told_at entries number entry) ≡ blamed table side entries
-    next_left left = sym (ap (blamed_behind table side items number) (next_told entries number entry there is)) ∙ left
+    next_left : blamed_behind table side items number (outgoing (drop number entries)) ≡ blamed table side entries
+        → blamed_behind table side items number (outgoing_at entries number entry) ≡ blamed table side entries
+    next_left left = sym (ap (blamed_behind table side items number) (next_outgoing entries number entry there is)) ∙ left
 
     -- The next entry is no item.
-    bad_found : (reason : Reason) → item_of entry ≡ Err reason → (is_over : Bool) (found : Option Refutation) (new : Looking)
+    bad_found : (reason : Reason) → item_of entry ≡ Err reason → (is_over : Bool) (found : Option Refutation) (new : EndSearch)
         → IsFound table side entries items number (look is_over found)
-        → new ≡ looking_bad number entry.side reason side (look is_over found) → new.found ≡ blamed table side entries
+        → new ≡ search_after_bad number entry.side reason side (look is_over found) → new.found ≡ blamed table side entries
     bad_found reason bad true found new known so = ap (λ l. l.found) so ∙ known
     bad_found reason bad false found new (none, left) so =
         ap (λ l. l.found) so
         ∙ by (bad_entry_of side entry.side reason)
-        ∙ sym (ap (λ r. blamed_behind table side items number ((entry.side, r) ∷ told (drop (number + 1) entries))) bad)
+        ∙ sym (ap (λ r. blamed_behind table side items number ((entry.side, r) ∷ outgoing (drop (number + 1) entries))) bad)
         ∙ next_left left
       where
-        by : (kind : Option Kind) → (looking_with number kind (look false found)).found ≡ refutation_at number kind
+        by : (kind : Option Kind) → (search_ended number kind (look false found)).found ≡ refutation_at number kind
         by None = none
         by (Some kind) = refl
 
     -- The next entry is an item.
-    next_found : (item : Item) → item_of entry ≡ Ok item → (is_over : Bool) (found : Option Refutation) (new : Looking)
+    next_found : (item : Item) → item_of entry ≡ Ok item → (is_over : Bool) (found : Option Refutation) (new : EndSearch)
         → IsFound table side entries items number (look is_over found)
-        → new ≡ looking_behind table items number item side (look is_over found)
+        → new ≡ search_after_item table items number item side (look is_over found)
         → IsFound table side entries (items ++ item ∷ []) (number + 1) new
     next_found item good true found new known so =
-        subst (λ (l : Looking). IsFound table side entries (items ++ item ∷ []) (number + 1) l) (sym so) known
+        subst (λ (l : EndSearch). IsFound table side entries (items ++ item ∷ []) (number + 1) l) (sym so) known
     next_found item good false found new (none, left) so =
-        subst (λ (l : Looking). IsFound table side entries (items ++ item ∷ []) (number + 1) l) (sym so)
+        subst (λ (l : EndSearch). IsFound table side entries (items ++ item ∷ []) (number + 1) l) (sym so)
         (by (fault_since table side (since_quiet items) item)
-        (sym (ap (λ r. blamed_behind table side items number ((entry.side, r) ∷ told (drop (number + 1) entries))) good)
+        (sym (ap (λ r. blamed_behind table side items number ((entry.side, r) ∷ outgoing (drop (number + 1) entries))) good)
         ∙ next_left left))
       where
         rest : Option Refutation
-        rest = blamed_behind table side (items ++ item ∷ []) (number + 1) (told (drop (number + 1) entries))
+        rest = blamed_behind table side (items ++ item ∷ []) (number + 1) (outgoing (drop (number + 1) entries))
 
         by : (kind : Option Kind) → option_or (refutation_at number kind) rest ≡ blamed table side entries
-            → IsFound table side entries (items ++ item ∷ []) (number + 1) (looking_with number kind (look false found))
+            → IsFound table side entries (items ++ item ∷ []) (number + 1) (search_ended number kind (look false found))
         by None is = (none, is)
         by (Some kind) is = is
 
@@ -217,21 +217,21 @@ module _ (table : Table) (side : Side) (entries : List Entry) (items : List Item
 -- What is known of the ends that are asked for, after `number` entries.
 pub record IsSearched (table : Table) (entries : List Entry) (a b : Bool) (number : ℕ) (state : SearchState) : Type 0 where
   pub items : List Item
-  pub are : IsKept table items state.kept
+  pub are : IsHalfKey table items state.kept
   pub counted : AreCounted items number
   pub of_a : a ≡ true → IsFound table sides.A entries items number state.a
   pub of_b : b ≡ true → IsFound table sides.B entries items number state.b
 
-pub started : (table : Table) (entries : List Entry) (asked_a asked_b : Bool) (kept : Facts) (a b : Looking)
-    → IsKept table [] kept → a ≡ looking_first asked_a → b ≡ looking_first asked_b
+pub started : (table : Table) (entries : List Entry) (asked_a asked_b : Bool) (kept : Facts) (a b : EndSearch)
+    → IsHalfKey table [] kept → a ≡ search_begun asked_a → b ≡ search_begun asked_b
     → IsSearched table entries asked_a asked_b 0 (record { kept = kept; a = a; b = b })
 started table entries asked_a asked_b kept a b are is_a is_b = record {
   items = [];
   are = are;
   counted = none_counted;
-  of_a = λ asked. subst (λ (l : Looking). IsFound table sides.A entries [] 0 l) (sym is_a)
+  of_a = λ asked. subst (λ (l : EndSearch). IsFound table sides.A entries [] 0 l) (sym is_a)
       (first_found table sides.A entries asked_a asked);
-  of_b = λ asked. subst (λ (l : Looking). IsFound table sides.B entries [] 0 l) (sym is_b)
+  of_b = λ asked. subst (λ (l : EndSearch). IsFound table sides.B entries [] 0 l) (sym is_b)
       (first_found table sides.B entries asked_b asked);
 }
 
@@ -265,9 +265,9 @@ module _ (table : Table) (entries : List Entry) (a b : Bool) (number : ℕ) (sta
       are = taken.are;
       counted = more_counted so_far.items number so_far.counted item count (counted item good) small;
       of_a = λ asked. next_found table sides.A entries so_far.items number entry there is item good state.a.is_over
-          state.a.found new.a (so_far.of_a asked) (taken.looking sides.A);
+          state.a.found new.a (so_far.of_a asked) (taken.end_search sides.A);
       of_b = λ asked. next_found table sides.B entries so_far.items number entry there is item good state.b.is_over
-          state.b.found new.b (so_far.of_b asked) (taken.looking sides.B);
+          state.b.found new.b (so_far.of_b asked) (taken.end_search sides.B);
     }
 
     -- The search goes on.
@@ -281,8 +281,8 @@ module _ (table : Table) (entries : List Entry) (a b : Bool) (number : ℕ) (sta
             item_taken item good so.0
         by (Err reason) bad =
             let so : (true ≡ false) × ((side : Side)
-            → looking_at side new ≡ looking_bad number entry.side reason side (looking_at side state)) = rw bad at takes in
-            let (never, looking) = so in cc
+            → search_of side new ≡ search_after_bad number entry.side reason side (search_of side state)) = rw bad at takes in
+            let (never, end_search) = so in cc
 
     -- The search stops.
     pub searched_up : Takes table so_far.items number entry false state new
@@ -309,7 +309,7 @@ module _ (table : Table) (entries : List Entry) (a b : Bool) (number : ℕ) (sta
             )
         by (Err reason) bad =
             let so : (false ≡ false) × ((side : Side)
-            → looking_at side new ≡ looking_bad number entry.side reason side (looking_at side state)) = rw bad at takes in (
+            → search_of side new ≡ search_after_bad number entry.side reason side (search_of side state)) = rw bad at takes in (
               λ asked. bad_found table sides.A entries so_far.items number entry there is reason bad state.a.is_over
                   state.a.found new.a (so_far.of_a asked) (so.1 sides.A),
               λ asked. bad_found table sides.B entries so_far.items number entry there is reason bad state.b.is_over

@@ -18,13 +18,13 @@ use Rattle.tcap_refute.specs.declared.kind.Kind.{Kind}
 use Rattle.tcap_refute.specs.declared.kind.Refutation.{Refutation}
 use Rattle.tcap_refute.specs.EarlierMessages.{since_quiet}
 use Rattle.tcap_refute.specs.FirstComponent.{first_component}
-use Rattle.tcap_faults.specs.declared.dialogue.half_origin.How.{How}
-use Rattle.tcap_faults.specs.declared.dialogue.half_origin.How.TheVariants.{Nowhere}
+use Rattle.tcap_faults.specs.declared.dialogue.half_origin.HalfOrigin.{HalfOrigin}
+use Rattle.tcap_faults.specs.declared.dialogue.half_origin.HalfOrigin.TheVariants.{Nowhere}
 use Rattle.tcap_faults.specs.declared.transaction.history.Facts.{Facts}
 use Rattle.tcap_faults.specs.declared.verdict.fault_subject.Subject.{Subject}
 use Rattle.tcap_faults.specs.HalfByPeerId.{half_of}
 use Rattle.tcap_faults.specs.Replay.{items_up_to}
-use Rattle.tcap_faults.specs.SearchState.{AreRoomy, IsKept}
+use Rattle.tcap_faults.specs.SearchState.{AreRoomy, IsHalfKey}
 use Rattle.tcap_faults.specs.FaultSubject.{alone_component, half_component, items_among, no_subject, subject, subject_by, subject_of}
 use Rattle.tcap_faults.proofs.component_laws.FewComponentsLaws.{all_more}
 
@@ -33,7 +33,7 @@ use Rattle.tcap_faults.proofs.component_laws.FewComponentsLaws.{all_more}
 module _ (of_one : Bool) (table : Table) (side : Side) (items : List Item) (kind : Kind) where
   pub alone_is : (m : Message) → None ≡ dtid_in m
       → record {
-        how = Nowhere;
+        origin = Nowhere;
         own = None;
         component = option_or (first_component of_one table side items m kind) (alone_component (components_in m) kind);
       } ≡ subject of_one table side items m kind
@@ -41,7 +41,7 @@ module _ (of_one : Bool) (table : Table) (side : Side) (items : List Item) (kind
 
   pub half_is : (m : Message) (id : List ℕ) → Some id ≡ dtid_in m
       → record {
-        how = (half_of side items id).how;
+        origin = (half_of side items id).origin;
         own = (half_of side items id).own;
         component = option_or (first_component of_one table side items m kind)
             (half_component table (half_of side items id) (components_in m) kind);
@@ -54,23 +54,23 @@ module _ (of_one : Bool) (table : Table) (side : Side) (items : List Item) (kind
   module _ (m : Message) (first rest : Option ℕ) (is_first : first ≡ first_component of_one table side items m kind) where
     -- A message without destination ID.
     pub alone_subject : None ≡ dtid_in m → rest ≡ alone_component (components_in m) kind
-        → record { how = Nowhere; own = None; component = option_or first rest } ≡ subject of_one table side items m kind
+        → record { origin = Nowhere; own = None; component = option_or first rest } ≡ subject of_one table side items m kind
     alone_subject none is_rest =
         (λ i. record {
-          how = Nowhere;
+          origin = Nowhere;
           own = None;
           component = ap₂ option_or is_first is_rest i;
         })
         ∙ alone_is m none
 
     -- A message over a half.
-    pub half_subject : (id : List ℕ) (how : How) (own : Option (List ℕ)) → Some id ≡ dtid_in m
-        → how ≡ (half_of side items id).how → own ≡ (half_of side items id).own
+    pub half_subject : (id : List ℕ) (origin : HalfOrigin) (own : Option (List ℕ)) → Some id ≡ dtid_in m
+        → origin ≡ (half_of side items id).origin → own ≡ (half_of side items id).own
         → rest ≡ half_component table (half_of side items id) (components_in m) kind
-        → record { how = how; own = own; component = option_or first rest } ≡ subject of_one table side items m kind
-    half_subject id how own to is_how is_own is_rest =
+        → record { origin = origin; own = own; component = option_or first rest } ≡ subject of_one table side items m kind
+    half_subject id origin own to is_how is_own is_rest =
         (λ i. record {
-          how = is_how i;
+          origin = is_how i;
           own = is_own i;
           component = ap₂ option_or is_first is_rest i;
         })
@@ -101,7 +101,7 @@ sent_subject of_one table side items entry sender m kind r from is roomy so =
 
 -- A quiet mark is one more item.
 pub mark_noted : (table : Table) (items : List Item) (entry : Entry) (kept : Facts) → entry.side ≡ None → entry.body ≡ Quiet
-    → IsKept table (items ++ Item.Quiet ∷ []) kept → IsKept table (items ++ items_among (item_of entry ∷ [])) kept
+    → IsHalfKey table (items ++ Item.Quiet ∷ []) kept → IsHalfKey table (items ++ items_among (item_of entry ∷ [])) kept
 mark_noted table items entry kept from is are = rw (from, is) are
 
 -- ---- an entry of a record

@@ -16,18 +16,18 @@ use Rattle.tcap_end.specs.Step.{◌>>◌}
 use Rattle.tcap_end.specs.Table.{Table}
 use Rattle.tcap_end.specs.Half.{Half, closed_half, fresh, is_closed}
 use Rattle.tcap_end.specs.Component.{own_invocation}
-use Rattle.tcap_end.specs.Dialogue.{answers_request, first_standing, may_be_uni, may_begin}
-use Rattle.tcap_end.specs.End.{End, KeptHalf, is_id, named, put, with_own, with_peer}
+use Rattle.tcap_end.specs.Dialogue.{answers_request, first_dialogue_state, may_be_uni, may_begin}
+use Rattle.tcap_end.specs.End.{End, KeyedHalf, is_id, named, put, with_own, with_peer}
 use Rattle.tcap_end.specs.HiddenSteps.{close, expire, may_close, may_expire}
 use Rattle.tcap_end.specs.Message.{active_half, receive, receive_components, receive_end, receive_over, send, send_components, send_uni_components}
-use Rattle.tcap_end.specs.ReachableEnd.{Has, IsEnd}
+use Rattle.tcap_end.specs.ReachableEnd.{HasHalf, IsEnd}
 use Rattle.tcap_end.proofs.AnsweringLaws.{needs_ok, ok_same, some_ok, then_ok}
 use Rattle.tcap_end.proofs.ComponentLaws.{all_receives, all_sends}
 use Rattle.tcap_end.proofs.FoundLaws.{named_has, none_own, none_peer, own_has, is_that_id}
 use Rattle.tcap_end.proofs.StepLaws.{none_is}
 use Rattle.tcap_model.proofs.TurnLaws.{put_there}
 use Rattle.tcap_refute.specs.EarlierMessages.{ends_to}
-use Rattle.tcap_refute.proofs.HalfLawsTurns.{Accepts, Acts, Deed, Heard, Said, Starts, Turned, Unseen, acts_nowhere, answers, closes, learns, stays, new_acts, put_acts}
+use Rattle.tcap_refute.proofs.HalfLawsTurns.{Accepts, Acts, Deed, Heard, Said, Starts, Turned, Internal, acts_nowhere, answers, closes, learns, stays, new_acts, put_acts}
 use Rattle.tcap_refute.proofs.OverLaws.{IsOver, follows_stays, over}
 use Rattle.tcap_model.proofs.SentMoves.{own_is}
 
@@ -61,18 +61,18 @@ module _ (table : Table) (e next : End) (sound : IsEnd e) where
         phase = follows.phase;
         own = follows.own;
         peer = follows.peer;
-        standing = follows.standing;
+        dialogue_state = follows.dialogue_state;
       } in (g, new, ok_same {F = EndFault} _ next done)
     where
       start : Half
-      start = fresh phases.Sent (Some otid) None (first_standing dialogue)
+      start = fresh phases.Sent (Some otid) None (first_dialogue_state dialogue)
 
   begin_acts : (otid : List ℕ) (dialogue : Option Dialogue) (components : Option (List Component))
       → send table e (Begin otid dialogue components) ≡ Ok next
       → Acts table (Said (Begin otid dialogue components)) e next
   begin_acts otid dialogue components is =
       let (g, new, made) = begin_said otid dialogue components is in
-      let f : KeptHalf = record { slot = Begun; key = otid; half = g } in
+      let f : KeyedHalf = record { slot = Begun; key = otid; half = g } in
       subst (λ (y : End). Acts table (Said (Begin otid dialogue components)) e y) made
       (new_acts e f (λ g had slots keys. none_own e otid g new.free had (rw (slots, keys) at (sound.kept g had)))
       (inl new))
@@ -107,7 +107,7 @@ module _ (table : Table) (e next : End) (sound : IsEnd e) where
   accept_acts otid dialogue components is =
       let step = needs_ok (is_none (with_peer e otid)) faults.IdUsed _ next is in
       let follows = (all_receives table (items_of components) start).follows in
-      let f : KeptHalf =
+      let f : KeyedHalf =
       record { slot = Accepted; key = otid; half = receive_components table start (items_of components) } in
       let new : Accepts (Heard (Begin otid dialogue components)) e f = record {
         dialogue = dialogue;
@@ -118,22 +118,22 @@ module _ (table : Table) (e next : End) (sound : IsEnd e) where
         phase = follows.phase;
         own = follows.own;
         peer = follows.peer;
-        standing = follows.standing;
+        dialogue_state = follows.dialogue_state;
       } in
       acts_this e _ next
       (new_acts e f (λ g had slots keys. none_peer e otid g new.free had (rw (slots, keys) at (sound.kept g had)))
       (inr new)) step.1
     where
       start : Half
-      start = fresh phases.Received None (Some otid) (first_standing dialogue)
+      start = fresh phases.Received None (Some otid) (first_dialogue_state dialogue)
 
   -- A received Continue answers a half's Begin, or goes on with the half.
-  module _ (otid dtid : List ℕ) (dialogue : Option Dialogue) (components : Option (List Component)) (f : KeptHalf)
+  module _ (otid dtid : List ℕ) (dialogue : Option Dialogue) (components : Option (List Component)) (f : KeyedHalf)
       (found : with_own e dtid ≡ Some f) where
     abbrev said : Deed
     said = Heard (Continue otid dtid dialogue components)
 
-    learnt : (half : Half) → f.half.phase ≡ phases.Sent → answers_request f.half.standing dialogue ≡ true
+    learnt : (half : Half) → f.half.phase ≡ phases.Sent → answers_request f.half.dialogue_state dialogue ≡ true
         → Acts table said e
         (put e f.slot f.key (receive_components table (active_half Begun otid f.half) (items_of components)))
     learnt half at may =
@@ -152,34 +152,34 @@ module _ (table : Table) (e next : End) (sound : IsEnd e) where
           phase = follows.phase;
           own = follows.own ∙ own_is e dtid f found;
           peer = follows.peer;
-          standing = follows.standing;
+          dialogue_state = follows.dialogue_state;
           answers = may;
         }))
 
-    over_heard : (p : Phase) → f.half.phase ≡ p → receive_over table e otid dialogue (items_of components) f p ≡ Ok next
+    over_incoming : (p : Phase) → f.half.phase ≡ p → receive_over table e otid dialogue (items_of components) f p ≡ Ok next
         → Acts table said e next
-    over_heard phases.Sent at is =
+    over_incoming phases.Sent at is =
         let free = needs_ok (is_none (with_peer e otid)) faults.IdUsed _ next is in
-        let asked = needs_ok (answers_request f.half.standing dialogue) faults.WrongDialogue _ next free.1 in
+        let asked = needs_ok (answers_request f.half.dialogue_state dialogue) faults.WrongDialogue _ next free.1 in
         acts_this e _ next (learnt f.half at asked.0) asked.1
-    over_heard phases.Active at is =
+    over_incoming phases.Active at is =
         let peer = needs_ok (is_id otid f.half.peer) faults.NoTransaction _ next is in
         let follows = (all_receives table (items_of components) f.half).follows in
         acts_this e _ next (put_acts e f _ (own_has e dtid sound f found) (follows_stays f.half _ follows)) peer.1
-    over_heard phase at is = cc
+    over_incoming phase at is = cc
 
-  continue_heard : (otid dtid : List ℕ) (dialogue : Option Dialogue) (components : Option (List Component))
+  continue_incoming : (otid dtid : List ℕ) (dialogue : Option Dialogue) (components : Option (List Component))
       → receive table e (Continue otid dtid dialogue components) ≡ Ok next
       → Acts table (Heard (Continue otid dtid dialogue components)) e next
-  continue_heard otid dtid dialogue components is =
+  continue_incoming otid dtid dialogue components is =
       let (f, ok, step) = then_ok (ok_or (with_own e dtid) faults.NoTransaction) _ next is in
-      over_heard otid dtid dialogue components f (some_ok _ _ f ok) f.half.phase refl step
+      over_incoming otid dtid dialogue components f (some_ok _ _ f ok) f.half.phase refl step
 
   -- A received End or Abort closes the open half with its destination ID.
-  end_heard : (m : Message) (id : List ℕ) → ends_to id m ≡ true → (o : Option KeptHalf) → with_own e id ≡ o
+  end_incoming : (m : Message) (id : List ℕ) → ends_to id m ≡ true → (o : Option KeyedHalf) → with_own e id ≡ o
       → (let r : Result End EndFault = Ok (receive_end e o) in r) ≡ Ok next → Acts table (Heard m) e next
-  end_heard m id ends None found is = acts_this e e next (acts_nowhere table (Heard m) e) is
-  end_heard m id ends (Some f) found is = by (is_closed f.half.phase) refl is
+  end_incoming m id ends None found is = acts_this e e next (acts_nowhere table (Heard m) e) is
+  end_incoming m id ends (Some f) found is = by (is_closed f.half.phase) refl is
     where
       by : (b : Bool) → is_closed f.half.phase ≡ b
           → (let r : Result End EndFault = Ok (cond b e (put e f.slot f.key (closed_half f.half))) in r) ≡ Ok next
@@ -190,20 +190,20 @@ module _ (table : Table) (e next : End) (sound : IsEnd e) where
             phase = refl;
             own = refl;
             peer = refl;
-            standing = refl;
+            dialogue_state = refl;
             was_open = shut;
             ended = (id, ends, own_is e id f found);
           }))) is
 
-  pub heard_acts : (m : Message) → receive table e m ≡ Ok next → Acts table (Heard m) e next
-  heard_acts (Unidirectional dialogue components) is =
+  pub incoming_acts : (m : Message) → receive table e m ≡ Ok next → Acts table (Heard m) e next
+  incoming_acts (Unidirectional dialogue components) is =
       acts_this e e next (acts_nowhere table (Heard (Unidirectional dialogue components)) e) is
-  heard_acts (Begin otid dialogue components) is = accept_acts otid dialogue components is
-  heard_acts (Continue otid dtid dialogue components) is = continue_heard otid dtid dialogue components is
-  heard_acts (EndMessage dtid dialogue components) is =
-      end_heard (EndMessage dtid dialogue components) dtid (is_that_id dtid (Some dtid) refl) (with_own e dtid) refl is
-  heard_acts (Abort dtid reason) is =
-      end_heard (Abort dtid reason) dtid (is_that_id dtid (Some dtid) refl) (with_own e dtid) refl is
+  incoming_acts (Begin otid dialogue components) is = accept_acts otid dialogue components is
+  incoming_acts (Continue otid dtid dialogue components) is = continue_incoming otid dtid dialogue components is
+  incoming_acts (EndMessage dtid dialogue components) is =
+      end_incoming (EndMessage dtid dialogue components) dtid (is_that_id dtid (Some dtid) refl) (with_own e dtid) refl is
+  incoming_acts (Abort dtid reason) is =
+      end_incoming (Abort dtid reason) dtid (is_that_id dtid (Some dtid) refl) (with_own e dtid) refl is
 
 -- ---- hidden steps
 
@@ -212,18 +212,18 @@ may_close_open table phase is = grind (arith, is)
 
 -- An invocation expires, and the half stays as it is.
 pub expired_acts : (table : Table) (e next : End) (name : HalfName) (id : ℤ) → IsEnd e
-    → expire table e name id ≡ Ok next → Acts table Unseen e next
+    → expire table e name id ≡ Ok next → Acts table Internal e next
 expired_acts table e next name id sound is =
     let (f, ok, step) = then_ok (ok_or (named e name) faults.CannotExpire) _ next is in
     let open_one = needs_ok (not (is_closed f.half.phase)) faults.CannotExpire _ next step in
     let may = needs_ok (may_expire table (own_invocation f.half id)) faults.CannotExpire _ next open_one.1 in
     acts_this e _ next
     (put_acts e f _ (named_has e name sound f (some_ok _ _ f ok))
-    (stays (record { phase = refl; own = refl; peer = refl; standing = refl }))) may.1
+    (stays (record { phase = refl; own = refl; peer = refl; dialogue_state = refl }))) may.1
 
 -- A half closes.
 pub closed_acts : (table : Table) (e next : End) (name : HalfName) → IsEnd e → close table e name ≡ Ok next
-    → Acts table Unseen e next
+    → Acts table Internal e next
 closed_acts table e next name sound is =
     let (f, ok, step) = then_ok (ok_or (named e name) faults.CannotClose) _ next is in
     let may = needs_ok (may_close table f.half.phase) faults.CannotClose _ next step in
@@ -233,7 +233,7 @@ closed_acts table e next name sound is =
       phase = refl;
       own = refl;
       peer = refl;
-      standing = refl;
+      dialogue_state = refl;
       was_open = may_close_open table f.half.phase may.0;
       ended = may.0;
     }))) may.1
@@ -244,16 +244,16 @@ closed_acts table e next name sound is =
 -- message that ends a dialogue a half whose peer has its destination ID.
 abbrev pub Uses : End → Message → Type 0
 Uses e (Unidirectional dialogue components) = Unit {0}
-Uses e (Begin otid dialogue components) = (h : Half) × Has e (record { slot = Begun; key = otid; half = h })
+Uses e (Begin otid dialogue components) = (h : Half) × HasHalf e (record { slot = Begun; key = otid; half = h })
 Uses e (Continue otid dtid dialogue components) =
-    (f : KeptHalf) × Has e f × (f.half.own ≡ Some otid) × (f.half.peer ≡ Some dtid)
-Uses e (EndMessage dtid dialogue components) = (f : KeptHalf) × Has e f × (f.half.peer ≡ Some dtid)
-Uses e (Abort dtid reason) = reason_cause reason ≡ None → (f : KeptHalf) × Has e f × (f.half.peer ≡ Some dtid)
+    (f : KeyedHalf) × HasHalf e f × (f.half.own ≡ Some otid) × (f.half.peer ≡ Some dtid)
+Uses e (EndMessage dtid dialogue components) = (f : KeyedHalf) × HasHalf e f × (f.half.peer ≡ Some dtid)
+Uses e (Abort dtid reason) = reason_cause reason ≡ None → (f : KeyedHalf) × HasHalf e f × (f.half.peer ≡ Some dtid)
 
 -- Directly after a Continue, its half is active.
 abbrev pub IsActiveFor : End → Message → Type 0
 IsActiveFor e (Continue otid dtid dialogue components) =
-    (f : KeptHalf) × Has e f × (f.half.own ≡ Some otid) × (f.half.peer ≡ Some dtid) × (f.half.phase ≡ phases.Active)
+    (f : KeyedHalf) × HasHalf e f × (f.half.own ≡ Some otid) × (f.half.peer ≡ Some dtid) × (f.half.phase ≡ phases.Active)
 IsActiveFor e m = Unit {0}
 
 -- A half keeps its IDs.
@@ -272,8 +272,8 @@ module _ {table : Table} {deed : Deed} {h g : Half} where
 
 -- What was used is still used.
 module _ {table : Table} {deed : Deed} {e next : End} (acts : Acts table deed e next) where
-  still_peer : (id : List ℕ) → (f : KeptHalf) × Has e f × (f.half.peer ≡ Some id)
-      → (f : KeptHalf) × Has next f × (f.half.peer ≡ Some id)
+  still_peer : (id : List ℕ) → (f : KeyedHalf) × HasHalf e f × (f.half.peer ≡ Some id)
+      → (f : KeyedHalf) × HasHalf next f × (f.half.peer ≡ Some id)
   still_peer id (f, had, peer) =
       let (g, there, turned) = acts.forth f had in (record f { half = g }, there, keeps_peer id turned peer)
 
@@ -290,15 +290,15 @@ module _ {table : Table} {deed : Deed} {e next : End} (acts : Acts table deed e 
 -- What a sent message needs is there directly after it.
 module _ (table : Table) (e next : End) (sound : IsEnd e) where
   over_there : (m : Message) (id : List ℕ) → send table e m ≡ Ok next → (half : IsOver table e m id)
-      → Has next (record half.kept { half = half.now })
+      → HasHalf next (record half.kept { half = half.now })
   over_there m id is half =
       let made : put e half.kept.slot half.kept.key half.now ≡ next =
       ok_same {F = EndFault} _ next (sym half.leads ∙ is) in
-      subst (λ (y : End). Has y (record half.kept { half = half.now })) made
+      subst (λ (y : End). HasHalf y (record half.kept { half = half.now })) made
       (put_there e half.kept.slot half.kept.key half.now)
 
   ends_used : (m : Message) (id : List ℕ) → send table e m ≡ Ok next → IsOver table e m id
-      → (f : KeptHalf) × Has next f × (f.half.peer ≡ Some id)
+      → (f : KeyedHalf) × HasHalf next f × (f.half.peer ≡ Some id)
   ends_used m id is half =
       (record half.kept { half = half.now }, over_there m id is half, keeps_peer id half.turned half.peer)
 
@@ -306,12 +306,12 @@ module _ (table : Table) (e next : End) (sound : IsEnd e) where
   said_uses (Unidirectional dialogue components) is = (tt, tt)
   said_uses (Begin otid dialogue components) is =
       let (g, new, made) = begin_said table e next sound otid dialogue components is in
-      let f : KeptHalf = record { slot = Begun; key = otid; half = g } in
-      ((g, subst (λ (y : End). Has y f) made (put_there e Begun otid g)), tt)
+      let f : KeyedHalf = record { slot = Begun; key = otid; half = g } in
+      ((g, subst (λ (y : End). HasHalf y f) made (put_there e Begun otid g)), tt)
   said_uses (Continue otid dtid dialogue components) is =
       let m = Continue otid dtid dialogue components in
       let half = over table e next sound m dtid is refl in
-      let f : KeptHalf = record half.kept { half = half.now } in
+      let f : KeyedHalf = record half.kept { half = half.now } in
       let there = over_there m dtid is half in
       let peer = keeps_peer dtid half.turned half.peer in
       ((f, there, half.spoken.1, peer), (f, there, half.spoken.1, peer, half.spoken.0))

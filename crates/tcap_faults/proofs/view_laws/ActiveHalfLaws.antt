@@ -12,9 +12,9 @@ use Rattle.tcap_record.specs.declared.entry.End.{End as Side}
 use Rattle.tcap_end.specs.declared.half.Phase.TheVariants as phases
 use Rattle.tcap_end.specs.Table.{Table}
 use Rattle.tcap_end.specs.Half.{Half}
-use Rattle.tcap_end.specs.End.{End, KeptHalf, is_id}
+use Rattle.tcap_end.specs.End.{End, KeyedHalf, is_id}
 use Rattle.tcap_end.specs.HiddenSteps.{may_close}
-use Rattle.tcap_end.specs.ReachableEnd.{Has}
+use Rattle.tcap_end.specs.ReachableEnd.{HasHalf}
 use Rattle.tcap_record.specs.Ends.{other}
 use Rattle.tcap_model.specs.World.{Item}
 use Rattle.tcap_model.specs.SinceMark.{ended_by}
@@ -22,7 +22,7 @@ use Rattle.tcap_model.proofs.TurnLaws.{id_is}
 use Rattle.tcap_refute.specs.EarlierMessages.{ends_to, is_a, sent_by}
 use Rattle.tcap_end.proofs.FoundLaws.{is_that_id}
 use Rattle.tcap_refute.proofs.Members.{any_has, has_first, has_not}
-use Rattle.tcap_refute.proofs.HalfLawsTurns.{Deed, Heard, IsEnded, Said, Turned, Unseen, answers, closes, learns, stays}
+use Rattle.tcap_refute.proofs.HalfLawsTurns.{Deed, Heard, IsEnded, Said, Turned, Internal, answers, closes, learns, stays}
 use Rattle.tcap_faults.specs.ClosedHalves.{is_surely_open}
 use Rattle.tcap_faults.specs.SentToId.{has_ended}
 use Rattle.tcap_faults.proofs.view_laws.ActLaws.{IsActiveFor, keeps_own, keeps_peer}
@@ -46,7 +46,7 @@ IsOpenOrShut table side items own to h =
 -- A Continue that was sent has such a half.
 abbrev HasOpened : Table → Side → End → List Item → Message → Type 0
 HasOpened table side e items (Continue own to dialogue components) =
-    (f : KeptHalf) × Has e f × (f.half.own ≡ Some own) × (f.half.peer ≡ Some to)
+    (f : KeyedHalf) × HasHalf e f × (f.half.own ≡ Some own) × (f.half.peer ≡ Some to)
     × IsOpenOrShut table side items own to f.half
 HasOpened table side e items m = Unit {0}
 
@@ -80,11 +80,11 @@ module _ {table : Table} {side : Side} (e next : End) (items after : List Item)
           (Contains-append_right (sent_by side items) (m ∷ []) m (has_first m [])) in
           inr (inr (any_has (λ n. is_id to (ended_by n)) (sent_by side after) m has
           (is_that_id to (ended_by m) (ends ∙ same))))
-      by (Heard m) is (id, ends, of_id) =
-          let same : id ≡ own = let both : Some id ≡ Some own = sym of_id ∙ of_own in cc in
-          let has = theirs_still step.grows m (step.heard m is) in
+      by (Heard m) is (id, ends, history_of_id) =
+          let same : id ≡ own = let both : Some id ≡ Some own = sym history_of_id ∙ of_own in cc in
+          let has = theirs_still step.grows m (step.incoming m is) in
           inr (inl (any_has (ends_to own) (sent_by (other side) after) m has (rw (← same) ends)))
-      by Unseen is may = let prearranged : may_close table phases.Active ≡ true = rw (← active) may in inl prearranged
+      by Internal is may = let prearranged : may_close table phases.Active ≡ true = rw (← active) may in inl prearranged
 
   turned_open : (h g : Half) → Turned table step.deed h g → h.own ≡ Some own → h.peer ≡ Some to
       → IsOpenOrShut table side items own to h → IsOpenOrShut table side after own to g
@@ -134,7 +134,7 @@ all_opened {table} {side} {e} {coming} {items} view =
 
 -- The half with this own ID is active.
 abbrev pub IsActiveAt : End → List ℕ → Type 0
-IsActiveAt e own = (f : KeptHalf) × Has e f × (f.half.own ≡ Some own) × (f.half.phase ≡ phases.Active)
+IsActiveAt e own = (f : KeyedHalf) × HasHalf e f × (f.half.own ≡ Some own) × (f.half.phase ≡ phases.Active)
 
 -- A conjunction with a part that is false does not hold.
 never : {P : Type 0} (a b : Bool) → (a && false && b) ≡ true → P
@@ -153,7 +153,7 @@ module _ {table : Table} {side : Side} {e : End} {coming : List Message} {items 
       (subst (λ (i : List ℕ). IsOpenOrShut table side items i to f.half) same
       (subst (λ (i : List ℕ). IsOpenOrShut table side items id i f.half) same_to so))
     where
-      by : (f : KeptHalf) → Has e f → f.half.own ≡ Some own → IsOpenOrShut table side items own to f.half
+      by : (f : KeyedHalf) → HasHalf e f → f.half.own ≡ Some own → IsOpenOrShut table side items own to f.half
           → IsActiveAt e own
       by f had of_own (inl active) = (f, had, of_own, active)
       by f had of_own (inr (closed, shut)) = absurd (none shut)

@@ -21,8 +21,8 @@ use Rattle.tcap_model.specs.Run.{provider_abort, reply_to}
 use Rattle.tcap_model.proofs.ListLaws.{contains_first}
 use Rattle.tcap_refute.specs.EarlierMessages.{sent_by}
 use Rattle.tcap_refute.proofs.Members.{has_not}
-use Rattle.tcap_refute.proofs.HalfLawsTurns.{Acts, Deed, Heard, Said, Unseen, acts_nowhere}
-use Rattle.tcap_faults.proofs.view_laws.ActLaws.{IsActiveFor, Uses, heard_acts, said_acts, said_uses}
+use Rattle.tcap_refute.proofs.HalfLawsTurns.{Acts, Deed, Heard, Said, Internal, acts_nowhere}
+use Rattle.tcap_faults.proofs.view_laws.ActLaws.{IsActiveFor, Uses, incoming_acts, said_acts, said_uses}
 use Rattle.tcap_faults.proofs.view_laws.InvariantLaws.{views_keep}
 use Rattle.tcap_faults.proofs.view_laws.GrowthLaws.{Grows, grows_not, grows_own, grows_theirs}
 use Rattle.tcap_faults.proofs.view_laws.ViewLaws.{View, view_comes, view_sound}
@@ -72,7 +72,7 @@ pub record Advance (table : Table) (side : Side) (e next : End) (items after : L
   pub grows : Grows side items after
   pub is_end : IsEnd e
   pub is_next : IsEnd next
-  pub heard : (m : Message) → deed ≡ Heard m → Contains (sent_by (other side) items) m
+  pub incoming : (m : Message) → deed ≡ Heard m → Contains (sent_by (other side) items) m
   pub said : (m : Message) → deed ≡ Said m → grows.mine ≡ m ∷ []
   pub uses : (m : Message) → Contains grows.mine m → Uses next m × IsActiveFor next m
 
@@ -91,24 +91,24 @@ module _ {table : Table} {side : Side} where
         grows = grows_own side m items;
         is_end = is_end;
         is_next = (sends table e next m is_end is).sound;
-        heard = λ n same. cc;
+        incoming = λ n same. cc;
         said = λ n same. let one : m ≡ n = cc in ap (λ (x : Message). x ∷ []) one;
         uses = λ n has.
             subst (λ (x : Message). Uses next x × IsActiveFor next x) (only_has m n has)
             (said_uses table e next is_end m is);
       }
 
-  heard_advance : (e next : End) (coming : List Message) (items : List Item) (m : Message)
+  incoming_advance : (e next : End) (coming : List Message) (items : List Item) (m : Message)
       → View table side e (m ∷ coming) items → receive table e m ≡ Ok next → Advance table side e next items items
-  heard_advance e next coming items m view is =
+  incoming_advance e next coming items m view is =
       let is_end = view_sound view in
       record {
         deed = Heard m;
-        acts = heard_acts table e next is_end m is;
+        acts = incoming_acts table e next is_end m is;
         grows = grows_not side items;
         is_end = is_end;
         is_next = (receives table e next m is_end is).sound;
-        heard = λ n same.
+        incoming = λ n same.
             let one : m ≡ n = cc in
             subst (λ (x : Message). Contains (sent_by (other side) items) x) one (view_comes m view);
         said = λ n same. cc;
@@ -121,27 +121,27 @@ module _ {table : Table} {side : Side} where
   refused_advance e coming items m abort view is =
       let is_end = view_sound view in
       record {
-        deed = Unseen;
-        acts = acts_nowhere table Unseen e;
+        deed = Internal;
+        acts = acts_nowhere table Internal e;
         grows = grows_own side abort items;
         is_end = is_end;
         is_next = is_end;
-        heard = λ n same. cc;
+        incoming = λ n same. cc;
         said = λ n same. cc;
         uses = λ n has.
             subst (λ (x : Message). Uses e x × IsActiveFor e x) (only_has abort n has)
             (refused_uses e m abort (refuses e m abort is));
       }
 
-  unseen_advance : (e next : End) (items : List Item) → IsEnd e → IsEnd next → Acts table Unseen e next
+  internal_advance : (e next : End) (items : List Item) → IsEnd e → IsEnd next → Acts table Internal e next
       → Advance table side e next items items
-  unseen_advance e next items is_end is_next acts = record {
-    deed = Unseen;
+  internal_advance e next items is_end is_next acts = record {
+    deed = Internal;
     acts = acts;
     grows = grows_not side items;
     is_end = is_end;
     is_next = is_next;
-    heard = λ n same. cc;
+    incoming = λ n same. cc;
     said = λ n same. cc;
     uses = λ n has. has_not n has;
   }
@@ -149,12 +149,12 @@ module _ {table : Table} {side : Side} where
   asked_advance : (e : End) (m : Message) (items : List Item) → IsEnd e
       → Advance table side e e items (items ++ Sent (other side) m ∷ [])
   asked_advance e m items is_end = record {
-    deed = Unseen;
-    acts = acts_nowhere table Unseen e;
+    deed = Internal;
+    acts = acts_nowhere table Internal e;
     grows = grows_theirs side m items;
     is_end = is_end;
     is_next = is_end;
-    heard = λ n same. cc;
+    incoming = λ n same. cc;
     said = λ n same. cc;
     uses = λ n has. has_not n has;
   }
@@ -169,11 +169,11 @@ advances_keep table side Holds blank step = views_keep table side (λ e coming i
   says = λ e next coming items m view is held.
       step e next coming items _ view (said_advance e next coming items m view is) held;
   hears = λ e next coming items m view is held.
-      step e next (m ∷ coming) items _ view (heard_advance e next coming items m view is) held;
+      step e next (m ∷ coming) items _ view (incoming_advance e next coming items m view is) held;
   refuses = λ e coming items m abort view is held.
       step e e (m ∷ coming) items _ view (refused_advance e coming items m abort view is) held;
-  unseen = λ e next coming items view is_next acts unseen held.
-      step e next coming items _ view (unseen_advance e next items (view_sound view) is_next acts) held;
+  internal = λ e next coming items view is_next acts internal held.
+      step e next coming items _ view (internal_advance e next items (view_sound view) is_next acts) held;
   loses = λ e coming items m view held. held;
   asks = λ e coming items m view held.
       step e e coming items _ view (asked_advance e m items (view_sound view)) held;

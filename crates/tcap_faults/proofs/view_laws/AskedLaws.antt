@@ -13,19 +13,19 @@ use Rattle.tcap_record.specs.declared.entry.End.{End as Side}
 use Rattle.tcap_end.specs.declared.half.Slot.TheVariants.{Begun, Accepted}
 use Rattle.tcap_end.specs.Table.{Table}
 use Rattle.tcap_end.specs.Half.{Half}
-use Rattle.tcap_end.specs.End.{End, KeptHalf, is_id}
-use Rattle.tcap_end.specs.ReachableEnd.{Has, IsEnd}
+use Rattle.tcap_end.specs.End.{End, KeyedHalf, is_id}
+use Rattle.tcap_end.specs.ReachableEnd.{HasHalf, IsEnd}
 use Rattle.tcap_end.proofs.EndLaws.{no_half}
 use Rattle.tcap_record.specs.Ends.{other}
 use Rattle.tcap_model.specs.World.{Item, Sent}
-use Rattle.tcap_refute.specs.EarlierMessages.{asked, is_a, sent_by}
+use Rattle.tcap_refute.specs.EarlierMessages.{peer_sent_from, is_a, sent_by}
 use Rattle.tcap_end.proofs.FoundLaws.{is_that_id}
 use Rattle.tcap_refute.proofs.TestLaws.{and_false, and_true}
-use Rattle.tcap_refute.proofs.HalfLawsTurns.{Accepts, Acts, Deed, Heard, Said, Starts, Turned, Unseen, answers, closes, learns, stays}
+use Rattle.tcap_refute.proofs.HalfLawsTurns.{Accepts, Acts, Deed, Heard, Said, Starts, Turned, Internal, answers, closes, learns, stays}
 use Rattle.tcap_faults.specs.SentToId.{is_abort_with}
 use Rattle.tcap_faults.specs.Counts.{count}
 use Rattle.tcap_faults.proofs.list_laws.CountLaws.{count_last, count_more, one}
-use Rattle.tcap_faults.proofs.view_laws.ActLaws.{heard_acts, said_acts, said_causeless}
+use Rattle.tcap_faults.proofs.view_laws.ActLaws.{incoming_acts, said_acts, said_causeless}
 use Rattle.tcap_faults.proofs.view_laws.AdvanceLaws.{Refuses, refuses}
 use Rattle.tcap_faults.proofs.view_laws.InvariantLaws.{views_keep}
 use Rattle.tcap_faults.proofs.run_laws.ItemLaws.{sent_own}
@@ -49,7 +49,7 @@ cause_of OfBegins = 4
 cause_of OfContinues = 1
 
 -- The half was made by a Begin from this ID, or got its peer's ID by a Continue from it.
-abbrev pub IsOfCount : Count → List ℕ → KeptHalf → Type 0
+abbrev pub IsOfCount : Count → List ℕ → KeyedHalf → Type 0
 IsOfCount OfBegins id f = (f.slot ≡ Accepted) × (f.key ≡ id)
 IsOfCount OfContinues id f = (f.slot ≡ Begun) × (f.half.peer ≡ Some id)
 
@@ -64,13 +64,13 @@ taken side c id coming items =
 
 -- The number that the peer sent.
 abbrev pub given : Side → Count → List ℕ → List Item → ℕ
-given side c id items = count (is_a (form_of c)) (asked side id items)
+given side c id items = count (is_a (form_of c)) (peer_sent_from side id items)
 
 -- At most as many are refused or on their way as were sent, also if a half counts as one.
 pub record IsPaid (side : Side) (e : End) (coming : List Message) (items : List Item) (c : Count) (id : List ℕ)
     : Type 0 where
   pub all : taken side c id coming items ≤ given side c id items
-  pub half : (f : KeptHalf) → Has e f → IsOfCount c id f → taken side c id coming items + 1 ≤ given side c id items
+  pub half : (f : KeyedHalf) → HasHalf e f → IsOfCount c id f → taken side c id coming items + 1 ≤ given side c id items
 
 abbrev AllPaid : Side → End → List Message → List Item → Type 0
 AllPaid side e coming items = (c : Count) (id : List ℕ) → IsPaid side e coming items c id
@@ -125,7 +125,7 @@ module _ (side : Side) (c : Count) (id : List ℕ) where
       ) (by (is_id id (otid_in m)) refl)
     where
       was : List Message
-      was = asked side id items
+      was = peer_sent_from side id items
 
       by : (b : Bool) → is_id id (otid_in m) ≡ b
           → count (is_a (form_of c)) (was ++ cond b (m ∷ []) [])
@@ -144,16 +144,16 @@ abbrev WasHeard : Deed → Count → List ℕ → Type 0
 WasHeard deed c id = (m : Message) × (deed ≡ Heard m) × (comes_from c id m ≡ true)
 
 abbrev WasThere : End → Count → List ℕ → Type 0
-WasThere e c id = (f : KeptHalf) × Has e f × IsOfCount c id f
+WasThere e c id = (f : KeyedHalf) × HasHalf e f × IsOfCount c id f
 
 -- A half that counts was made by the received message, or counted before.
 module _ {table : Table} {deed : Deed} (e next : End) (acts : Acts table deed e next) (is_end : IsEnd e) (id : List ℕ)
-    (g : KeptHalf) (had : Has next g) where
+    (g : KeyedHalf) (had : HasHalf next g) where
   accepted_so : g.slot ≡ Accepted → g.key ≡ id → WasHeard deed OfBegins id ⊎ WasThere e OfBegins id
   accepted_so slot key = by (acts.back g had)
     where
       by : (Starts deed e g ⊎ Accepts deed e g)
-          ⊎ ((h : Half) × Has e (record g { half = h }) × Turned table deed h g.half)
+          ⊎ ((h : Half) × HasHalf e (record g { half = h }) × Turned table deed h g.half)
           → WasHeard deed OfBegins id ⊎ WasThere e OfBegins id
       by (inl (inl new)) = let bad = sym slot ∙ new.slot in cc
       by (inl (inr new)) =
@@ -163,7 +163,7 @@ module _ {table : Table} {deed : Deed} (e next : End) (acts : Acts table deed e 
   learned_so : g.slot ≡ Begun → g.half.peer ≡ Some id → WasHeard deed OfContinues id ⊎ WasThere e OfContinues id
   learned_so slot peer = by (acts.back g had)
     where
-      turns : (h : Half) → Has e (record g { half = h }) → Turned table deed h g.half
+      turns : (h : Half) → HasHalf e (record g { half = h }) → Turned table deed h g.half
           → WasHeard deed OfContinues id ⊎ WasThere e OfContinues id
       turns h was (stays it) = inr (record g { half = h }, was, (slot, sym it.peer ∙ peer))
       turns h was (closes it) = inr (record g { half = h }, was, (slot, sym it.peer ∙ peer))
@@ -178,7 +178,7 @@ module _ {table : Table} {deed : Deed} (e next : End) (acts : Acts table deed e 
           )
 
       by : (Starts deed e g ⊎ Accepts deed e g)
-          ⊎ ((h : Half) × Has e (record g { half = h }) × Turned table deed h g.half)
+          ⊎ ((h : Half) × HasHalf e (record g { half = h }) × Turned table deed h g.half)
           → WasHeard deed OfContinues id ⊎ WasThere e OfContinues id
       by (inl (inl new)) = let bad = sym peer ∙ new.peer in cc
       by (inl (inr new)) = let bad = sym slot ∙ new.slot in cc
@@ -204,16 +204,16 @@ module _ (table : Table) (side : Side) where
     where
       by : WasHeard (Said m) c id ⊎ WasThere e c id
           → taken side c id coming (items ++ Sent side m ∷ []) + 1 ≤ given side c id (items ++ Sent side m ∷ [])
-      by (inl (n, heard, comes)) = cc
+      by (inl (n, incoming, comes)) = cc
       by (inr (f, there, is)) =
           let same = taken_said side c id coming items m none in
           let given_same = given_said side c id items m in
           let old = (held c id).half f there is in omega arith
 
   -- A message is received.
-  heard_paid : (e next : End) (coming : List Message) (items : List Item) (m : Message) → IsEnd e
+  incoming_paid : (e next : End) (coming : List Message) (items : List Item) (m : Message) → IsEnd e
       → Acts table (Heard m) e next → AllPaid side e (m ∷ coming) items → AllPaid side next coming items
-  heard_paid e next coming items m is_end acts held c id =
+  incoming_paid e next coming items m is_end acts held c id =
       let head = taken_head side c id coming items m in
       record {
         all = let old = (held c id).all in omega arith;
@@ -221,7 +221,7 @@ module _ (table : Table) (side : Side) where
       }
     where
       by : WasHeard (Heard m) c id ⊎ WasThere e c id → taken side c id coming items + 1 ≤ given side c id items
-      by (inl (n, heard, comes)) =
+      by (inl (n, incoming, comes)) =
           let same : m ≡ n = cc in
           let counted : one (comes_from c id m) ≡ 1 =
           ap (λ (x : Message). one (comes_from c id x)) same ∙ ap one comes in
@@ -253,15 +253,15 @@ module _ (table : Table) (side : Side) where
       }
 
   -- A hidden step.
-  unseen_paid : (e next : End) (coming : List Message) (items : List Item) → IsEnd e → Acts table Unseen e next
+  internal_paid : (e next : End) (coming : List Message) (items : List Item) → IsEnd e → Acts table Internal e next
       → AllPaid side e coming items → AllPaid side next coming items
-  unseen_paid e next coming items is_end acts held c id = record {
+  internal_paid e next coming items is_end acts held c id = record {
     all = (held c id).all;
     half = λ g had is. by (counted_so e next acts is_end id g had c is);
   }
     where
-      by : WasHeard Unseen c id ⊎ WasThere e c id → taken side c id coming items + 1 ≤ given side c id items
-      by (inl (n, heard, comes)) = cc
+      by : WasHeard Internal c id ⊎ WasThere e c id → taken side c id coming items + 1 ≤ given side c id items
+      by (inl (n, incoming, comes)) = cc
       by (inr (f, there, is)) = (held c id).half f there is
 
   -- A message is lost.
@@ -296,11 +296,11 @@ all_paid {table} {side} {e} {coming} {items} view = views_keep table side (AllPa
       (said_acts table e next is_end m is) held;
   hears = λ e next coming items m view is held.
       let is_end = view_sound view in
-      heard_paid table side e next coming items m is_end (heard_acts table e next is_end m is) held;
+      incoming_paid table side e next coming items m is_end (incoming_acts table e next is_end m is) held;
   refuses = λ e coming items m abort view is held.
       refused_paid table side e coming items m abort (refuses e m abort is) held;
-  unseen = λ e next coming items view is_next acts unseen held.
-      unseen_paid table side e next coming items (view_sound view) acts held;
+  internal = λ e next coming items view is_next acts internal held.
+      internal_paid table side e next coming items (view_sound view) acts held;
   loses = λ e coming items m view held. lost_paid table side e coming items m held;
   asks = λ e coming items m view held. asked_paid table side e coming items m held;
 }) e coming items view

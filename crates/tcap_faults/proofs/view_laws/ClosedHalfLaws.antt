@@ -13,21 +13,21 @@ use Rattle.tcap_end.specs.declared.half.Phase.TheVariants as phases
 use Rattle.tcap_end.specs.declared.half.Slot.TheVariants.{Begun}
 use Rattle.tcap_end.specs.Table.{Table}
 use Rattle.tcap_end.specs.Half.{Half, is_closed}
-use Rattle.tcap_end.specs.End.{End, KeptHalf, is_id, with_own}
+use Rattle.tcap_end.specs.End.{End, KeyedHalf, is_id, with_own}
 use Rattle.tcap_end.specs.Reply.{is_open}
-use Rattle.tcap_end.specs.ReachableEnd.{Has, IsEnd}
+use Rattle.tcap_end.specs.ReachableEnd.{HasHalf, IsEnd}
 use Rattle.tcap_end.proofs.FoundLaws.{none_own, own_has, is_that_id}
 use Rattle.tcap_record.specs.Ends.{other}
 use Rattle.tcap_model.specs.World.{Item, Sent}
 use Rattle.tcap_model.proofs.TurnLaws.{id_is}
-use Rattle.tcap_refute.specs.EarlierMessages.{asked, has_a, is_a, sent_by}
+use Rattle.tcap_refute.specs.EarlierMessages.{peer_sent_from, has_a, is_a, sent_by}
 use Rattle.tcap_model.proofs.WorldLaws.{apart, itself}
 use Rattle.tcap_refute.proofs.Members.{any_has, filter_has}
 use Rattle.tcap_model.proofs.SentMoves.{own_is}
-use Rattle.tcap_refute.proofs.HalfLawsTurns.{Acts, Deed, Turned, Unseen, acts_nowhere, answers, closes, learns, stays}
-use Rattle.tcap_faults.specs.ClosedHalves.{all_go_on_to, shows_closed, was_closed}
-use Rattle.tcap_faults.specs.SentToId.{goes_on_to, has_used}
-use Rattle.tcap_faults.proofs.view_laws.ActLaws.{Uses, heard_acts, keeps_own, said_acts, said_causeless}
+use Rattle.tcap_refute.proofs.HalfLawsTurns.{Acts, Deed, Turned, Internal, acts_nowhere, answers, closes, learns, stays}
+use Rattle.tcap_faults.specs.ClosedHalves.{all_continue_to, shows_closed, was_closed}
+use Rattle.tcap_faults.specs.SentToId.{is_continue_to, has_used}
+use Rattle.tcap_faults.proofs.view_laws.ActLaws.{Uses, incoming_acts, keeps_own, said_acts, said_causeless}
 use Rattle.tcap_faults.proofs.view_laws.AdvanceLaws.{Refuses, refuses}
 use Rattle.tcap_faults.proofs.list_laws.FindLaws.{any_is, one_more}
 use Rattle.tcap_faults.proofs.view_laws.BegunHalfLaws.{all_use}
@@ -36,7 +36,7 @@ use Rattle.tcap_faults.proofs.view_laws.ViewLaws.{View, view_comes, view_sound}
 
 -- The half with this own ID is closed.
 abbrev pub IsClosedAt : End → List ℕ → Type 0
-IsClosedAt e own = (f : KeptHalf) × Has e f × (f.half.own ≡ Some own) × (f.half.phase ≡ phases.Closed)
+IsClosedAt e own = (f : KeyedHalf) × HasHalf e f × (f.half.own ≡ Some own) × (f.half.phase ≡ phases.Closed)
 
 abbrev AllClosed : Side → End → List Message → List Item → Type 0
 AllClosed side e coming items = (own : List ℕ) → was_closed side items (Some own) ≡ true → IsClosedAt e own
@@ -71,21 +71,21 @@ still_closed {table} {deed} e next own acts (f, had, of_own, closed) =
 
 -- A message with an originating ID has a half with that own ID.
 uses_own : (e : End) (own : List ℕ) (m : Message) → IsEnd e → Uses e m → otid_in m ≡ Some own
-    → (f : KeptHalf) × Has e f × (f.half.own ≡ Some own)
+    → (f : KeyedHalf) × HasHalf e f × (f.half.own ≡ Some own)
 uses_own e own (Begin otid dialogue components) is_end (h, had) from =
-    let f : KeptHalf = record { slot = Begun; key = otid; half = h } in (f, had, is_end.kept f had ∙ from)
+    let f : KeyedHalf = record { slot = Begun; key = otid; half = h } in (f, had, is_end.kept f had ∙ from)
 uses_own e own (Continue otid dtid dialogue components) is_end (f, had, of_own, peer) from = (f, had, of_own ∙ from)
 uses_own e own m is_end uses from = cc
 
 -- A half that is found not open is closed.
-found_closed : (e : End) (own : List ℕ) (f : KeptHalf) → IsEnd e → Has e f → f.half.own ≡ Some own
+found_closed : (e : End) (own : List ℕ) (f : KeyedHalf) → IsEnd e → HasHalf e f → f.half.own ≡ Some own
     → is_open (with_own e own) ≡ false → IsClosedAt e own
 found_closed e own f is_end had of_own shut = by (with_own e own) refl shut
   where
     closed_phase : (p : Phase) → not (is_closed p) ≡ false → p ≡ phases.Closed
     closed_phase phase is = grind (arith, is)
 
-    by : (o : Option KeptHalf) → with_own e own ≡ o → is_open o ≡ false → IsClosedAt e own
+    by : (o : Option KeyedHalf) → with_own e own ≡ o → is_open o ≡ false → IsClosedAt e own
     by None none is = none_own e own f none had of_own
     by (Some g) some is = (g, own_has e own is_end g some, own_is e own g some, closed_phase g.half.phase is)
 
@@ -93,21 +93,21 @@ module _ {table : Table} {side : Side} (e : End) (coming : List Message) (items 
   -- An Abort of the provider shows it if all Continues from the ID go to the half that was found closed.
   continue_shows : (own otid dtid : List ℕ) (m : Message) → View table side e (m ∷ coming) items
       → is_a forms.Continue m ≡ true → otid_in m ≡ Some otid → dtid_in m ≡ Some dtid
-      → is_open (with_own e dtid) ≡ false → all_go_on_to own (asked side otid items) ≡ true
+      → is_open (with_own e dtid) ≡ false → all_continue_to own (peer_sent_from side otid items) ≡ true
       → has_used side items own ≡ true → IsClosedAt e own
   continue_shows own otid dtid m view goes_on from to shut all has_own =
       let has = filter_has (λ n. is_id otid (otid_in n)) (sent_by (other side) items) m (view_comes m view)
       (is_that_id otid (otid_in m) from) in
-      let (some, none) = and_parts (has_a forms.Continue (asked side otid items)) _ all in
+      let (some, none) = and_parts (has_a forms.Continue (peer_sent_from side otid items)) _ all in
       let (n, there, of_n) = any_is (λ n. is_id own (otid_in n)) (sent_by side items) has_own in
       let (f, had, of_own) = uses_own e own n is_end (all_use view n there) (id_is own (otid_in n) of_n) in
-      found_closed e own f is_end had of_own (by (goes_on_to own m) refl has none)
+      found_closed e own f is_end had of_own (by (is_continue_to own m) refl has none)
     where
       is_end : IsEnd e
       is_end = view_sound view
 
-      by : (b : Bool) → goes_on_to own m ≡ b → Contains (asked side otid items) m
-          → not (list_any (λ n. is_a forms.Continue n && not (goes_on_to own n)) (asked side otid items)) ≡ true
+      by : (b : Bool) → is_continue_to own m ≡ b → Contains (peer_sent_from side otid items) m
+          → not (list_any (λ n. is_a forms.Continue n && not (is_continue_to own n)) (peer_sent_from side otid items)) ≡ true
           → is_open (with_own e own) ≡ false
       by true goes has none =
           let of_own = id_is own (dtid_in m) (and_parts (is_a forms.Continue m) _ goes).1 in
@@ -115,7 +115,7 @@ module _ {table : Table} {side : Side} (e : End) (coming : List Message) (items 
           rw (← same) shut
       by false goes has none =
           absurd (both_ways _ (not-true _ none)
-          (any_has (λ n. is_a forms.Continue n && not (goes_on_to own n)) (asked side otid items) m has
+          (any_has (λ n. is_a forms.Continue n && not (is_continue_to own n)) (peer_sent_from side otid items) m has
           (and_from (is_a forms.Continue m) _ goes_on (ap not goes))))
 
   refused_shows : (own : List ℕ) (m abort : Message) → View table side e (m ∷ coming) items → Refuses e m abort
@@ -123,9 +123,9 @@ module _ {table : Table} {side : Side} (e : End) (coming : List Message) (items 
   refused_shows own (Begin otid dialogue components) abort view it is =
       let bad : false ≡ true = rw (itself side, it.0) at is in cc
   refused_shows own (Continue otid dtid dialogue components) abort view it is =
-      let shows : (all_go_on_to own (asked side otid items) && has_used side items own) ≡ true =
+      let shows : (all_continue_to own (peer_sent_from side otid items) && has_used side items own) ≡ true =
       rw (itself side, it.0) at is in
-      let (all, has_own) = and_parts (all_go_on_to own (asked side otid items)) _ shows in
+      let (all, has_own) = and_parts (all_continue_to own (peer_sent_from side otid items)) _ shows in
       continue_shows own otid dtid (Continue otid dtid dialogue components) view refl refl refl it.1 all has_own
   refused_shows own m abort view it is = absurd it
 
@@ -142,14 +142,14 @@ all_closed_at {table} {side} {e} {coming} {items} view = views_keep table side (
       old_or e next items (Sent side m) own acts (held own)
       (λ new. absurd (shows_by_cause side own items m (said_causeless table e next is_end m is) new)) shown;
   hears = λ e next coming items m view is held own shown.
-      still_closed e next own (heard_acts table e next (view_sound view) m is) (held own shown);
+      still_closed e next own (incoming_acts table e next (view_sound view) m is) (held own shown);
   refuses = λ e coming items m abort view is held own shown.
-      old_or e e items (Sent side abort) own (acts_nowhere table Unseen e) (held own)
+      old_or e e items (Sent side abort) own (acts_nowhere table Internal e) (held own)
       (refused_shows e coming items own m abort view (refuses e m abort is)) shown;
-  unseen = λ e next coming items view is_next acts unseen held own shown. still_closed e next own acts (held own shown);
+  internal = λ e next coming items view is_next acts internal held own shown. still_closed e next own acts (held own shown);
   loses = λ e coming items m view held. held;
   asks = λ e coming items m view held own shown.
-      old_or e e items (Sent (other side) m) own (acts_nowhere table Unseen e) (held own)
+      old_or e e items (Sent (other side) m) own (acts_nowhere table Internal e) (held own)
       (λ new. absurd (shows_by_own side own items m new)) shown;
 }) e coming items view
   where

@@ -12,13 +12,13 @@ use Rattle.tcap_end.specs.End.{is_id}
 use Rattle.tcap_record.specs.Ends.{other}
 use Rattle.tcap_model.specs.World.{Item, Sent, is_side}
 use Rattle.tcap_model.proofs.ListLaws.{contains_first}
-use Rattle.tcap_refute.specs.EarlierMessages.{asked, sent_by}
+use Rattle.tcap_refute.specs.EarlierMessages.{peer_sent_from, sent_by}
 use Rattle.tcap_model.specs.SinceMark.{is_begin_with_request}
 use Rattle.tcap_refute.proofs.Members.{filter_has, has_later, has_not}
 use Rattle.tcap_faults.specs.HalfByPeerId.{from_first, responds}
-use Rattle.tcap_faults.specs.SentToId.{begin_from, goes_on_to, told}
+use Rattle.tcap_faults.specs.SentToId.{begin_from, is_continue_to, outgoing}
 use Rattle.tcap_faults.proofs.run_laws.ItemLaws.{sent_other, sent_own}
-use Rattle.tcap_faults.proofs.story_laws.Stories.{heard_behind}
+use Rattle.tcap_faults.proofs.story_laws.Stories.{incoming_behind}
 use Rattle.tcap_model.proofs.WorldLaws.{apart}
 
 -- ---- what is heard
@@ -57,10 +57,10 @@ first_among p (x ∷ xs) m has = by (p x) has (first_among p xs m)
     by true has rest = has
     by false has rest = has_later x xs m (rest has)
 
-pub heard_among : (begin : Option Message) (xs : List Message) (m : Message) → Contains (heard_behind begin xs) m
+pub incoming_among : (begin : Option Message) (xs : List Message) (m : Message) → Contains (incoming_behind begin xs) m
     → Contains xs m
-heard_among None xs m has = has_not m has
-heard_among (Some begin) xs m has = by (is_begin_with_request begin) has
+incoming_among None xs m has = has_not m has
+incoming_among (Some begin) xs m has = by (is_begin_with_request begin) has
   where
     by : (b : Bool) → Contains (cond b (from_first responds xs) xs) m → Contains xs m
     by true has = first_among responds xs m has
@@ -124,60 +124,60 @@ module _ {side : Side} {items after : List Item} (grows : Grows side items after
 
   -- A message from an ID, to an ID, or a Begin is still in the list.
   pub asked_more : (id : List ℕ)
-      → asked side id after ≡ asked side id items ++ filter (λ m. is_id id (otid_in m)) grows.theirs
+      → peer_sent_from side id after ≡ peer_sent_from side id items ++ filter (λ m. is_id id (otid_in m)) grows.theirs
   asked_more id =
       rw (grows.theirs_is) (filter-append (λ m. is_id id (otid_in m)) (sent_by (other side) items) grows.theirs)
 
-  pub asked_still : (id : List ℕ) (m : Message) → Contains (asked side id items) m → Contains (asked side id after) m
-  asked_still id m has = rw (asked_more id) (Contains-append_left (asked side id items) _ m has)
+  pub asked_still : (id : List ℕ) (m : Message) → Contains (peer_sent_from side id items) m → Contains (peer_sent_from side id after) m
+  asked_still id m has = rw (asked_more id) (Contains-append_left (peer_sent_from side id items) _ m has)
 
-  pub told_still : (id : List ℕ) (m : Message) → Contains (told side id items) m → Contains (told side id after) m
-  told_still id m has =
+  pub outgoing_still : (id : List ℕ) (m : Message) → Contains (outgoing side id items) m → Contains (outgoing side id after) m
+  outgoing_still id m has =
       rw (grows.mine_is, filter-append _ (sent_by side items) grows.mine)
-      (Contains-append_left (told side id items) _ m has)
+      (Contains-append_left (outgoing side id items) _ m has)
 
   pub begin_still : (id : List ℕ) (begin : Message) → begin_from side id items ≡ Some begin
       → begin_from side id after ≡ Some begin
   begin_still id begin is = rw (grows.mine_is, find-append _ (sent_by side items) grows.mine, is) refl
 
   -- A message that a half heard after its Begin is still heard.
-  pub heard_still : (own id : List ℕ) (m : Message)
-      → Contains (heard_behind (begin_from side own items) (filter (goes_on_to own) (asked side id items))) m
-      → Contains (heard_behind (begin_from side own after) (filter (goes_on_to own) (asked side id after))) m
-  heard_still own id m has = by (begin_from side own items) refl has
+  pub incoming_still : (own id : List ℕ) (m : Message)
+      → Contains (incoming_behind (begin_from side own items) (filter (is_continue_to own) (peer_sent_from side id items))) m
+      → Contains (incoming_behind (begin_from side own after) (filter (is_continue_to own) (peer_sent_from side id after))) m
+  incoming_still own id m has = by (begin_from side own items) refl has
     where
       more : List Message
-      more = filter (goes_on_to own) (filter (λ n. is_id id (otid_in n)) grows.theirs)
+      more = filter (is_continue_to own) (filter (λ n. is_id id (otid_in n)) grows.theirs)
 
       was : List Message
-      was = filter (goes_on_to own) (asked side id items)
+      was = filter (is_continue_to own) (peer_sent_from side id items)
 
-      now : filter (goes_on_to own) (asked side id after) ≡ was ++ more
-      now = ap (filter (goes_on_to own)) (asked_more id) ∙ filter-append (goes_on_to own) (asked side id items) _
+      now : filter (is_continue_to own) (peer_sent_from side id after) ≡ was ++ more
+      now = ap (filter (is_continue_to own)) (asked_more id) ∙ filter-append (is_continue_to own) (peer_sent_from side id items) _
 
       of : (b : Bool) → Contains (cond b (from_first responds was) was) m
           → Contains (cond b (from_first responds (was ++ more)) (was ++ more)) m
       of true has = first_still responds was more m has
       of false has = Contains-append_left was more m has
 
-      by : (o : Option Message) → begin_from side own items ≡ o → Contains (heard_behind o was) m
-          → Contains (heard_behind (begin_from side own after) (filter (goes_on_to own) (asked side id after))) m
+      by : (o : Option Message) → begin_from side own items ≡ o → Contains (incoming_behind o was) m
+          → Contains (incoming_behind (begin_from side own after) (filter (is_continue_to own) (peer_sent_from side id after))) m
       by None none has = has_not m has
       by (Some begin) found has = rw (begin_still own begin found, now) (of (is_begin_with_request begin) has)
 
 -- A Continue of the peer to an ID that the end began is heard, if it answers the request or there was none.
-pub heard_now : (side : Side) (items : List Item) (id own : List ℕ) (m begin : Message)
-    → Contains (asked side id items) m → goes_on_to own m ≡ true → begin_from side own items ≡ Some begin
+pub incoming_now : (side : Side) (items : List Item) (id own : List ℕ) (m begin : Message)
+    → Contains (peer_sent_from side id items) m → is_continue_to own m ≡ true → begin_from side own items ≡ Some begin
     → (is_begin_with_request begin ≡ false) ⊎ (responds m ≡ true)
-    → Contains (heard_behind (begin_from side own items) (filter (goes_on_to own) (asked side id items))) m
-heard_now side items id own m begin has goes began answers = rw began (by (is_begin_with_request begin) answers)
+    → Contains (incoming_behind (begin_from side own items) (filter (is_continue_to own) (peer_sent_from side id items))) m
+incoming_now side items id own m begin has goes began answers = rw began (by (is_begin_with_request begin) answers)
   where
-    there : Contains (filter (goes_on_to own) (asked side id items)) m
-    there = filter_has (goes_on_to own) (asked side id items) m has goes
+    there : Contains (filter (is_continue_to own) (peer_sent_from side id items)) m
+    there = filter_has (is_continue_to own) (peer_sent_from side id items) m has goes
 
     by : (b : Bool) → (b ≡ false) ⊎ (responds m ≡ true)
-        → Contains (cond b (from_first responds (filter (goes_on_to own) (asked side id items)))
-        (filter (goes_on_to own) (asked side id items))) m
+        → Contains (cond b (from_first responds (filter (is_continue_to own) (peer_sent_from side id items)))
+        (filter (is_continue_to own) (peer_sent_from side id items))) m
     by false either = there
     by true (inl none) = cc
-    by true (inr so) = first_has responds (filter (goes_on_to own) (asked side id items)) m there so
+    by true (inr so) = first_has responds (filter (is_continue_to own) (peer_sent_from side id items)) m there so

@@ -9,15 +9,15 @@ use Rattle.tcap_end.specs.End.{End, nothing}
 use Rattle.tcap_end.specs.ReachableEnd.{IsEnd}
 use Rattle.tcap_end.proofs.StepLaws.{closes, expires}
 use Rattle.tcap_record.specs.Ends.{other}
-use Rattle.tcap_model.specs.World.{Item, OnItsWay, World, channel_from, empty, end_at, with_channel, with_end}
-use Rattle.tcap_model.specs.Run.{Event, Sends, Receives, Replies, Loses, Expires, Closes, Quiet, Tells, KeepsRules, Runs, after, is_told_by, joined}
+use Rattle.tcap_model.specs.World.{Item, MessageInTransit, World, channel_from, empty, end_at, with_channel, with_end}
+use Rattle.tcap_model.specs.Run.{Event, Sends, Receives, Replies, Loses, Expires, Closes, Quiet, Tells, KeepsRules, Runs, after, is_tells_by, joined}
 use Rattle.tcap_model.proofs.RunLaws.{IsDelivery, IsHidden, IsLoss, IsReply, IsSending, closing, delivery, expiry, loss, quiet, reply, runs_keep, sending, telling}
 use Rattle.tcap_refute.specs.EarlierMessages.{since_quiet}
 use Rattle.tcap_model.proofs.WorldLaws.{itself}
-use Rattle.tcap_refute.proofs.HalfLawsTurns.{Acts, Unseen}
+use Rattle.tcap_refute.proofs.HalfLawsTurns.{Acts, Internal}
 use Rattle.tcap_refute.proofs.MomentLaws.{kept_before}
 use Rattle.tcap_faults.proofs.view_laws.ActLaws.{closed_acts, expired_acts}
-use Rattle.tcap_faults.proofs.view_laws.ViewLaws.{IsKeptBy, IsSeen, IsUnseen, View, coming_to, heard_here, heard_there, lost_here, lost_there, mark_seen, messages_of, refused_here, refused_there, said_here, said_there, told_there, unseen_here, unseen_there, view_of, view_sound, which}
+use Rattle.tcap_faults.proofs.view_laws.ViewLaws.{IsKeptBy, IsSeen, IsUnseen, View, coming_to, incoming_here, incoming_there, lost_here, lost_there, mark_seen, messages_of, refused_here, refused_there, said_here, said_there, outgoing_there, internal_here, internal_there, view_of, view_sound, which}
 
 -- ---- along a run
 
@@ -56,7 +56,7 @@ module _ (table : Table) (side : Side) (Holds : End → List Message → List It
   is_end = view_sound view
 
   -- The oldest message that is on its way to the end.
-  module _ (head : OnItsWay) (more : List OnItsWay) (channel : channel_from (other side) w ≡ head ∷ more) where
+  module _ (head : MessageInTransit) (more : List MessageInTransit) (channel : channel_from (other side) w ≡ head ∷ more) where
     coming_is : coming_to side w ≡ head.message ∷ messages_of more
     coming_is = ap messages_of channel
 
@@ -76,17 +76,17 @@ module _ (table : Table) (side : Side) (Holds : End → List Message → List It
       then_holds _ (s.next_is ∙ ap (λ (p : Side). joined p m (with_end p s.made w)) theirs)
       (of_seen side Holds _ e _ _ (said_there side m s.made w) (kept.asks e (coming_to side w) items m view held))
 
-  heard_keeps : (receiver : Side) (number : ℕ) → (receiver ≡ side) ⊎ (receiver ≡ other side)
+  incoming_keeps : (receiver : Side) (number : ℕ) → (receiver ≡ side) ⊎ (receiver ≡ other side)
       → IsDelivery table receiver number w next → HoldsThen next
-  heard_keeps receiver number (inl mine) d =
+  incoming_keeps receiver number (inl mine) d =
       let channel : channel_from (other side) w ≡ d.head ∷ d.more = rw (← mine) d.channel in
       then_holds _ (d.next_is ∙ ap (λ (p : Side). with_end p d.made (with_channel (other p) d.more w)) mine)
-      (of_seen side Holds _ d.made _ _ (heard_here side d.more d.made w)
+      (of_seen side Holds _ d.made _ _ (incoming_here side d.more d.made w)
       (kept.hears e d.made (messages_of d.more) items d.head.message (view_head d.head d.more channel)
       (rw (← mine) d.step) (held_head d.head d.more channel)))
-  heard_keeps receiver number (inr theirs) d =
+  incoming_keeps receiver number (inr theirs) d =
       then_holds _ (d.next_is ∙ ap (λ (p : Side). with_end p d.made (with_channel (other p) d.more w)) theirs)
-      (of_seen side Holds _ e _ _ (heard_there side d.more d.made w) held)
+      (of_seen side Holds _ e _ _ (incoming_there side d.more d.made w) held)
 
   refused_keeps : (replier : Side) (number : ℕ) → (replier ≡ side) ⊎ (replier ≡ other side)
       → IsReply replier number w next → HoldsThen next
@@ -113,46 +113,46 @@ module _ (table : Table) (side : Side) (Holds : End → List Message → List It
       (kept.loses e (messages_of l.more) items l.head.message (view_head l.head l.more channel)
       (held_head l.head l.more channel)))
 
-  unseen_keeps : (place : Side) (step : End → Result End EndFault) → (place ≡ side) ⊎ (place ≡ other side)
-      → ((made : End) → step e ≡ Ok made → IsEnd made × Acts table Unseen e made × IsUnseen table e made)
+  internal_keeps : (place : Side) (step : End → Result End EndFault) → (place ≡ side) ⊎ (place ≡ other side)
+      → ((made : End) → step e ≡ Ok made → IsEnd made × Acts table Internal e made × IsUnseen table e made)
       → IsHidden place step w next
       → HoldsThen next
-  unseen_keeps place step (inl mine) acts h =
+  internal_keeps place step (inl mine) acts h =
       then_holds _ (h.next_is ∙ ap (λ (p : Side). with_end p h.made w) mine)
-      (of_seen side Holds _ h.made _ _ (unseen_here side h.made w)
-      (let (is_made, acts_so, unseen) = acts h.made (rw (← mine) h.step_is) in
-      kept.unseen e h.made (coming_to side w) items view is_made acts_so unseen held))
-  unseen_keeps place step (inr theirs) acts h =
+      (of_seen side Holds _ h.made _ _ (internal_here side h.made w)
+      (let (is_made, acts_so, internal) = acts h.made (rw (← mine) h.step_is) in
+      kept.internal e h.made (coming_to side w) items view is_made acts_so internal held))
+  internal_keeps place step (inr theirs) acts h =
       then_holds _ (h.next_is ∙ ap (λ (p : Side). with_end p h.made w) theirs)
-      (of_seen side Holds _ e _ _ (unseen_there side h.made w) held)
+      (of_seen side Holds _ e _ _ (internal_there side h.made w) held)
 
-  step_keeps : (event : Event) → after table event w ≡ Some next → is_told_by side event ≡ false → HoldsThen next
-  step_keeps (Sends sender m) is told = sent_keeps sender m (which side sender) (sending table sender m w next is)
-  step_keeps (Receives receiver number) is told =
-      heard_keeps receiver number (which side receiver) (delivery table receiver number w next is)
-  step_keeps (Replies replier number) is told =
+  step_keeps : (event : Event) → after table event w ≡ Some next → is_tells_by side event ≡ false → HoldsThen next
+  step_keeps (Sends sender m) is outgoing = sent_keeps sender m (which side sender) (sending table sender m w next is)
+  step_keeps (Receives receiver number) is outgoing =
+      incoming_keeps receiver number (which side receiver) (delivery table receiver number w next is)
+  step_keeps (Replies replier number) is outgoing =
       refused_keeps replier number (which side replier) (reply table replier number w next is)
-  step_keeps (Loses sender number) is told =
+  step_keeps (Loses sender number) is outgoing =
       lost_keeps sender number (which side sender) (loss table sender number w next is)
-  step_keeps (Expires place name id) is told =
-      unseen_keeps place _ (which side place) (λ made step. (
+  step_keeps (Expires place name id) is outgoing =
+      internal_keeps place _ (which side place) (λ made step. (
         (expires table e made name id is_end step).sound,
         expired_acts table e made name id is_end step,
         inl (name, id, step),
       ))
       (expiry table place name id w next is)
-  step_keeps (Closes place name) is told =
-      unseen_keeps place _ (which side place) (λ made step.
+  step_keeps (Closes place name) is outgoing =
+      internal_keeps place _ (which side place) (λ made step.
       ((closes table e made name is_end step).sound, closed_acts table e made name is_end step, inr (name, step)))
       (closing table place name w next is)
-  step_keeps (Tells teller m) is told = by (which side teller)
+  step_keeps (Tells teller m) is outgoing = by (which side teller)
     where
       by : (teller ≡ side) ⊎ (teller ≡ other side) → HoldsThen next
-      by (inl mine) = let bad : true ≡ false = sym (itself side) ∙ rw mine at told in cc
+      by (inl mine) = let bad : true ≡ false = sym (itself side) ∙ rw mine at outgoing in cc
       by (inr theirs) =
           then_holds _ ((telling table teller m w next is).next_is ∙ ap (λ (p : Side). joined p m w) theirs)
-          (of_seen side Holds _ e _ _ (told_there side m w) (kept.asks e (coming_to side w) items m view held))
-  step_keeps Quiet is told =
+          (of_seen side Holds _ e _ _ (outgoing_there side m w) (kept.asks e (coming_to side w) items m view held))
+  step_keeps Quiet is outgoing =
       then_holds _ (quiet table w next is).next_is
       (of_seen side Holds _ nothing [] [] (mark_seen side w.sent) kept.blank)
 
@@ -171,8 +171,8 @@ module _ (table : Table) (side : Side) (Holds : End → List Message → List It
   holds_then : (before : List Event) (event : Event) (w next : World) → Runs table before w
       → after table event w ≡ Some next → HoldsOf before w → HoldsOf (before ++ event ∷ []) next
   holds_then before event w next runs is held keeps =
-      let (kept_rules, told) = kept_before side before event keeps in
-      step_keeps table side Holds kept before w next runs kept_rules (held kept_rules) event is told
+      let (kept_rules, outgoing) = kept_before side before event keeps in
+      step_keeps table side Holds kept before w next runs kept_rules (held kept_rules) event is outgoing
 
   -- It holds for the view after each run.
   pub views_keep : (e : End) (coming : List Message) (items : List Item) → View table side e coming items

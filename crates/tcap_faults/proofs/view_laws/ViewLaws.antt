@@ -14,7 +14,7 @@ use Rattle.tcap_end.specs.HiddenSteps.{close, expire}
 use Rattle.tcap_end.specs.Message.{receive, send}
 use Rattle.tcap_end.specs.ReachableEnd.{IsEnd}
 use Rattle.tcap_record.specs.Ends.{other}
-use Rattle.tcap_model.specs.World.{Item, OnItsWay, Sent, World, channel_from, end_at, with_channel, with_end}
+use Rattle.tcap_model.specs.World.{Item, MessageInTransit, Sent, World, channel_from, end_at, with_channel, with_end}
 use Rattle.tcap_model.specs.Run.{Event, KeepsRules, Runs, joined, reply_to}
 use Rattle.tcap_model.specs.SinceMark.{WasSent}
 use Rattle.tcap_model.proofs.ChannelLaws.{were_sent}
@@ -23,11 +23,11 @@ use Rattle.tcap_model.proofs.SinceLaws.{since_at}
 use Rattle.tcap_refute.specs.EarlierMessages.{sent_by, since_quiet}
 use Rattle.tcap_refute.proofs.BeforeLaws.{sent_has}
 use Rattle.tcap_refute.proofs.ItemLaws.{since_mark, since_more}
-use Rattle.tcap_refute.proofs.HalfLawsTurns.{Acts, Unseen}
+use Rattle.tcap_refute.proofs.HalfLawsTurns.{Acts, Internal}
 
 -- ---- views
 
-abbrev pub messages_of : List OnItsWay → List Message
+abbrev pub messages_of : List MessageInTransit → List Message
 messages_of = map (λ m. m.message)
 
 -- The messages that are on their way to an end.
@@ -70,7 +70,7 @@ module _ {table : Table} {side : Side} {e : End} {items : List Item} where
       by (channel_from (other side) view.world) (were_sent table view.events view.world view.runs (other side))
       view.seen.coming_is
     where
-      by : (messages : List OnItsWay) → AllByRecursion (WasSent view.world (other side)) messages
+      by : (messages : List MessageInTransit) → AllByRecursion (WasSent view.world (other side)) messages
           → messages_of messages ≡ m ∷ coming → Contains (sent_by (other side) items) m
       by [] all is = cc
       by (head ∷ more) all is =
@@ -98,8 +98,8 @@ pub record IsKeptBy (table : Table) (side : Side) (Holds : End → List Message 
   pub refuses : (e : End) (coming : List Message) (items : List Item) (m abort : Message)
       → View table side e (m ∷ coming) items → reply_to e m ≡ Some abort → Holds e (m ∷ coming) items
       → Holds e coming (items ++ Sent side abort ∷ [])
-  pub unseen : (e next : End) (coming : List Message) (items : List Item) → View table side e coming items
-      → IsEnd next → Acts table Unseen e next → IsUnseen table e next → Holds e coming items → Holds next coming items
+  pub internal : (e next : End) (coming : List Message) (items : List Item) → View table side e coming items
+      → IsEnd next → Acts table Internal e next → IsUnseen table e next → Holds e coming items → Holds next coming items
   pub loses : (e : End) (coming : List Message) (items : List Item) (m : Message) → View table side e (m ∷ coming) items
       → Holds e (m ∷ coming) items → Holds e coming items
   pub asks : (e : End) (coming : List Message) (items : List Item) (m : Message) → View table side e coming items
@@ -129,34 +129,34 @@ said_there sides.A m e w =
 said_there sides.B m e w =
     record { end_is = refl; coming_is = map-append _ w.from_a _; items_is = since_more sides.A m w.sent }
 
-pub told_there : (side : Side) (m : Message) (w : World)
+pub outgoing_there : (side : Side) (m : Message) (w : World)
     → IsSeen side (joined (other side) m w) (end_at side w) (coming_to side w ++ m ∷ [])
     (since_quiet w.sent ++ Sent (other side) m ∷ [])
-told_there sides.A m w =
+outgoing_there sides.A m w =
     record { end_is = refl; coming_is = map-append _ w.from_b _; items_is = since_more sides.B m w.sent }
-told_there sides.B m w =
+outgoing_there sides.B m w =
     record { end_is = refl; coming_is = map-append _ w.from_a _; items_is = since_more sides.A m w.sent }
 
 -- The end receives a message.
-pub heard_here : (side : Side) (more : List OnItsWay) (e : End) (w : World)
+pub incoming_here : (side : Side) (more : List MessageInTransit) (e : End) (w : World)
     → IsSeen side (with_end side e (with_channel (other side) more w)) e (messages_of more) (since_quiet w.sent)
-heard_here sides.A more e w = record { end_is = refl; coming_is = refl; items_is = refl }
-heard_here sides.B more e w = record { end_is = refl; coming_is = refl; items_is = refl }
+incoming_here sides.A more e w = record { end_is = refl; coming_is = refl; items_is = refl }
+incoming_here sides.B more e w = record { end_is = refl; coming_is = refl; items_is = refl }
 
-pub heard_there : (side : Side) (more : List OnItsWay) (e : End) (w : World)
+pub incoming_there : (side : Side) (more : List MessageInTransit) (e : End) (w : World)
     → IsSeen side (with_end (other side) e (with_channel (other (other side)) more w)) (end_at side w)
     (coming_to side w) (since_quiet w.sent)
-heard_there sides.A more e w = record { end_is = refl; coming_is = refl; items_is = refl }
-heard_there sides.B more e w = record { end_is = refl; coming_is = refl; items_is = refl }
+incoming_there sides.A more e w = record { end_is = refl; coming_is = refl; items_is = refl }
+incoming_there sides.B more e w = record { end_is = refl; coming_is = refl; items_is = refl }
 
 -- The provider refuses a message.
-pub refused_here : (side : Side) (m : Message) (more : List OnItsWay) (w : World)
+pub refused_here : (side : Side) (m : Message) (more : List MessageInTransit) (w : World)
     → IsSeen side (joined side m (with_channel (other side) more w)) (end_at side w) (messages_of more)
     (since_quiet w.sent ++ Sent side m ∷ [])
 refused_here sides.A m more w = record { end_is = refl; coming_is = refl; items_is = since_more sides.A m w.sent }
 refused_here sides.B m more w = record { end_is = refl; coming_is = refl; items_is = since_more sides.B m w.sent }
 
-pub refused_there : (side : Side) (m : Message) (more : List OnItsWay) (w : World)
+pub refused_there : (side : Side) (m : Message) (more : List MessageInTransit) (w : World)
     → IsSeen side (joined (other side) m (with_channel (other (other side)) more w)) (end_at side w)
     (coming_to side w ++ m ∷ []) (since_quiet w.sent ++ Sent (other side) m ∷ [])
 refused_there sides.A m more w =
@@ -165,26 +165,26 @@ refused_there sides.B m more w =
     record { end_is = refl; coming_is = map-append _ w.from_a _; items_is = since_more sides.A m w.sent }
 
 -- A message is lost.
-pub lost_here : (side : Side) (more : List OnItsWay) (w : World)
+pub lost_here : (side : Side) (more : List MessageInTransit) (w : World)
     → IsSeen side (with_channel (other side) more w) (end_at side w) (messages_of more) (since_quiet w.sent)
 lost_here sides.A more w = record { end_is = refl; coming_is = refl; items_is = refl }
 lost_here sides.B more w = record { end_is = refl; coming_is = refl; items_is = refl }
 
-pub lost_there : (side : Side) (more : List OnItsWay) (w : World)
+pub lost_there : (side : Side) (more : List MessageInTransit) (w : World)
     → IsSeen side (with_channel side more w) (end_at side w) (coming_to side w) (since_quiet w.sent)
 lost_there sides.A more w = record { end_is = refl; coming_is = refl; items_is = refl }
 lost_there sides.B more w = record { end_is = refl; coming_is = refl; items_is = refl }
 
 -- A hidden step.
-pub unseen_here : (side : Side) (e : End) (w : World)
+pub internal_here : (side : Side) (e : End) (w : World)
     → IsSeen side (with_end side e w) e (coming_to side w) (since_quiet w.sent)
-unseen_here sides.A e w = record { end_is = refl; coming_is = refl; items_is = refl }
-unseen_here sides.B e w = record { end_is = refl; coming_is = refl; items_is = refl }
+internal_here sides.A e w = record { end_is = refl; coming_is = refl; items_is = refl }
+internal_here sides.B e w = record { end_is = refl; coming_is = refl; items_is = refl }
 
-pub unseen_there : (side : Side) (e : End) (w : World)
+pub internal_there : (side : Side) (e : End) (w : World)
     → IsSeen side (with_end (other side) e w) (end_at side w) (coming_to side w) (since_quiet w.sent)
-unseen_there sides.A e w = record { end_is = refl; coming_is = refl; items_is = refl }
-unseen_there sides.B e w = record { end_is = refl; coming_is = refl; items_is = refl }
+internal_there sides.A e w = record { end_is = refl; coming_is = refl; items_is = refl }
+internal_there sides.B e w = record { end_is = refl; coming_is = refl; items_is = refl }
 
 pub mark_seen : (side : Side) (items : List Item)
     → IsSeen side (record { a = nothing; b = nothing; from_a = []; from_b = []; sent = items ++ Item.Quiet ∷ [] })

@@ -6,25 +6,25 @@ ghost use Rattle.tcap_parts.specs.declared.component.Component.TheVariants.{Reje
 ghost use Rattle.tcap_faults.specs.KindsByCounts.{answers_again_by, counted, is_operation_overspent_by, is_overspent_by, more_answered_by};
 
 use crate::component::component_sort::{Class, Sort};
-use crate::component::preceding_components::Before;
+use crate::component::preceding_components::PrecedingComponents;
 use crate::component::saturating_sum::more;
 use crate::component::several_tallies::{invokes_of, results_of};
 use tcap_parts::{ComponentView, ProblemView, ResultBodyView};
 
-impl Before<'_> {
+impl PrecedingComponents<'_> {
     /// Returns whether this many Return Results, Return Errors and Rejects answer more than the invocations of this ID
     /// allow.
     fn is_more_answered(&self, id: i8, results: u128, errors: u128, rejects: u128) -> bool
-        ensures { result ≡ more_answered_by (counted self.now).heard id results errors rejects }
+        ensures { result ≡ more_answered_by (counted self.now).incoming id results errors rejects }
     {
-        let of_1 = self.heard(id, Sort::Invokes(Class::One));
-        let of_2 = self.heard(id, Sort::Invokes(Class::Two));
-        let of_3 = self.heard(id, Sort::Invokes(Class::Three));
+        let of_1 = self.incoming(id, Sort::Invokes(Class::One));
+        let of_2 = self.incoming(id, Sort::Invokes(Class::Two));
+        let of_3 = self.incoming(id, Sort::Invokes(Class::Three));
         let answers = more(results, errors);
         more(of_1, of_3) < results
             || more(of_1, of_2) < errors
             || more(more(of_1, of_2), of_3) < answers
-            || self.heard(id, Sort::Invokes(Class::Any)) < more(answers, rejects)
+            || self.incoming(id, Sort::Invokes(Class::Any)) < more(answers, rejects)
     }
 
     /// Returns whether the end sends more answers than the invocations of this ID allow, with this many Return Results,
@@ -34,9 +34,9 @@ impl Before<'_> {
     {
         self.is_more_answered(
             id,
-            more(self.told(id, Sort::LastResults), results),
-            more(self.told(id, Sort::Errors), errors),
-            more(self.told(id, Sort::InvokeRejects), rejects),
+            more(self.outgoing(id, Sort::LastResults), results),
+            more(self.outgoing(id, Sort::Errors), errors),
+            more(self.outgoing(id, Sort::InvokeRejects), rejects),
         )
     }
 
@@ -47,9 +47,9 @@ impl Before<'_> {
     {
         match body {
             Some(body) => {
-                let told = results_of(&self.half.told, id, body.code);
+                let outgoing = results_of(&self.half.outgoing, id, body.code);
                 let own = self.own.results_of(id, body.code);
-                invokes_of(&self.half.heard, id, body.code) <= more(told, own)
+                invokes_of(&self.half.incoming, id, body.code) <= more(outgoing, own)
             }
             None => false,
         }

@@ -6,15 +6,15 @@ ghost use Rattle.tcap_parts.specs.Meaning.{component_of, components_left};
 ghost use Rattle.tcap_msg.specs.Parts.{components_in};
 ghost use Rattle.tcap_refute.specs.declared.kind.Kind.{Kind as FaultKind};
 ghost use Rattle.tcap_refute.specs.EarlierMessages.{is_reject};
-ghost use Rattle.tcap_faults.specs.HalfByPeerId.{HalfOf};
+ghost use Rattle.tcap_faults.specs.HalfByPeerId.{HalfMessages};
 ghost use Rattle.tcap_faults.specs.InvokeCounts.{AreFew};
 ghost use Rattle.tcap_faults.specs.TallyMeaning.{IsTally};
-ghost use Rattle.tcap_faults.specs.KeptHalf.{IsHalf};
+ghost use Rattle.tcap_faults.specs.KeyedHalf.{IsHalf};
 ghost use Rattle.tcap_faults.specs.KindsByCounts.{counted};
-ghost use Rattle.tcap_faults.specs.Faults.{IsFaultless, IsFirstNoted, IsWith, component_at, first_or};
+ghost use Rattle.tcap_faults.specs.ComponentFaults.{IsFaultless, IsFirstNoted, IsWith, component_at, first_or};
 ghost use Rattle.tcap_faults.specs.FaultSubject.{alone_component, half_component};
 
-use crate::component::preceding_components::Before;
+use crate::component::preceding_components::PrecedingComponents;
 use crate::component::tally::Tally;
 use crate::dialogue::half::Half;
 use std::alloc::{AllocError, Global};
@@ -79,7 +79,7 @@ impl ComponentFaults {
     fn with(
         self,
         table: &Table,
-        before: Before,
+        before: PrecedingComponents,
         number: u64,
         component: ComponentView,
     ) -> ComponentFaults
@@ -158,8 +158,8 @@ pub(crate) fn faults_of<M: MessageParts>(
     half: &Half,
     message: &M,
 ) -> Result<ComponentFaults, AllocError>
-    ensures { (h : HalfOf) → IsHalf table.now h half.now → AreFew h.heard → AreFew h.invoked
-        → AreFew (h.told ++ components_in (M.meaning message.now))
+    ensures { (h : HalfMessages) → IsHalf table.now h half.now → AreFew h.incoming → AreFew h.invoked
+        → AreFew (h.outgoing ++ components_in (M.meaning message.now))
         → IfOk result (λ f. (kind : FaultKind)
         → component_at kind f ≡ half_component table.now h (components_in (M.meaning message.now)) kind) }
 {
@@ -172,7 +172,7 @@ pub(crate) fn faults_of<M: MessageParts>(
     let mut number = 0;
     for component in message.components() {
         note_last(&mut own, alloc, table, last)?;
-        let before = Before {
+        let before = PrecedingComponents {
             half: &*half,
             own: &own,
             rejects: &rejects,

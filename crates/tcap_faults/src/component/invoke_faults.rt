@@ -5,7 +5,7 @@ ghost use Rattle.tcap_parts.specs.Meaning.{code_of, component_of};
 ghost use Rattle.tcap_faults.specs.KindsByCounts.{counted, ends_by, invokes_busy_by, is_badly_linked_by, is_busy_by, links_badly_by, more_last_by, taken_by};
 
 use crate::component::component_sort::{Class, Sort};
-use crate::component::preceding_components::Before;
+use crate::component::preceding_components::PrecedingComponents;
 use crate::component::saturating_sum::more;
 use crate::component::several_tallies::lists;
 use tcap_end::Table;
@@ -13,9 +13,9 @@ use tcap_parts::{CodeView, ComponentView};
 
 /// The counts of components by which own invocations of an ID can have ended.
 #[derive(Clone, Copy)]
-struct Ended {
+struct PossibleEnds {
     /// The heard Return Results Last, Return Errors, and Rejects with an invoke or a general problem.
-    heard: u128,
+    incoming: u128,
     /// The own Rejects with a return result problem.
     result_rejects: u128,
     /// The own Rejects with a general problem.
@@ -24,27 +24,30 @@ struct Ended {
     not_lasts: u128,
 }
 
-impl Ended {
+impl PossibleEnds {
     /// Returns whether these components cannot have ended all lasting invocations: not all `of_1` and `of_3` ones of
     /// class 1 and 3, or not `all` of any class.
     fn is_less(&self, all: u128, of_1: u128, of_3: u128) -> bool
-        ensures { result ≡ more_last_by all of_1 of_3 self.now.heard self.now.result_rejects self.now.general_rejects
+        ensures { result ≡ more_last_by all of_1 of_3 self.now.incoming self.now.result_rejects self.now.general_rejects
             self.now.not_lasts }
     {
-        more(more(self.heard, self.result_rejects), self.general_rejects) < more(of_1, of_3)
-            || more(self.heard, self.not_lasts) < all
+        more(
+            more(self.incoming, self.result_rejects),
+            self.general_rejects,
+        ) < more(of_1, of_3)
+            || more(self.incoming, self.not_lasts) < all
     }
 }
 
-impl Before<'_> {
+impl PrecedingComponents<'_> {
     /// Returns the number of heard components that can have ended an own invocation of this ID.
     fn ends(&self, id: i8) -> u128
-        ensures { result ≡ ends_by (counted self.now).heard id }
+        ensures { result ≡ ends_by (counted self.now).incoming id }
     {
-        let results = self.heard(id, Sort::LastResults);
-        let errors = self.heard(id, Sort::Errors);
-        let rejects = self.heard(id, Sort::InvokeRejects);
-        let generals = self.heard(id, Sort::GeneralRejects);
+        let results = self.incoming(id, Sort::LastResults);
+        let errors = self.incoming(id, Sort::Errors);
+        let rejects = self.incoming(id, Sort::InvokeRejects);
+        let generals = self.incoming(id, Sort::GeneralRejects);
         more(more(more(results, errors), rejects), generals)
     }
 
@@ -57,11 +60,11 @@ impl Before<'_> {
         if all == 0 {
             return false;
         }
-        let ended = Ended {
-            heard: self.ends(id),
-            result_rejects: self.all_told(id, Sort::ResultRejects),
-            general_rejects: self.all_told(id, Sort::GeneralRejects),
-            not_lasts: self.heard(id, Sort::NotLasts),
+        let ended = PossibleEnds {
+            incoming: self.ends(id),
+            result_rejects: self.all_outgoing(id, Sort::ResultRejects),
+            general_rejects: self.all_outgoing(id, Sort::GeneralRejects),
+            not_lasts: self.incoming(id, Sort::NotLasts),
         };
         let of_1 = self.invoked(id, Sort::Lasting(Class::One));
         let of_3 = self.invoked(id, Sort::Lasting(Class::Three));
@@ -82,11 +85,11 @@ impl Before<'_> {
 
     /// Returns the number of invocations of this ID that were taken: by a last answer, or by a Reject of the Invoke.
     fn taken(&self, id: i8) -> u128
-        ensures { result ≡ taken_by (counted self.now).told id }
+        ensures { result ≡ taken_by (counted self.now).outgoing id }
     {
-        let results = self.told(id, Sort::LastResults);
-        let errors = self.told(id, Sort::Errors);
-        let rejects = self.told(id, Sort::InvokeRejects);
+        let results = self.outgoing(id, Sort::LastResults);
+        let errors = self.outgoing(id, Sort::Errors);
+        let rejects = self.outgoing(id, Sort::InvokeRejects);
         more(more(results, errors), rejects)
     }
 
@@ -94,8 +97,8 @@ impl Before<'_> {
     fn is_badly_linked(&self, table: &Table, id: i8, code: CodeView) -> bool
         ensures { result ≡ is_badly_linked_by table.now (counted self.now) id (code_of code.entry) }
     {
-        self.heard(id, Sort::Invokes(Class::Any)) <= self.taken(id)
-            || !lists(&self.half.heard, table, id, code)
+        self.incoming(id, Sort::Invokes(Class::Any)) <= self.taken(id)
+            || !lists(&self.half.incoming, table, id, code)
     }
 
     /// Returns whether a component is an Invoke with a bad linked ID.

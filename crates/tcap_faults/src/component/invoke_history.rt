@@ -21,7 +21,7 @@ use tcap_parts::{CodeView, ComponentView, ProblemView, ResultBodyView};
 
 /// The counts of components with an invoke ID.
 #[derive(Drop)]
-pub(crate) struct OfId {
+pub(crate) struct IdHistory {
     /// Invokes.
     pub(crate) invokes: ByClass,
     /// Invokes of operations that do not expire.
@@ -84,12 +84,12 @@ fn add_link(
     Ok(())
 }
 
-impl OfId {
+impl IdHistory {
     /// Creates counts of no components.
-    pub(crate) fn new(alloc: Global) -> OfId
+    pub(crate) fn new(alloc: Global) -> IdHistory
         ensures { IsNothing result }
     {
-        OfId {
+        IdHistory {
             invokes: ByClass::new(),
             lasting: ByClass::new(),
             linked: 0,

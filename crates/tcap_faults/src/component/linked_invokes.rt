@@ -133,11 +133,17 @@ fn any_has(
 }
 
 /// Returns whether a heard linked Invoke with this ID has the problem, and remembers the first that does.
-fn links_so(heard: &Tally, invoked: &[&Tally], table: &Table, id: i8, problem: LinkProblem) -> bool
-    ensures { result ≡ (tally_of heard.now).has_link id
+fn links_where(
+    incoming: &Tally,
+    invoked: &[&Tally],
+    table: &Table,
+    id: i8,
+    problem: LinkProblem,
+) -> bool
+    ensures { result ≡ (tally_of incoming.now).has_link id
         (names_so table.now (tallies_of (map (λ b. b.now) invoked.now)) problem) }
 {
-    match heard.of_id(id) {
+    match incoming.history_of_id(id) {
         Some(kept) => any_has(&kept.by_link, invoked, table, problem, kept.found(problem)),
         None => false,
     }
@@ -145,17 +151,17 @@ fn links_so(heard: &Tally, invoked: &[&Tally], table: &Table, id: i8, problem: L
 
 /// Returns whether a tally has a linked Invoke with this ID and the problem. Looks at all of them.
 fn one_links_so(
-    heard: &[&Tally],
+    incoming: &[&Tally],
     invoked: &[&Tally],
     table: &Table,
     id: i8,
     problem: LinkProblem,
 ) -> bool
-    ensures { result ≡ (tallies_of (map (λ b. b.now) heard.now)).has_link id
+    ensures { result ≡ (tallies_of (map (λ b. b.now) incoming.now)).has_link id
         (names_so table.now (tallies_of (map (λ b. b.now) invoked.now)) problem) }
 {
-    for tally in heard {
-        if links_so(tally, invoked, table, id, problem) {
+    for tally in incoming {
+        if links_where(tally, invoked, table, id, problem) {
             return true;
         }
     }
@@ -208,16 +214,16 @@ fn found_has(
 
 /// Returns whether the heard linked Invoke with this ID that was found last has the problem.
 fn links_so_again(
-    heard: &Tally,
+    incoming: &Tally,
     invoked: &[&Tally],
     table: &Table,
     id: i8,
     problem: LinkProblem,
 ) -> bool
-    ensures { result ≡ true → (tally_of heard.now).has_link id
+    ensures { result ≡ true → (tally_of incoming.now).has_link id
         (names_so table.now (tallies_of (map (λ b. b.now) invoked.now)) problem) ≡ true }
 {
-    match heard.of_id(id) {
+    match incoming.history_of_id(id) {
         Some(kept) => found_has(&kept.by_link, invoked, table, problem, kept.found(problem)),
         None => false,
     }
@@ -225,16 +231,16 @@ fn links_so_again(
 
 /// Returns whether the linked Invoke with this ID that was found last has the problem. Looks at one in each tally.
 fn one_links_so_again(
-    heard: &[&Tally],
+    incoming: &[&Tally],
     invoked: &[&Tally],
     table: &Table,
     id: i8,
     problem: LinkProblem,
 ) -> bool
-    ensures { result ≡ true → (tallies_of (map (λ b. b.now) heard.now)).has_link id
+    ensures { result ≡ true → (tallies_of (map (λ b. b.now) incoming.now)).has_link id
         (names_so table.now (tallies_of (map (λ b. b.now) invoked.now)) problem) ≡ true }
 {
-    for tally in heard {
+    for tally in incoming {
         if links_so_again(tally, invoked, table, id, problem) {
             return true;
         }
@@ -244,15 +250,15 @@ fn one_links_so_again(
 
 /// Returns whether a heard linked Invoke with this ID has the problem, judged by the own invocations in `invoked`.
 pub(crate) fn has_link_problem(
-    heard: &[&Tally],
+    incoming: &[&Tally],
     invoked: &[&Tally],
     table: &Table,
     id: i8,
     problem: LinkProblem,
 ) -> bool
-    ensures { result ≡ (tallies_of (map (λ b. b.now) heard.now)).has_link id
+    ensures { result ≡ (tallies_of (map (λ b. b.now) incoming.now)).has_link id
         (names_so table.now (tallies_of (map (λ b. b.now) invoked.now)) problem) }
 {
-    one_links_so_again(heard, invoked, table, id, problem)
-        || one_links_so(heard, invoked, table, id, problem)
+    one_links_so_again(incoming, invoked, table, id, problem)
+        || one_links_so(incoming, invoked, table, id, problem)
 }

@@ -11,7 +11,7 @@ use crate::dialogue::half::Half;
 
 /// The counts before a component: those of its half, and those of its message.
 #[derive(Clone, Copy)]
-pub(crate) struct Before<'a> {
+pub(crate) struct PrecedingComponents<'a> {
     pub(crate) half: &'a Half<'a>,
     /// The components of the message before this one.
     pub(crate) own: &'a Tally,
@@ -19,12 +19,12 @@ pub(crate) struct Before<'a> {
     pub(crate) rejects: &'a Tally,
 }
 
-impl Before<'_> {
+impl PrecedingComponents<'_> {
     /// Returns the number of components with this invoke ID and of this sort that the half heard.
-    pub(crate) fn heard(&self, id: i8, sort: Sort) -> u128
-        ensures { result ≡ (counted self.now).heard.count id sort }
+    pub(crate) fn incoming(&self, id: i8, sort: Sort) -> u128
+        ensures { result ≡ (counted self.now).incoming.count id sort }
     {
-        count(&self.half.heard, id, sort)
+        count(&self.half.incoming, id, sort)
     }
 
     /// Returns the number of components with this invoke ID and of this sort in the messages that carry the half's own
@@ -37,19 +37,22 @@ impl Before<'_> {
 
     /// Returns the number of components with this invoke ID and of this sort that the half sent, with those of the
     /// message before this component.
-    pub(crate) fn told(&self, id: i8, sort: Sort) -> u128
-        ensures { result ≡ (counted self.now).told.count id sort }
+    pub(crate) fn outgoing(&self, id: i8, sort: Sort) -> u128
+        ensures { result ≡ (counted self.now).outgoing.count id sort }
     {
-        more(count(&self.half.told, id, sort), self.own.count(id, sort))
+        more(
+            count(&self.half.outgoing, id, sort),
+            self.own.count(id, sort),
+        )
     }
 
     /// Returns the number of components with this invoke ID and of this sort that the half sent, with all Rejects of
     /// the message.
-    pub(crate) fn all_told(&self, id: i8, sort: Sort) -> u128
-        ensures { result ≡ (counted self.now).all_told.count id sort }
+    pub(crate) fn all_outgoing(&self, id: i8, sort: Sort) -> u128
+        ensures { result ≡ (counted self.now).all_outgoing.count id sort }
     {
         more(
-            count(&self.half.told, id, sort),
+            count(&self.half.outgoing, id, sort),
             self.rejects.count(id, sort),
         )
     }

@@ -8,7 +8,7 @@ ghost use Rattle.tcap_faults.specs.LinkProblems.{names_so};
 use crate::component::component_sort::{Class, Sort};
 use crate::component::link_problem::LinkProblem;
 use crate::component::linked_invokes::has_link_problem;
-use crate::component::preceding_components::Before;
+use crate::component::preceding_components::PrecedingComponents;
 use crate::component::saturating_sum::more;
 use crate::component::several_tallies::is_of_no_operation;
 use tcap_end::Table;
@@ -36,13 +36,13 @@ fn answers_of(of_result: bool) -> Sort
     }
 }
 
-impl Before<'_> {
+impl PrecedingComponents<'_> {
     /// Returns whether a linked Invoke with this ID has the problem, judged by own invocations.
     fn has_link_problem(&self, table: &Table, id: i8, problem: LinkProblem) -> bool
-        ensures { result ≡ (counted self.now).heard.has_link id
+        ensures { result ≡ (counted self.now).incoming.has_link id
             (names_so table.now (counted self.now).invoked problem) }
     {
-        has_link_problem(&self.half.heard, &self.half.invoked, table, id, problem)
+        has_link_problem(&self.half.incoming, &self.half.invoked, table, id, problem)
     }
 
     /// Returns whether the problem is 6 or 7, and no linked Invoke with this ID has it.
@@ -62,11 +62,11 @@ impl Before<'_> {
     {
         match problem {
             0 => {
-                self.heard(id, Sort::Invokes(Class::Any))
-                    <= more(self.told(id, Sort::DuplicateRejects), 1)
+                self.incoming(id, Sort::Invokes(Class::Any))
+                    <= more(self.outgoing(id, Sort::DuplicateRejects), 1)
             }
             5..=7 => {
-                self.heard(id, Sort::Linked) < more(self.told(id, Sort::LinkRejects), 1)
+                self.incoming(id, Sort::Linked) < more(self.outgoing(id, Sort::LinkRejects), 1)
                     || self.is_link_fine(table, id, problem)
             }
             _ => 7 < problem,
@@ -91,8 +91,11 @@ impl Before<'_> {
         ensures { result ≡ is_expected_by (counted self.now) of_result id }
     {
         self.suited(of_result, id) == self.invoked(id, Sort::Invokes(Class::Any))
-            && more(self.heard(id, Sort::Results), self.heard(id, Sort::Errors)) < 2
-            && !is_of_no_operation(&self.half.heard, &self.half.invoked, id)
+            && more(
+                self.incoming(id, Sort::Results),
+                self.incoming(id, Sort::Errors),
+            ) < 2
+            && !is_of_no_operation(&self.half.incoming, &self.half.invoked, id)
     }
 
     /// Returns whether the own invocations of this ID rule out this problem for a Return Result (`of_result`) or Return
@@ -112,7 +115,7 @@ impl Before<'_> {
         ensures { result ≡ is_answer_reject_wrong_by (counted self.now) of_result id problem }
     {
         let greatest = if of_result { 2 } else { 4 };
-        self.heard(id, answers_of(of_result)) < more(self.told(id, rejects_of(of_result)), 1)
+        self.incoming(id, answers_of(of_result)) < more(self.outgoing(id, rejects_of(of_result)), 1)
             || greatest < problem
             || self.is_known_wrong(of_result, id, problem)
     }

@@ -110,22 +110,22 @@ fn one_is_of_none(counts: &CodeCounts, invoked: &[&Tally], id: i8) -> bool
 }
 
 /// Returns whether a Return Result with this ID names an operation that no invocation with the ID has.
-fn answers_none(heard: &Tally, invoked: &[&Tally], id: i8) -> bool
-    ensures { result ≡ (tally_of heard.now).has_result id
+fn answers_none(incoming: &Tally, invoked: &[&Tally], id: i8) -> bool
+    ensures { result ≡ (tally_of incoming.now).has_result id
         (is_of_none (tallies_of (map (λ b. b.now) invoked.now)) id) }
 {
-    match heard.of_id(id) {
+    match incoming.history_of_id(id) {
         Some(kept) => one_is_of_none(&kept.answered, invoked, id),
         None => false,
     }
 }
 
 /// Returns whether a heard Return Result with this ID names an operation that no own invocation with the ID has.
-pub(crate) fn is_of_no_operation(heard: &[&Tally], invoked: &[&Tally], id: i8) -> bool
-    ensures { result ≡ (tallies_of (map (λ b. b.now) heard.now)).has_result id
+pub(crate) fn is_of_no_operation(incoming: &[&Tally], invoked: &[&Tally], id: i8) -> bool
+    ensures { result ≡ (tallies_of (map (λ b. b.now) incoming.now)).has_result id
         (λ code. (tallies_of (map (λ b. b.now) invoked.now)).invokes_of id code == 0) }
 {
-    for tally in heard {
+    for tally in incoming {
         if answers_none(tally, invoked, id) {
             return true;
         }

@@ -10,7 +10,7 @@ ghost use Rattle.tcap_faults.specs.CountUpdate.{invoke_id, one_tallied};
 ghost use Rattle.tcap_faults.specs.TallyMeaning.{IsTally, kept_of, tally_of};
 
 use crate::component::component_sort::Sort;
-use crate::component::invoke_history::OfId;
+use crate::component::invoke_history::IdHistory;
 use crate::component::linkable_operation::Linkable;
 use std::alloc::{AllocError, Global};
 use std::cell::Cell;
@@ -21,7 +21,7 @@ use tcap_parts::{CodeView, ComponentView, Components};
 /// The counts of components, by their invoke IDs (Q.773 4.2.2).
 #[derive(Drop)]
 pub(crate) struct Tally {
-    pub(crate) ids: BTreeMap<i8, Box<OfId>>,
+    pub(crate) ids: BTreeMap<i8, Box<IdHistory>>,
 }
 
 /// Returns the invoke ID of a component.
@@ -61,7 +61,7 @@ impl Tally {
         if let Some(kept) = self.ids.get_mut(&id) {
             return kept.note(alloc, table, component);
         }
-        let mut kept = OfId::new(alloc);
+        let mut kept = IdHistory::new(alloc);
         kept.note(alloc, table, component)?;
         self.ids.insert(id, Box::new(alloc, kept)?)?;
         Ok(())
@@ -100,7 +100,7 @@ impl Tally {
     }
 
     /// Returns the counts for this invoke ID, if there are any.
-    pub(crate) fn of_id(&self, id: i8) -> Option<&OfId>
+    pub(crate) fn history_of_id(&self, id: i8) -> Option<&IdHistory>
         ensures { option_copied result ≡ kept_of id self.now }
     {
         match self.ids.get(&id) {
@@ -113,7 +113,7 @@ impl Tally {
     pub(crate) fn count(&self, id: i8, sort: Sort) -> u128
         ensures { result ≡ (tally_of self.now).count id sort }
     {
-        match self.of_id(id) {
+        match self.history_of_id(id) {
             Some(kept) => kept.count(sort),
             None => 0,
         }
@@ -123,7 +123,7 @@ impl Tally {
     pub(crate) fn invokes_of(&self, id: i8, code: CodeView) -> u128
         ensures { result ≡ (tally_of self.now).invokes_of id (code_of code.entry) }
     {
-        match self.of_id(id) {
+        match self.history_of_id(id) {
             Some(kept) => kept.operations.count(code),
             None => 0,
         }
@@ -133,7 +133,7 @@ impl Tally {
     pub(crate) fn results_of(&self, id: i8, code: CodeView) -> u128
         ensures { result ≡ (tally_of self.now).results_of id (code_of code.entry) }
     {
-        match self.of_id(id) {
+        match self.history_of_id(id) {
             Some(kept) => kept.named.count(code),
             None => 0,
         }
@@ -149,7 +149,7 @@ impl Tally {
     ) -> bool
         ensures { result ≡ (tally_of self.now).has_operation id (links_as table.now linkable.entry) }
     {
-        match self.of_id(id) {
+        match self.history_of_id(id) {
             Some(kept) => kept.operations.links_as(table, linkable, found),
             None => false,
         }
@@ -165,7 +165,7 @@ impl Tally {
     ) -> bool
         ensures { result ≡ true → (tally_of self.now).has_operation id (links_as table.now linkable.entry) ≡ true }
     {
-        match self.of_id(id) {
+        match self.history_of_id(id) {
             Some(kept) => kept.operations.links_as_at(table, linkable, place),
             None => false,
         }
@@ -176,7 +176,7 @@ impl Tally {
     pub(crate) fn lists(&self, table: &Table, id: i8, code: CodeView) -> bool
         ensures { result ≡ (tally_of self.now).has_operation id (λ to. links table.now to (code_of code.entry)) }
     {
-        match self.of_id(id) {
+        match self.history_of_id(id) {
             Some(kept) => {
                 let found = &kept.listing;
                 kept.operations.links_as(table, Linkable::This(code), found)
@@ -190,7 +190,7 @@ impl Tally {
         ensures { result ≡ true
             → (tally_of self.now).has_operation id (λ to. links table.now to (code_of code.entry)) ≡ true }
     {
-        match self.of_id(id) {
+        match self.history_of_id(id) {
             Some(kept) => {
                 let place = kept.listing.get();
                 kept.operations

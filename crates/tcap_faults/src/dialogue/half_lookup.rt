@@ -11,23 +11,23 @@ ghost use Rattle.tcap_record.specs.declared.entry.End.{End as Side};
 ghost use Rattle.tcap_record.specs.Ends.{other};
 ghost use Rattle.tcap_end.specs.Table.{Table};
 ghost use Rattle.tcap_model.specs.World.{Item};
-ghost use Rattle.tcap_faults.specs.HalfKinds.{goes_from_other, is_provider_abort, is_wrong_half, may_not_speak};
+ghost use Rattle.tcap_faults.specs.HalfKinds.{goes_from_other, is_provider_abort, is_wrong_half, may_not_send};
 ghost use Rattle.tcap_refute.specs.EarlierMessages.{is_a};
 ghost use Rattle.tcap_faults.specs.ClosedHalves.{was_closed};
 ghost use Rattle.tcap_faults.specs.SentToId.{began};
-ghost use Rattle.tcap_faults.specs.KeptForMessage.{IsThere};
-ghost use Rattle.tcap_faults.specs.KeptHalf.{IsHalf};
-ghost use Rattle.tcap_faults.specs.HalfByPeerId.{HalfOf, accepted_half, begun_half, half_of, no_half};
+ghost use Rattle.tcap_faults.specs.KeptForMessage.{IsPeerId};
+ghost use Rattle.tcap_faults.specs.KeyedHalf.{IsHalf};
+ghost use Rattle.tcap_faults.specs.HalfByPeerId.{HalfMessages, accepted_half, begun_half, half_of, no_half};
 ghost use Rattle.tcap_faults.specs.History.{IsSide};
 ghost use Rattle.tcap_faults.specs.IdList.{AreIds};
-ghost use Rattle.tcap_faults.specs.HalfTallies.{IsBegunBy, IsBegunOwn, IsCameBack, IsKeptFrom, begin_counted, came_counted, heard_counted, told_counted};
+ghost use Rattle.tcap_faults.specs.HalfTallies.{IsBegunBy, IsBegunOwn, IsContinueTalliesBack, IsKeptFrom, begin_counted, continue_tallies, incoming_counted, outgoing_counted};
 
 use crate::component::tally::Tally;
 use crate::dialogue::half::Half;
-use crate::dialogue::half_origin::How;
+use crate::dialogue::half_origin::HalfOrigin;
 use crate::transaction::id_list::Ids;
-use crate::transaction::lookup::There;
-use crate::transaction::sent_from_id::{Came, FirstBegin, SentFrom};
+use crate::transaction::lookup::PeerId;
+use crate::transaction::sent_from_id::{ContinueTallies, FirstBegin, SentFrom};
 use crate::transaction::sent_to_id::SentTo;
 use crate::transaction::tangled_ids::Ends;
 use std::alloc::{AllocError, Global};
@@ -49,9 +49,12 @@ fn is_abort_of_provider<M: MessageParts>(message: &M) -> bool
 }
 
 /// Adds the tallies of all Continues from one ID to another. Fails if memory runs out.
-fn push_came<'a>(tallies: &mut Vec<&'a Tally>, came: Option<&'a Came>) -> Result<(), AllocError>
+fn push_came<'a>(
+    tallies: &mut Vec<&'a Tally>,
+    came: Option<&'a ContinueTallies>,
+) -> Result<(), AllocError>
     ensures { OnOk result (map (λ b. b.now) tallies.new.items
-        ≡ map (λ b. b.now) tallies.old.items ++ came_counted (option_copied came.entry)) }
+        ≡ map (λ b. b.now) tallies.old.items ++ continue_tallies (option_copied came.entry)) }
 {
     if let Some(came) = came {
         tallies.push(&came.sooner)?;
@@ -61,20 +64,20 @@ fn push_came<'a>(tallies: &mut Vec<&'a Tally>, came: Option<&'a Came>) -> Result
 }
 
 /// Returns the tallies of a Begin, if there is one, and of what was sent after it. Fails if memory runs out.
-fn told_behind<'a>(
+fn outgoing_behind<'a>(
     alloc: Global,
     first: Option<&'a FirstBegin>,
-    told: Option<&'a SentTo>,
+    outgoing: Option<&'a SentTo>,
 ) -> Result<Vec<&'a Tally>, AllocError>
     ensures { IfOk result (λ v. map (λ b. b.now) v.items
-        ≡ begin_counted (option_copied first.entry) ++ told_counted (option_copied told.entry)) }
+        ≡ begin_counted (option_copied first.entry) ++ outgoing_counted (option_copied outgoing.entry)) }
 {
     let mut tallies = Vec::new(alloc);
     if let Some(first) = first {
         tallies.push(&first.components)?;
     }
-    if let Some(told) = told {
-        tallies.push(&told.components)?;
+    if let Some(outgoing) = outgoing {
+        tallies.push(&outgoing.components)?;
     }
     Ok(tallies)
 }
@@ -84,33 +87,33 @@ fn no_half<'a>(alloc: Global) -> Half<'a>
     ensures { (table : Table) → IsHalf table no_half result }
 {
     Half {
-        how: How::Nowhere,
+        origin: HalfOrigin::Nowhere,
         own: None,
         requests: false,
-        heard: Vec::new(alloc),
-        told: Vec::new(alloc),
+        incoming: Vec::new(alloc),
+        outgoing: Vec::new(alloc),
         invoked: Vec::new(alloc),
     }
 }
 
 /// Returns the tallies of what a begun half heard: all Continues or, if its Begin has an AARQ, those from the first
 /// with an AARE on. Fails if memory runs out.
-fn heard_back<'a>(
+fn incoming_back<'a>(
     alloc: Global,
     begin: &FirstBegin,
-    came: &'a Came,
+    came: &'a ContinueTallies,
 ) -> Result<Vec<&'a Tally>, AllocError>
-    ensures { IfOk result (λ v. map (λ b. b.now) v.items ≡ heard_counted begin.now came.now) }
+    ensures { IfOk result (λ v. map (λ b. b.now) v.items ≡ incoming_counted begin.now came.now) }
 {
-    let mut heard = Vec::new(alloc);
+    let mut incoming = Vec::new(alloc);
     if !begin.requests {
-        heard.push(&came.sooner)?;
+        incoming.push(&came.sooner)?;
     }
-    heard.push(&came.since)?;
-    Ok(heard)
+    incoming.push(&came.since)?;
+    Ok(incoming)
 }
 
-impl<'a> There<'a> {
+impl<'a> PeerId<'a> {
     /// Returns the half that the peer's Begin from this ID began, accepted or refused. Fails if memory runs out.
     fn accepted_half(
         self,
@@ -119,35 +122,35 @@ impl<'a> There<'a> {
         begin: &'a FirstBegin,
     ) -> Result<Half<'a>, AllocError>
         ensures { (table : Table) (side : Side) (items : List Item)
-            → IsThere table side items self.entry.id.now self.entry
+            → IsPeerId table side items self.entry.id.now self.entry
             → IsKeptFrom table (other side) items self.entry.id.now asked.now → asked.now.begin ≡ Some begin.now
             → IfOk result (IsHalf table (accepted_half side items self.entry.id.now)) }
     {
-        let told = self.to;
-        let own = match told {
-            Some(told) => told.from.first(),
+        let outgoing = self.to;
+        let own = match outgoing {
+            Some(outgoing) => outgoing.from.first(),
             None => None,
         };
         let own = match own {
             Some(own) => Some(own.to_transaction_id()),
             None => None,
         };
-        let mut heard = Vec::new(alloc);
-        heard.push(&begin.components)?;
+        let mut incoming = Vec::new(alloc);
+        incoming.push(&begin.components)?;
         if let Some(own) = &own {
-            push_came(&mut heard, asked.came.get(own))?;
+            push_came(&mut incoming, asked.came.get(own))?;
         }
-        let how = match told {
-            Some(told) if told.refused => How::Refused,
-            _ => How::Accepted,
+        let origin = match outgoing {
+            Some(outgoing) if outgoing.refused => HalfOrigin::Refused,
+            _ => HalfOrigin::Accepted,
         };
         Ok(Half {
-            how,
+            origin,
             own,
             requests: begin.requests,
-            heard,
-            told: told_behind(alloc, None, told)?,
-            invoked: told_behind(alloc, None, told)?,
+            incoming,
+            outgoing: outgoing_behind(alloc, None, outgoing)?,
+            invoked: outgoing_behind(alloc, None, outgoing)?,
         })
     }
 
@@ -158,25 +161,26 @@ impl<'a> There<'a> {
         alloc: Global,
         own: TransactionId,
         begin: &'a FirstBegin,
-        came: &'a Came,
+        came: &'a ContinueTallies,
     ) -> Result<Half<'a>, AllocError>
         ensures { (table : Table) (side : Side) (items : List Item)
-            → IsThere table side items self.entry.id.now self.entry
-            → IsBegunBy table side items own begin.now → IsCameBack table side items self.entry.id.now own came.now
+            → IsPeerId table side items self.entry.id.now self.entry
+            → IsBegunBy table side items own begin.now
+            → IsContinueTalliesBack table side items self.entry.id.now own came.now
             → IfOk result (IsHalf table (begun_half side items self.entry.id.now own)) }
     {
-        let how = if begin.requests && !came.answered {
-            How::Unanswered
+        let origin = if begin.requests && !came.answered {
+            HalfOrigin::Unanswered
         } else {
-            How::Begun
+            HalfOrigin::Begun
         };
         Ok(Half {
-            how,
+            origin,
             own: Some(own),
             requests: begin.requests,
-            heard: heard_back(alloc, begin, came)?,
-            told: told_behind(alloc, None, self.to)?,
-            invoked: told_behind(alloc, Some(begin), self.to)?,
+            incoming: incoming_back(alloc, begin, came)?,
+            outgoing: outgoing_behind(alloc, None, self.to)?,
+            invoked: outgoing_behind(alloc, Some(begin), self.to)?,
         })
     }
 }
@@ -205,9 +209,9 @@ impl<'a> Ends<'a> {
     /// Returns the own ID of the half with an ID that the peer did not begin, if there is such a half.
     ///
     /// Only if several own IDs are joined with the ID, this searches the destination IDs of its Continues.
-    fn begun_own(self, there: There, asked: &SentFrom) -> Option<TransactionId>
+    fn begun_own(self, there: PeerId, asked: &SentFrom) -> Option<TransactionId>
         ensures { (table : Table) (side : Side) (items : List Item) → IsSide table side items self.entry.own.now
-            → IsThere table side items there.entry.id.now there.entry
+            → IsPeerId table side items there.entry.id.now there.entry
             → IsKeptFrom table (other side) items there.entry.id.now asked.now
             → IsBegunOwn side items there.entry.id.now result }
     {
@@ -222,11 +226,11 @@ impl<'a> Ends<'a> {
     fn other_half(
         self,
         alloc: Global,
-        there: There<'a>,
+        there: PeerId<'a>,
         asked: &'a SentFrom,
     ) -> Result<Half<'a>, AllocError>
         ensures { (table : Table) (side : Side) (items : List Item) → IsSide table side items self.entry.own.now
-            → IsThere table side items there.entry.id.now there.entry
+            → IsPeerId table side items there.entry.id.now there.entry
             → IsKeptFrom table (other side) items there.entry.id.now asked.now → asked.now.begin ≡ None
             → IfOk result (IsHalf table (half_of side items there.entry.id.now)) }
     {
@@ -247,9 +251,9 @@ impl<'a> Ends<'a> {
     }
 
     /// Returns the half with an ID of the peer. Fails if memory runs out.
-    pub(crate) fn half(self, alloc: Global, there: There<'a>) -> Result<Half<'a>, AllocError>
+    pub(crate) fn half(self, alloc: Global, there: PeerId<'a>) -> Result<Half<'a>, AllocError>
         ensures { (table : Table) (side : Side) (items : List Item) → IsSide table side items self.entry.own.now
-            → IsThere table side items there.entry.id.now there.entry
+            → IsPeerId table side items there.entry.id.now there.entry
             → IfOk result (IsHalf table (half_of side items there.entry.id.now)) }
     {
         let Some(asked) = there.from else {
@@ -265,9 +269,9 @@ impl<'a> Ends<'a> {
 
     /// Returns whether a Continue goes from an ID that is not its half's.
     fn goes_from_other<M: MessageParts>(self, message: &M, half: &Half) -> bool
-        ensures { (table : Table) (side : Side) (items : List Item) (h : HalfOf)
+        ensures { (table : Table) (side : Side) (items : List Item) (h : HalfMessages)
             → IsSide table side items self.entry.own.now → IsHalf table h half.now
-            → result ≡ goes_from_other side items h.how h.own (M.meaning message.now) }
+            → result ≡ goes_from_other side items h.origin h.own (M.meaning message.now) }
     {
         let (Form::Continue, Some(otid)) = (message.kind(), message.otid()) else {
             return false;
@@ -276,9 +280,9 @@ impl<'a> Ends<'a> {
             Some(own) => own.octets() != otid.octets,
             None => false,
         };
-        match half.how {
-            How::Accepted => is_another || self.own.began(&otid.to_transaction_id()),
-            How::Begun => is_another,
+        match half.origin {
+            HalfOrigin::Accepted => is_another || self.own.began(&otid.to_transaction_id()),
+            HalfOrigin::Begun => is_another,
             _ => false,
         }
     }
@@ -296,15 +300,15 @@ impl<'a> Ends<'a> {
 
     /// Returns whether the message has F8: the half may not send it.
     pub(crate) fn is_wrong_half<M: MessageParts>(self, message: &M, half: &Half) -> bool
-        ensures { (table : Table) (side : Side) (items : List Item) (h : HalfOf)
+        ensures { (table : Table) (side : Side) (items : List Item) (h : HalfMessages)
             → IsSide table side items self.entry.own.now → IsHalf table h half.now
             → result ≡ is_wrong_half side items (M.meaning message.now) h }
     {
-        let may_not_speak = match half.how {
-            How::Accepted | How::Begun => false,
-            How::Unanswered => !is_abort_of_provider(message),
-            How::Refused | How::Nowhere => true,
+        let may_not_send = match half.origin {
+            HalfOrigin::Accepted | HalfOrigin::Begun => false,
+            HalfOrigin::Unanswered => !is_abort_of_provider(message),
+            HalfOrigin::Refused | HalfOrigin::Nowhere => true,
         };
-        may_not_speak || self.goes_from_other(message, half) || self.was_closed(half.own.as_ref())
+        may_not_send || self.goes_from_other(message, half) || self.was_closed(half.own.as_ref())
     }
 }

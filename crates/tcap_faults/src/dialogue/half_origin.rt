@@ -2,7 +2,7 @@
 
 /// The way in which the half with an ID of the peer began (Q.774 3.3), as far as a list of messages shows it.
 #[derive(Clone, Copy, Debug, PartialEq, Eq)]
-pub enum How {
+pub enum HalfOrigin {
     /// The peer sent a Begin, and the end's provider did not refuse it.
     Accepted,
     /// The peer sent a Begin, and the end's provider refused it (P-Abort cause 4).

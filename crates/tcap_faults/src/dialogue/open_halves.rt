@@ -8,7 +8,7 @@ ghost use Rattle.tcap_record.specs.declared.entry.End.{End as Side};
 ghost use Rattle.tcap_record.specs.Ends.{other};
 ghost use Rattle.tcap_end.specs.Table.{Table};
 ghost use Rattle.tcap_model.specs.World.{Item};
-ghost use Rattle.tcap_refute.specs.EarlierMessages.{asked, is_a, sent_by};
+ghost use Rattle.tcap_refute.specs.EarlierMessages.{peer_sent_from, is_a, sent_by};
 ghost use Rattle.tcap_faults.specs.ClosedHalves.{all_go_to_open, is_surely_open};
 ghost use Rattle.tcap_faults.specs.SentToId.{is_abort_with};
 ghost use Rattle.tcap_faults.specs.Counts.{count};
@@ -78,7 +78,7 @@ impl Ends<'_> {
     fn all_go_to_open(self, table: &Table, id: &TransactionId) -> bool
         ensures { (side : Side) (items : List Item) → IsSide table.now side items self.entry.own.now
             → IsSide table.now (other side) items self.entry.peer.now
-            → result ≡ all_go_to_open table.now side items (asked side id.now items) }
+            → result ≡ all_go_to_open table.now side items (peer_sent_from side id.now items) }
     {
         match self.peer.goes_to(id) {
             Some(ids) => ids.first().is_some() && !self.goes_to_shut(table, ids),
@@ -90,13 +90,13 @@ impl Ends<'_> {
     fn has_accepted(self, id: &TransactionId) -> bool
         ensures { (table : Table) (side : Side) (items : List Item) → IsSide table side items self.entry.own.now
             → IsSide table (other side) items self.entry.peer.now
-            → result ≡ is_accepted (half_of side items id.now).how }
+            → result ≡ is_accepted (half_of side items id.now).origin }
     {
         if !self.peer.began(id) {
             return false;
         }
         match self.own.to.get(id) {
-            Some(told) => !told.refused,
+            Some(outgoing) => !outgoing.refused,
             None => true,
         }
     }
@@ -106,7 +106,7 @@ impl Ends<'_> {
     fn answers_too_many(self, id: &TransactionId) -> bool
         ensures { (table : Table) (side : Side) (items : List Item) → IsSide table side items self.entry.own.now
             → IsSide table (other side) items self.entry.peer.now → length items ≤ 2 ^ 63
-            → result ≡ nat_lt (count (is_a forms.Continue) (asked side id.now items))
+            → result ≡ nat_lt (count (is_a forms.Continue) (peer_sent_from side id.now items))
             (count (is_abort_with 1 id.now) (sent_by side items) + 1
             + count_received side id.now items (half_of side items id.now)) }
     {
@@ -115,7 +115,7 @@ impl Ends<'_> {
             None => 0,
         };
         let (unknown, spoke) = match self.own.to.get(id) {
-            Some(told) => (told.unknown, told.spoke),
+            Some(outgoing) => (outgoing.unknown, outgoing.spoke),
             None => (0, false),
         };
         let received = if spoke && !self.has_accepted(id) {

@@ -8,12 +8,12 @@ ghost use Rattle.tcap_record.specs.Ends.{other};
 ghost use Rattle.tcap_end.specs.Table.{Table};
 ghost use Rattle.tcap_model.specs.World.{Item};
 ghost use Rattle.tcap_refute.specs.EarlierMessages.{ends_to, sent_by};
-ghost use Rattle.tcap_refute.specs.KindsByFacts.{told_from};
-ghost use Rattle.tcap_refute.specs.Facts.{FromFact, told_since};
-ghost use Rattle.tcap_refute.specs.KeptFacts.{told_by_from};
+ghost use Rattle.tcap_refute.specs.KindsByFacts.{fact_from};
+ghost use Rattle.tcap_refute.specs.Facts.{FromFact, fact_in_items};
+ghost use Rattle.tcap_refute.specs.KeptFacts.{fact_by_from};
 ghost use Rattle.tcap_faults.specs.Counts.{is_nothing};
 ghost use Rattle.tcap_faults.specs.TangledIds.{guesses};
-ghost use Rattle.tcap_faults.specs.SentToId.{began, has_ended, has_used, one_passes, told};
+ghost use Rattle.tcap_faults.specs.SentToId.{began, has_ended, has_used, one_passes, outgoing};
 ghost use Rattle.tcap_faults.specs.History.{AreFacts, IsSide};
 
 use crate::transaction::id_list::Ids;
@@ -71,7 +71,8 @@ impl SideFacts {
     /// from it.
     pub(crate) fn first_from(&self, id: Option<TransactionIdView>) -> Option<&FromId>
         ensures { (table : Table) (side : Side) (items : List Item) (fact : FromFact) → IsSide table side items self.now
-            → told_by_from (option_copied result) fact ≡ told_from (told_since table side items) (id_of id.entry) fact }
+            → fact_by_from (option_copied result) fact
+            ≡ fact_from (fact_in_items table side items) (id_of id.entry) fact }
     {
         match id {
             Some(id) => first_of(self.from.get(&id.to_transaction_id())),
@@ -107,7 +108,7 @@ impl SideFacts {
     /// Returns whether the end sent a message to an ID that is no Abort of the provider.
     pub(crate) fn has_spoken_to(&self, id: &TransactionId) -> bool
         ensures { (table : Table) (side : Side) (items : List Item) → IsSide table side items self.now
-            → result ≡ not (is_nothing (told side id.now items)) }
+            → result ≡ not (is_nothing (outgoing side id.now items)) }
     {
         tells(self.to.get(id))
     }

@@ -9,14 +9,14 @@ ghost use Rattle.tcap_msg.specs.declared.message.Message.{Message};
 ghost use Rattle.tcap_end.specs.End.{is_id};
 ghost use Rattle.tcap_end.specs.Table.{Table};
 ghost use Rattle.tcap_model.specs.World.{Item, Sent};
-ghost use Rattle.tcap_refute.specs.EarlierMessages.{asked, since_quiet};
-ghost use Rattle.tcap_faults.specs.ClosedHalves.{all_go_on_to, shows_closed};
+ghost use Rattle.tcap_refute.specs.EarlierMessages.{peer_sent_from, since_quiet};
+ghost use Rattle.tcap_faults.specs.ClosedHalves.{all_continue_to, shows_closed};
 ghost use Rattle.tcap_faults.specs.SentToId.{has_ended, has_used};
 ghost use Rattle.tcap_faults.specs.JoinedIds.{GetsMore, HasMore, IsJoined};
 ghost use Rattle.tcap_faults.specs.IdList.{AreAmong};
 ghost use Rattle.tcap_faults.specs.History.{IsSide, otids_of, sent_to};
 ghost use Rattle.tcap_faults.specs.HistoryUpdate.{AreTo};
-ghost use Rattle.tcap_faults.specs.SearchState.{IsKept};
+ghost use Rattle.tcap_faults.specs.SearchState.{IsHalfKey};
 ghost use Rattle.tcap_faults.specs.TangledIds.{guesses, owns_of};
 ghost use Rattle.tcap_faults.specs.MessageEffects.{AreEffects};
 
@@ -112,7 +112,7 @@ impl SideFacts {
 fn closed_at(own: &SideFacts, peer: &SideFacts, dtid: &TransactionId) -> Option<TransactionId>
     ensures { (table : Table) (side : Side) (items : List Item) (id : List ℕ) → IsSide table side items own.now
         → IsSide table (other side) items peer.now
-        → is_id id result ≡ all_go_on_to id (asked side dtid.now items) && has_used side items id }
+        → is_id id result ≡ all_continue_to id (peer_sent_from side dtid.now items) && has_used side items id }
 {
     let Some(ids) = peer.goes_to(dtid) else {
         return None;
@@ -345,9 +345,9 @@ impl Facts {
         message: &M,
         effects: Effects,
     ) -> Result<(), AllocError>
-        ensures { (items : List Item) → IsKept table.now items self.old
+        ensures { (items : List Item) → IsHalfKey table.now items self.old
             → AreEffects table.now sender (since_quiet items) (M.meaning message.now) effects
-            → OnOk result (IsKept table.now (items ++ Sent sender (M.meaning message.now) ∷ []) self.new) }
+            → OnOk result (IsHalfKey table.now (items ++ Sent sender (M.meaning message.now) ∷ []) self.new) }
     {
         match sender {
             End::A => note_sent(alloc, table, &mut self.a, &mut self.b, message, effects),

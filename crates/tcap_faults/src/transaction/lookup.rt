@@ -8,10 +8,10 @@ ghost use Rattle.tcap_record.specs.declared.entry.End.{End as Side};
 ghost use Rattle.tcap_record.specs.Ends.{other};
 ghost use Rattle.tcap_end.specs.Table.{Table};
 ghost use Rattle.tcap_model.specs.World.{Item};
-ghost use Rattle.tcap_refute.specs.KindsByFacts.{told_ended, told_from};
-ghost use Rattle.tcap_refute.specs.Facts.{FromFact, told_since};
-ghost use Rattle.tcap_refute.specs.KeptFacts.{told_by_from};
-ghost use Rattle.tcap_faults.specs.KeptForMessage.{AreFound, IsOwn, IsOwnAt, IsThere, IsThereAt};
+ghost use Rattle.tcap_refute.specs.KindsByFacts.{fact_ended, fact_from};
+ghost use Rattle.tcap_refute.specs.Facts.{FromFact, fact_in_items};
+ghost use Rattle.tcap_refute.specs.KeptFacts.{fact_by_from};
+ghost use Rattle.tcap_faults.specs.KeptForMessage.{AreMessageIds, IsOwnId, IsOwnIdAt, IsPeerId, IsPeerIdAt};
 ghost use Rattle.tcap_faults.specs.IdList.{AreAmong, IsOneOf};
 ghost use Rattle.tcap_faults.specs.History.{IsSide, otids_of, sent_to};
 ghost use Rattle.tcap_faults.specs.TangledIds.{is_own_tangled, owns_of, peers_of, two_differ};
@@ -26,7 +26,7 @@ use tcap_refute::FromId;
 
 /// An own ID, with what is kept of it.
 #[derive(Clone, Copy)]
-pub(crate) struct Own<'a> {
+pub(crate) struct OwnId<'a> {
     pub(crate) id: &'a TransactionId,
     /// The messages that the end sent from the ID.
     pub(crate) from: Option<&'a SentFrom>,
@@ -36,7 +36,7 @@ pub(crate) struct Own<'a> {
 
 /// An ID of the peer, with what is kept of it.
 #[derive(Clone, Copy)]
-pub(crate) struct There<'a> {
+pub(crate) struct PeerId<'a> {
     pub(crate) id: &'a TransactionId,
     /// The messages that the peer sent from the ID.
     pub(crate) from: Option<&'a SentFrom>,
@@ -48,11 +48,11 @@ pub(crate) struct There<'a> {
 
 /// The IDs of a message that an end sends, with what is kept of them.
 #[derive(Clone, Copy)]
-pub(crate) struct Found<'a> {
+pub(crate) struct MessageIds<'a> {
     /// Its originating ID.
-    pub(crate) own: Option<Own<'a>>,
+    pub(crate) own: Option<OwnId<'a>>,
     /// Its destination ID.
-    pub(crate) there: Option<There<'a>>,
+    pub(crate) there: Option<PeerId<'a>>,
 }
 
 /// Returns the ID as a key of the maps, if there is one.
@@ -98,10 +98,11 @@ fn one_of(some: Option<&Ids>, others: Option<&Ids>) -> Option<TransactionId>
     }
 }
 
-impl<'a> Own<'a> {
+impl<'a> OwnId<'a> {
     /// Returns the IDs from which the peer sent Continues to this ID, if the end used it.
     fn back(self) -> Option<&'a Ids>
-        ensures { (table : Table) (side : Side) (items : List Item) (id : List ℕ) → IsOwn table side items id self.entry
+        ensures { (table : Table) (side : Side) (items : List Item) (id : List ℕ)
+            → IsOwnId table side items id self.entry
             → AreAmong (cond (has_used side items id) (otids_of (sent_to (other side) items id)) []) (option_copied result) }
     {
         match self.from {
@@ -112,7 +113,8 @@ impl<'a> Own<'a> {
 
     /// Returns whether the ID is tangled.
     pub(crate) fn is_tangled(self) -> bool
-        ensures { (table : Table) (side : Side) (items : List Item) (id : List ℕ) → IsOwn table side items id self.entry
+        ensures { (table : Table) (side : Side) (items : List Item) (id : List ℕ)
+            → IsOwnId table side items id self.entry
             → result ≡ is_own_tangled side items id }
     {
         let back = self.back();
@@ -121,17 +123,19 @@ impl<'a> Own<'a> {
 
     /// Returns an ID of the peer that is joined with this ID, if there is one.
     pub(crate) fn joined(self) -> Option<TransactionId>
-        ensures { (table : Table) (side : Side) (items : List Item) (id : List ℕ) → IsOwn table side items id self.entry
+        ensures { (table : Table) (side : Side) (items : List Item) (id : List ℕ)
+            → IsOwnId table side items id self.entry
             → IsOneOf (peers_of side items id) result }
     {
         one_of(goes_to(self.from), self.back())
     }
 }
 
-impl There<'_> {
+impl PeerId<'_> {
     /// Returns whether two own IDs that are joined with this ID differ.
     pub(crate) fn owns_differ(self) -> bool
-        ensures { (table : Table) (side : Side) (items : List Item) (id : List ℕ) → IsThere table side items id self.entry
+        ensures { (table : Table) (side : Side) (items : List Item) (id : List ℕ)
+            → IsPeerId table side items id self.entry
             → result ≡ two_differ (owns_of side items id) }
     {
         differ(comes_from(self.to), self.joined)
@@ -139,19 +143,20 @@ impl There<'_> {
 
     /// Returns an own ID that is joined with this ID, if there is one.
     pub(crate) fn joined_own(self) -> Option<TransactionId>
-        ensures { (table : Table) (side : Side) (items : List Item) (id : List ℕ) → IsThere table side items id self.entry
+        ensures { (table : Table) (side : Side) (items : List Item) (id : List ℕ)
+            → IsPeerId table side items id self.entry
             → IsOneOf (owns_of side items id) result }
     {
         one_of(comes_from(self.to), self.joined)
     }
 }
 
-impl<'a> Found<'a> {
+impl<'a> MessageIds<'a> {
     /// Returns the notes for F2 to F7 on what the end sent from the originating ID, if it sent anything.
     pub(crate) fn first_own(self) -> Option<&'a FromId>
         ensures { (table : Table) (side : Side) (items : List Item) (m : Message) (fact : FromFact)
-            → AreFound table side items m self.entry
-            → told_by_from (option_copied result) fact ≡ told_from (told_since table side items) (otid_in m) fact }
+            → AreMessageIds table side items m self.entry
+            → fact_by_from (option_copied result) fact ≡ fact_from (fact_in_items table side items) (otid_in m) fact }
     {
         match self.own {
             Some(own) => first_of(own.from),
@@ -162,8 +167,9 @@ impl<'a> Found<'a> {
     /// Returns the notes for F2 to F7 on what the peer sent from the destination ID, if it sent anything.
     pub(crate) fn first_there(self) -> Option<&'a FromId>
         ensures { (table : Table) (side : Side) (items : List Item) (m : Message) (fact : FromFact)
-            → AreFound table side items m self.entry
-            → told_by_from (option_copied result) fact ≡ told_from (told_since table (other side) items) (dtid_in m) fact }
+            → AreMessageIds table side items m self.entry
+            → fact_by_from (option_copied result) fact
+            ≡ fact_from (fact_in_items table (other side) items) (dtid_in m) fact }
     {
         match self.there {
             Some(there) => first_of(there.from),
@@ -173,8 +179,9 @@ impl<'a> Found<'a> {
 
     /// Returns whether the end sent an End, or an Abort without cause, to the destination ID.
     pub(crate) fn has_ended(self) -> bool
-        ensures { (table : Table) (side : Side) (items : List Item) (m : Message) → AreFound table side items m self.entry
-            → result ≡ told_ended (told_since table side items) (dtid_in m) }
+        ensures { (table : Table) (side : Side) (items : List Item) (m : Message)
+            → AreMessageIds table side items m self.entry
+            → result ≡ fact_ended (fact_in_items table side items) (dtid_in m) }
     {
         match self.there {
             Some(there) => is_ended(there.to),
@@ -185,11 +192,11 @@ impl<'a> Found<'a> {
 
 impl<'a> Ends<'a> {
     /// Looks up an own ID.
-    pub(crate) fn own_at(self, id: &'a TransactionId) -> Own<'a>
+    pub(crate) fn own_at(self, id: &'a TransactionId) -> OwnId<'a>
         ensures { (table : Table) (side : Side) (items : List Item) → IsSide table side items self.entry.own.now
-            → IsSide table (other side) items self.entry.peer.now → IsOwn table side items id.now result }
+            → IsSide table (other side) items self.entry.peer.now → IsOwnId table side items id.now result }
     {
-        Own {
+        OwnId {
             id,
             from: self.own.from.get(id),
             to: self.peer.to.get(id),
@@ -197,11 +204,11 @@ impl<'a> Ends<'a> {
     }
 
     /// Looks up an ID of the peer.
-    pub(crate) fn there(self, id: &'a TransactionId) -> There<'a>
+    pub(crate) fn there(self, id: &'a TransactionId) -> PeerId<'a>
         ensures { (table : Table) (side : Side) (items : List Item) → IsSide table side items self.entry.own.now
-            → IsSide table (other side) items self.entry.peer.now → IsThere table side items id.now result }
+            → IsSide table (other side) items self.entry.peer.now → IsPeerId table side items id.now result }
     {
-        There {
+        PeerId {
             id,
             from: self.peer.from.get(id),
             to: self.own.to.get(id),
@@ -210,10 +217,10 @@ impl<'a> Ends<'a> {
     }
 
     /// Looks up an own ID, if there is one.
-    fn own_with(self, id: Option<&'a TransactionId>) -> Option<Own<'a>>
+    fn own_with(self, id: Option<&'a TransactionId>) -> Option<OwnId<'a>>
         ensures { (table : Table) (side : Side) (items : List Item) → IsSide table side items self.entry.own.now
             → IsSide table (other side) items self.entry.peer.now
-            → IsOwnAt table side items (option_copied id.entry) result }
+            → IsOwnIdAt table side items (option_copied id.entry) result }
     {
         match id {
             Some(id) => Some(self.own_at(id)),
@@ -222,10 +229,10 @@ impl<'a> Ends<'a> {
     }
 
     /// Looks up an ID of the peer, if there is one.
-    fn there_with(self, id: Option<&'a TransactionId>) -> Option<There<'a>>
+    fn there_with(self, id: Option<&'a TransactionId>) -> Option<PeerId<'a>>
         ensures { (table : Table) (side : Side) (items : List Item) → IsSide table side items self.entry.own.now
             → IsSide table (other side) items self.entry.peer.now
-            → IsThereAt table side items (option_copied id.entry) result }
+            → IsPeerIdAt table side items (option_copied id.entry) result }
     {
         match id {
             Some(id) => Some(self.there(id)),
@@ -238,13 +245,13 @@ impl<'a> Ends<'a> {
         self,
         otid: Option<&'a TransactionId>,
         dtid: Option<&'a TransactionId>,
-    ) -> Found<'a>
+    ) -> MessageIds<'a>
         ensures { (table : Table) (side : Side) (items : List Item) (m : Message)
             → IsSide table side items self.entry.own.now → IsSide table (other side) items self.entry.peer.now
             → option_copied otid.entry ≡ otid_in m → option_copied dtid.entry ≡ dtid_in m
-            → AreFound table side items m result }
+            → AreMessageIds table side items m result }
     {
-        Found {
+        MessageIds {
             own: self.own_with(otid),
             there: self.there_with(dtid),
         }

@@ -6,10 +6,10 @@ ghost use Rattle.tcap_record.specs.declared.entry.End.{End as Side};
 ghost use Rattle.tcap_end.specs.Table.{Table};
 ghost use Rattle.tcap_model.specs.World.{Item};
 ghost use Rattle.tcap_faults.specs.MessageEffects.{AreEffects};
-ghost use Rattle.tcap_faults.specs.KeptForMessage.{AreFound};
+ghost use Rattle.tcap_faults.specs.KeptForMessage.{AreMessageIds};
 ghost use Rattle.tcap_faults.specs.UsedAgain.{uses_again};
 
-use crate::transaction::lookup::Found;
+use crate::transaction::lookup::MessageIds;
 use crate::transaction::sent_from_id::begins;
 use crate::transaction::sent_to_id::is_ended;
 
@@ -31,10 +31,11 @@ pub(crate) struct Effects {
     pub(crate) peer_over: bool,
 }
 
-impl Found<'_> {
+impl MessageIds<'_> {
     /// Returns the effects of the message. `again` is whether it uses an own ID again.
     pub(crate) fn effects(self, again: bool) -> Effects
-        ensures { (table : Table) (side : Side) (items : List Item) (m : Message) → AreFound table side items m self.entry
+        ensures { (table : Table) (side : Side) (items : List Item) (m : Message)
+            → AreMessageIds table side items m self.entry
             → again ≡ uses_again table side items m → AreEffects table side items m result }
     {
         let (used, begun, ended) = match self.own {

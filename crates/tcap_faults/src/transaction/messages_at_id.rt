@@ -12,7 +12,7 @@ use tcap_end::Table;
 use tcap_msg::{MessageParts, TransactionId, TransactionIdView};
 
 /// A summary of a list of messages.
-pub(crate) trait OfMessages: Sized + Drop {
+pub(crate) trait MessageSummary: Sized + Drop {
     // The relation between a list and its summary.
     ghost of: { Table → List Message → Self → Type 0 };
 
@@ -32,7 +32,7 @@ pub(crate) trait OfMessages: Sized + Drop {
 }
 
 /// Adds a message to the summary at this ID of it, if it has one. Fails if memory runs out.
-pub(crate) fn note_at<N: OfMessages, M: MessageParts>(
+pub(crate) fn note_at<N: MessageSummary, M: MessageParts>(
     map: &mut BTreeMap<TransactionId, N>,
     id: Option<TransactionIdView>,
     alloc: Global,

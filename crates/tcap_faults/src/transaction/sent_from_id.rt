@@ -8,16 +8,16 @@ ghost use Rattle.tcap_record.specs.declared.entry.End.{End as Side};
 ghost use Rattle.tcap_end.specs.Table.{Table};
 ghost use Rattle.tcap_model.specs.World.{Item};
 ghost use Rattle.tcap_refute.specs.EarlierMessages.{is_a};
-ghost use Rattle.tcap_refute.specs.Facts.{From, FromFact, told_since};
-ghost use Rattle.tcap_refute.specs.KeptFacts.{told_by_from};
+ghost use Rattle.tcap_refute.specs.Facts.{From, FromFact, fact_in_items};
+ghost use Rattle.tcap_refute.specs.KeptFacts.{fact_by_from};
 ghost use Rattle.tcap_faults.specs.Counts.{count};
-ghost use Rattle.tcap_faults.specs.SentToId.{began, goes_on_to};
+ghost use Rattle.tcap_faults.specs.SentToId.{began, is_continue_to};
 ghost use Rattle.tcap_faults.specs.IdList.{AreAmong};
-ghost use Rattle.tcap_faults.specs.History.{IsCame, IsFirstBegin, IsFrom, IsFromAt, IsFromWhole, dtids_of, sent_from};
+ghost use Rattle.tcap_faults.specs.History.{IsContinueTallies, IsFirstBegin, IsFrom, IsFromAt, IsFromWhole, dtids_of, sent_from};
 
 use crate::component::tally::Tally;
 use crate::transaction::id_list::Ids;
-use crate::transaction::messages_at_id::{OfMessages, note_at};
+use crate::transaction::messages_at_id::{MessageSummary, note_at};
 use std::alloc::{AllocError, Global};
 use std::collections::BTreeMap;
 use tcap_end::{Table, is_request, is_response};
@@ -26,7 +26,7 @@ use tcap_refute::FromId;
 
 /// The Continues from one ID to another.
 #[derive(Drop)]
-pub(crate) struct Came {
+pub(crate) struct ContinueTallies {
     /// True if one of them answers a dialogue request.
     pub(crate) answered: bool,
     /// The components of the Continues before the first that answers a request, or of all if none does.
@@ -56,14 +56,14 @@ pub(crate) struct SentFrom {
     /// The destination IDs of the Continues.
     pub(crate) to: Ids,
     /// The Continues, by their destination IDs.
-    pub(crate) came: BTreeMap<TransactionId, Came>,
+    pub(crate) came: BTreeMap<TransactionId, ContinueTallies>,
 }
 
-impl OfMessages for Came {
-    ghost of = { IsCame };
+impl MessageSummary for ContinueTallies {
+    ghost of = { IsContinueTallies };
 
-    fn new(alloc: Global) -> Came {
-        Came {
+    fn new(alloc: Global) -> ContinueTallies {
+        ContinueTallies {
             answered: false,
             sooner: Tally::new(alloc),
             since: Tally::new(alloc),
@@ -144,7 +144,7 @@ impl SentFrom {
     }
 }
 
-impl OfMessages for SentFrom {
+impl MessageSummary for SentFrom {
     ghost of = { IsFromWhole };
 
     fn new(alloc: Global) -> SentFrom {
@@ -188,7 +188,7 @@ pub(crate) fn goes_to(from: Option<&SentFrom>) -> Option<&Ids>
 pub(crate) fn first_of(from: Option<&SentFrom>) -> Option<&FromId>
     ensures { (table : Table) (side : Side) (items : List Item) (id : List ℕ) (fact : FromFact)
         → IsFromAt table (sent_from side items id) (option_copied from.entry)
-        → told_by_from (option_copied result) fact ≡ told_since table side items (From id fact) }
+        → fact_by_from (option_copied result) fact ≡ fact_in_items table side items (From id fact) }
 {
     match from {
         Some(kept) => Some(&kept.first),
@@ -221,7 +221,7 @@ pub(crate) fn begins_twice(from: Option<&SentFrom>) -> bool
 /// Returns whether there is a Continue to an ID.
 pub(crate) fn goes_on(from: Option<&SentFrom>, to: &TransactionId) -> bool
     ensures { (table : Table) (ms : List Message) → IsFromAt table ms (option_copied from.entry)
-        → result ≡ list_any (goes_on_to to.now) ms }
+        → result ≡ list_any (is_continue_to to.now) ms }
 {
     match from {
         Some(kept) => kept.came.contains_key(to),

@@ -9,15 +9,15 @@ ghost use Rattle.tcap_end.specs.Table.{Table};
 ghost use Rattle.tcap_model.specs.World.{Item};
 ghost use Rattle.tcap_refute.specs.EarlierMessages.{components_of, ends_to, sent_by};
 ghost use Rattle.tcap_faults.specs.Counts.{is_nothing};
-ghost use Rattle.tcap_faults.specs.SentToId.{has_ended, told};
+ghost use Rattle.tcap_faults.specs.SentToId.{has_ended, outgoing};
 ghost use Rattle.tcap_faults.specs.IdList.{AreAmong, AreIds};
-ghost use Rattle.tcap_faults.specs.History.{IsTo, IsToAt, ends, of_user, otids_of, sent_to, silences};
-ghost use Rattle.tcap_faults.specs.HistoryUpdate.{IsCaused, IsTold};
+ghost use Rattle.tcap_faults.specs.History.{IsTo, IsToAt, ends, of_user, otids_of, sent_to, is_end_or_abort};
+ghost use Rattle.tcap_faults.specs.HistoryUpdate.{IsCaused, IsOutgoingAdded};
 ghost use Rattle.tcap_faults.specs.TallyMeaning.{IsTally};
 
 use crate::component::tally::Tally;
 use crate::transaction::id_list::Ids;
-use crate::transaction::messages_at_id::OfMessages;
+use crate::transaction::messages_at_id::MessageSummary;
 use std::alloc::{AllocError, Global};
 use tcap_ber::SmallView;
 use tcap_end::Table;
@@ -54,8 +54,8 @@ pub(crate) fn ends<M: MessageParts>(message: &M) -> bool
 }
 
 /// Returns whether a message is an End or an Abort.
-fn silences<M: MessageParts>(message: &M) -> bool
-    ensures { result ≡ silences (M.meaning message.now) }
+fn is_end_or_abort<M: MessageParts>(message: &M) -> bool
+    ensures { result ≡ is_end_or_abort (M.meaning message.now) }
 {
     matches!(message.kind(), Form::End | Form::Abort)
 }
@@ -81,7 +81,7 @@ impl SentTo {
     ) -> Result<(), AllocError>
         ensures { (ms : List Message) → cause_in (M.meaning message.now) ≡ None
             → AreIds (otids_of ms) self.old.from → IsTally table.now (components_of (of_user ms)) self.old.components
-            → OnOk result (IsTold table.now ms (M.meaning message.now) self.old self.new) }
+            → OnOk result (IsOutgoingAdded table.now ms (M.meaning message.now) self.old self.new) }
     {
         self.spoke = true;
         if let (Form::Continue, Some(otid)) = (message.kind(), message.otid()) {
@@ -91,7 +91,7 @@ impl SentTo {
     }
 }
 
-impl OfMessages for SentTo {
+impl MessageSummary for SentTo {
     ghost of = { IsTo };
 
     fn new(alloc: Global) -> SentTo {
@@ -113,7 +113,7 @@ impl OfMessages for SentTo {
         message: &M,
     ) -> Result<(), AllocError> {
         self.ended |= ends(message);
-        self.silenced |= silences(message);
+        self.silenced |= is_end_or_abort(message);
         match message.cause() {
             Some(cause) => {
                 self.note_cause(cause);
@@ -138,7 +138,8 @@ pub(crate) fn comes_from(to: Option<&SentTo>) -> Option<&Ids>
 /// Returns whether one of the messages is no Abort of the provider.
 pub(crate) fn tells(to: Option<&SentTo>) -> bool
     ensures { (table : Table) (side : Side) (items : List Item) (id : List ℕ)
-        → IsToAt table (sent_to side items id) (option_copied to.entry) → result ≡ not (is_nothing (told side id items)) }
+        → IsToAt table (sent_to side items id) (option_copied to.entry)
+        → result ≡ not (is_nothing (outgoing side id items)) }
 {
     match to {
         Some(kept) => kept.spoke,

@@ -11,10 +11,10 @@ ghost use Rattle.tcap_record.specs.Ends.{other};
 ghost use Rattle.tcap_end.specs.End.{is_id};
 ghost use Rattle.tcap_end.specs.Table.{Table};
 ghost use Rattle.tcap_model.specs.World.{Item};
-ghost use Rattle.tcap_refute.specs.EarlierMessages.{asked, has_a};
+ghost use Rattle.tcap_refute.specs.EarlierMessages.{peer_sent_from, has_a};
 ghost use Rattle.tcap_faults.specs.Counts.{is_nothing};
-ghost use Rattle.tcap_faults.specs.SentToId.{began, has_used, told};
-ghost use Rattle.tcap_faults.specs.KeptForMessage.{AreFound, IsOwn, IsOwnAt, IsThere};
+ghost use Rattle.tcap_faults.specs.SentToId.{began, has_used, outgoing};
+ghost use Rattle.tcap_faults.specs.KeptForMessage.{AreMessageIds, IsOwnId, IsOwnIdAt, IsPeerId};
 ghost use Rattle.tcap_faults.specs.IdList.{AreAmong, IsOneOf};
 ghost use Rattle.tcap_faults.specs.History.{IsSide, dtids_of, sent_from};
 ghost use Rattle.tcap_faults.specs.TangledIds.{first_tangled, goes_to_begun, owns_of, peers_of, tangle_of_own, tangle_of_peer, tangled_for, tangled_id, tangled_in, two_differ};
@@ -22,7 +22,7 @@ ghost use Rattle.tcap_faults.specs.UsedAgain.{may_be_over, uses_again};
 
 use crate::transaction::history::SideFacts;
 use crate::transaction::id_list::Ids;
-use crate::transaction::lookup::{Found, Own, There, key_of};
+use crate::transaction::lookup::{MessageIds, OwnId, PeerId, key_of};
 use crate::transaction::sent_from_id::{begins, begins_twice, goes_on, goes_to};
 use crate::transaction::sent_to_id::{is_silenced, tells};
 use crate::verdict::unblamed_reason::{Tangle, TangledId};
@@ -60,11 +60,11 @@ impl SideFacts {
 impl<'a> Ends<'a> {
     /// Returns whether the peer began an ID, and sent a Continue from it to an ID that the end began. At most one own
     /// ID may be joined with the ID.
-    fn is_begun_by_both(self, there: There) -> bool
+    fn is_begun_by_both(self, there: PeerId) -> bool
         ensures { (table : Table) (side : Side) (items : List Item) (id : List ℕ) → IsSide table side items self.entry.own.now
-            → IsThere table side items id there.entry → two_differ (owns_of side items id) ≡ false
-            → result ≡ (has_a forms.Begin (asked side id items)
-            && list_any (goes_to_begun side items) (asked side id items)) }
+            → IsPeerId table side items id there.entry → two_differ (owns_of side items id) ≡ false
+            → result ≡ (has_a forms.Begin (peer_sent_from side id items)
+            && list_any (goes_to_begun side items) (peer_sent_from side id items)) }
     {
         if !begins(there.from) {
             return false;
@@ -88,9 +88,9 @@ impl<'a> Ends<'a> {
     }
 
     /// Returns why an ID of the peer is tangled, if it is.
-    fn tangle_of_peer(self, there: There) -> Option<Tangle>
+    fn tangle_of_peer(self, there: PeerId) -> Option<Tangle>
         ensures { (table : Table) (side : Side) (items : List Item) (id : List ℕ) → IsSide table side items self.entry.own.now
-            → IsSide table (other side) items self.entry.peer.now → IsThere table side items id there.entry
+            → IsSide table (other side) items self.entry.peer.now → IsPeerId table side items id there.entry
             → result ≡ tangle_of_peer side items id }
     {
         if there.owns_differ() {
@@ -107,9 +107,9 @@ impl<'a> Ends<'a> {
     }
 
     /// Returns an ID of the peer with the reason, if it is tangled.
-    fn tangled_peer(self, peer: End, there: There) -> Option<TangledId>
+    fn tangled_peer(self, peer: End, there: PeerId) -> Option<TangledId>
         ensures { (table : Table) (side : Side) (items : List Item) (id : List ℕ) → IsSide table side items self.entry.own.now
-            → IsSide table (other side) items self.entry.peer.now → IsThere table side items id there.entry
+            → IsSide table (other side) items self.entry.peer.now → IsPeerId table side items id there.entry
             → result ≡ tangled_for peer id (tangle_of_peer side items id) }
     {
         match self.tangle_of_peer(there) {
@@ -123,10 +123,10 @@ impl<'a> Ends<'a> {
     }
 
     /// Returns what is kept of an own ID. If it is `own`, it is not looked up again.
-    fn own_near(self, id: &'a TransactionId, own: Option<Own<'a>>) -> Own<'a>
+    fn own_near(self, id: &'a TransactionId, own: Option<OwnId<'a>>) -> OwnId<'a>
         ensures { (table : Table) (side : Side) (items : List Item) (near : Option (List ℕ))
             → IsSide table side items self.entry.own.now → IsSide table (other side) items self.entry.peer.now
-            → IsOwnAt table side items near own.entry → IsOwn table side items id.now result }
+            → IsOwnIdAt table side items near own.entry → IsOwnId table side items id.now result }
     {
         match own {
             Some(own) if is_that(own.id, Some(id)) => own,
@@ -140,11 +140,12 @@ impl<'a> Ends<'a> {
         self,
         end: End,
         joined: Option<&TransactionId>,
-        own: Option<Own>,
+        own: Option<OwnId>,
     ) -> Option<TangledId>
         ensures { (table : Table) (side : Side) (items : List Item) (near : Option (List ℕ)) (ids : List (List ℕ))
             → IsSide table side items self.entry.own.now → IsSide table (other side) items self.entry.peer.now
-            → IsOwnAt table side items near own.entry → IsOneOf ids (option_copied joined.entry) → two_differ ids ≡ false
+            → IsOwnIdAt table side items near own.entry → IsOneOf ids (option_copied joined.entry)
+            → two_differ ids ≡ false
             → result ≡ first_tangled end (tangle_of_own side items) ids }
     {
         match joined {
@@ -155,9 +156,9 @@ impl<'a> Ends<'a> {
 
     /// Returns an ID of the peer that is joined with this own ID, if it is tangled. The own ID itself must not be
     /// tangled.
-    fn tangled_behind(self, peer: End, own: Own) -> Option<TangledId>
+    fn tangled_behind(self, peer: End, own: OwnId) -> Option<TangledId>
         ensures { (table : Table) (side : Side) (items : List Item) (id : List ℕ) → IsSide table side items self.entry.own.now
-            → IsSide table (other side) items self.entry.peer.now → IsOwn table side items id own.entry
+            → IsSide table (other side) items self.entry.peer.now → IsOwnId table side items id own.entry
             → two_differ (peers_of side items id) ≡ false
             → result ≡ first_tangled peer (tangle_of_peer side items) (peers_of side items id) }
     {
@@ -175,11 +176,11 @@ impl<'a> Ends<'a> {
     fn tangled_besides(
         self,
         end: End,
-        own: Own,
+        own: OwnId,
         joined: Option<&TransactionId>,
     ) -> Option<TangledId>
         ensures { (table : Table) (items : List Item) (more id : List ℕ) → IsSide table end items self.entry.own.now
-            → IsSide table (other end) items self.entry.peer.now → IsOwn table end items more own.entry
+            → IsSide table (other end) items self.entry.peer.now → IsOwnId table end items more own.entry
             → IsOneOf (owns_of end items id) (option_copied joined.entry)
             → None ≡ tangled_for (other end) id (tangle_of_peer end items id)
             → None ≡ first_tangled end (tangle_of_own end items) (owns_of end items id)
@@ -196,10 +197,10 @@ impl<'a> Ends<'a> {
 
     /// Returns the first tangled ID: the peer's ID, an own ID near it, or an ID of the peer that is joined with one
     /// of these. `own` is an additional own ID.
-    pub(crate) fn tangled_id(self, end: End, there: There, own: Option<Own>) -> Option<TangledId>
+    pub(crate) fn tangled_id(self, end: End, there: PeerId, own: Option<OwnId>) -> Option<TangledId>
         ensures { (table : Table) (items : List Item) (id : List ℕ) (near : Option (List ℕ))
             → IsSide table end items self.entry.own.now → IsSide table (other end) items self.entry.peer.now
-            → IsThere table end items id there.entry → IsOwnAt table end items near own.entry
+            → IsPeerId table end items id there.entry → IsOwnIdAt table end items near own.entry
             → result ≡ tangled_id end items (option_to_list near) id }
     {
         if let Some(tangled) = self.tangled_peer(end.other(), there) {
@@ -217,9 +218,9 @@ impl<'a> Ends<'a> {
     }
 
     /// Returns the first tangled ID that a message goes over, from what was found of its IDs.
-    pub(crate) fn tangled_in(self, end: End, found: Found) -> Option<TangledId>
+    pub(crate) fn tangled_in(self, end: End, found: MessageIds) -> Option<TangledId>
         ensures { (table : Table) (items : List Item) (m : Message) → IsSide table end items self.entry.own.now
-            → IsSide table (other end) items self.entry.peer.now → AreFound table end items m found.entry
+            → IsSide table (other end) items self.entry.peer.now → AreMessageIds table end items m found.entry
             → result ≡ tangled_in end items m }
     {
         match found.there {
@@ -243,17 +244,17 @@ impl<'a> Ends<'a> {
     // ---- an own ID that is used again
 
     /// Returns whether the transaction of an own ID may be over.
-    fn may_be_over(self, table: &Table, own: Own) -> bool
+    fn may_be_over(self, table: &Table, own: OwnId) -> bool
         ensures { (side : Side) (items : List Item) (id : List ℕ) → IsSide table.now side items self.entry.own.now
-            → IsOwn table.now side items id own.entry → result ≡ may_be_over table.now side items id }
+            → IsOwnId table.now side items id own.entry → result ≡ may_be_over table.now side items id }
     {
         table.prearranged() || is_silenced(own.to) || self.own.over.contains(own.id)
     }
 
     /// Returns whether a message uses an own ID again, from what was found of its IDs.
-    pub(crate) fn uses_again(self, table: &Table, found: Found) -> bool
+    pub(crate) fn uses_again(self, table: &Table, found: MessageIds) -> bool
         ensures { (side : Side) (items : List Item) (m : Message) → IsSide table.now side items self.entry.own.now
-            → AreFound table.now side items m found.entry → result ≡ uses_again table.now side items m }
+            → AreMessageIds table.now side items m found.entry → result ≡ uses_again table.now side items m }
     {
         let Some(own) = found.own else {
             return false;
@@ -268,10 +269,11 @@ impl<'a> Ends<'a> {
     }
 }
 
-impl Own<'_> {
+impl OwnId<'_> {
     /// Returns the ID with the reason, if it is tangled.
     fn tangled(self, end: End) -> Option<TangledId>
-        ensures { (table : Table) (side : Side) (items : List Item) (id : List ℕ) → IsOwn table side items id self.entry
+        ensures { (table : Table) (side : Side) (items : List Item) (id : List ℕ)
+            → IsOwnId table side items id self.entry
             → result ≡ tangled_for end id (tangle_of_own side items id) }
     {
         if !self.is_tangled() {
@@ -285,11 +287,11 @@ impl Own<'_> {
     }
 }
 
-impl There<'_> {
+impl PeerId<'_> {
     /// Returns whether an own ID, which the end used, is joined with this ID.
-    fn is_joined(self, own: Own) -> bool
+    fn is_joined(self, own: OwnId) -> bool
         ensures { (table : Table) (side : Side) (items : List Item) (own_id id : List ℕ)
-            → IsOwn table side items own_id own.entry → IsThere table side items id self.entry
+            → IsOwnId table side items own_id own.entry → IsPeerId table side items id self.entry
             → has_used side items own_id ≡ true → result ≡ list_any (bytes_eq own_id) (owns_of side items id) }
     {
         goes_on(own.from, self.id) || goes_on(self.from, own.id)
@@ -297,11 +299,11 @@ impl There<'_> {
 
     /// Returns whether a Continue from an own ID answers a Begin of the peer from this ID, to which the end sent
     /// nothing before and with which the own ID is not joined.
-    fn is_answered_anew(self, own: Own) -> bool
+    fn is_answered_anew(self, own: OwnId) -> bool
         ensures { (table : Table) (side : Side) (items : List Item) (own_id id : List ℕ)
-            → IsOwn table side items own_id own.entry → IsThere table side items id self.entry
+            → IsOwnId table side items own_id own.entry → IsPeerId table side items id self.entry
             → has_used side items own_id ≡ true
-            → result ≡ (has_a forms.Begin (asked side id items) && is_nothing (told side id items)
+            → result ≡ (has_a forms.Begin (peer_sent_from side id items) && is_nothing (outgoing side id items)
             && not (list_any (bytes_eq own_id) (owns_of side items id))) }
     {
         begins(self.from) && !tells(self.to) && !self.is_joined(own)

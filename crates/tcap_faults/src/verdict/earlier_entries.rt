@@ -5,7 +5,7 @@ ghost use Rattle.tcap_record.specs.declared.entry.Entry.{Entry};
 ghost use Rattle.tcap_model.specs.Entries.{item_of};
 ghost use Rattle.tcap_model.specs.World.{Item};
 ghost use Rattle.tcap_faults.specs.Replay.{IsReplayed};
-ghost use Rattle.tcap_faults.specs.SearchState.{IsKept};
+ghost use Rattle.tcap_faults.specs.SearchState.{IsHalfKey};
 ghost use Rattle.tcap_faults.specs.FaultSubject.{items_among};
 
 use crate::transaction::history::Facts;
@@ -33,8 +33,8 @@ impl Facts {
         table: &Table,
         entry: &Entry,
     ) -> Result<(), AllocError>
-        ensures { (items : List Item) → IsKept table.now items self.old
-            → OnOk result (IsKept table.now (items ++ items_among (item_of entry.now ∷ [])) self.new) }
+        ensures { (items : List Item) → IsHalfKey table.now items self.old
+            → OnOk result (IsHalfKey table.now (items ++ items_among (item_of entry.now ∷ [])) self.new) }
     {
         match (entry.side, &entry.body) {
             (Some(sender), Body::Good(message)) => {

@@ -4,11 +4,11 @@ ghost use Rattle.std.specs.Prelude.{◌≡◌, List, [], ◌∷◌, ◌++◌, So
 ghost use Rattle.tcap_model.specs.Entries.{item_of};
 ghost use Rattle.tcap_model.specs.World.{Item, Sent};
 ghost use Rattle.tcap_refute.specs.EarlierMessages.{since_quiet};
-ghost use Rattle.tcap_faults.specs.SearchState.{AreRoomy, IsKept};
+ghost use Rattle.tcap_faults.specs.SearchState.{AreRoomy, IsHalfKey};
 ghost use Rattle.tcap_faults.specs.FaultSubject.{no_subject, subject, subject_by, subject_of};
 
 use crate::component::component_faults::{faults_of, first_faults};
-use crate::dialogue::half_origin::How;
+use crate::dialogue::half_origin::HalfOrigin;
 use crate::transaction::history::Facts;
 use crate::verdict::first_fault::entry_count;
 use std::alloc::{AllocError, Global};
@@ -21,7 +21,7 @@ use tcap_refute::{Kind, Refutation, SearchFault, faulty_component};
 #[derive(Debug, Drop)]
 pub struct Subject {
     /// The way in which the half with the message's destination ID began; `Nowhere` if there is none.
-    pub how: How,
+    pub origin: HalfOrigin,
     /// The half's own ID, if it is known.
     pub own: Option<TransactionId>,
     /// The number, from 0, of the first component with the kind, if it is F5, F6 or F10 to F13.
@@ -33,7 +33,7 @@ fn no_subject() -> Subject
     ensures { result ≡ no_subject }
 {
     Subject {
-        how: How::Nowhere,
+        origin: HalfOrigin::Nowhere,
         own: None,
         component: None,
     }
@@ -50,7 +50,7 @@ impl Facts {
         kind: Kind,
         of_one: bool,
     ) -> Result<Subject, AllocError>
-        ensures { (items : List Item) → IsKept table.now items self.now
+        ensures { (items : List Item) → IsHalfKey table.now items self.now
             → AreRoomy (items ++ Sent side (M.meaning message.now) ∷ [])
             → IfOk result (λ s. s
             ≡ subject of_one table.now side (since_quiet items) (M.meaning message.now) kind) }
@@ -61,7 +61,7 @@ impl Facts {
         let Some(dtid) = message.dtid() else {
             let faults = first_faults(alloc, message)?;
             return Ok(Subject {
-                how: How::Nowhere,
+                origin: HalfOrigin::Nowhere,
                 own: None,
                 component: first.or(faults.component(kind)),
             });
@@ -70,7 +70,7 @@ impl Facts {
         let half = ends.half(alloc, ends.there(&id))?;
         let faults = faults_of(alloc, table, &half, message)?;
         Ok(Subject {
-            how: half.how,
+            origin: half.origin,
             own: half.own,
             component: first.or(faults.component(kind)),
         })
@@ -86,7 +86,7 @@ impl Facts {
         kind: Kind,
         of_one: bool,
     ) -> Result<Subject, AllocError>
-        ensures { (items : List Item) → IsKept table.now items self.now
+        ensures { (items : List Item) → IsHalfKey table.now items self.now
             → ((item : Item) → item_of entry.now ≡ Ok item → AreRoomy (items ++ item ∷ []))
             → IfOk result (λ s. s
             ≡ subject_by of_one table.now side (since_quiet items) (Some (item_of entry.now)) kind) }

@@ -9,7 +9,7 @@ ghost use Rattle.tcap_model.specs.declared.reason.Reason.TheVariants.{BadMessage
 ghost use Rattle.tcap_model.specs.Entries.{item_of};
 ghost use Rattle.tcap_model.specs.World.{Item, Sent};
 ghost use Rattle.tcap_faults.specs.Fault.{blamed};
-ghost use Rattle.tcap_faults.specs.SearchState.{AreRoomy, IsKept, IsTaken, Takes, components_in_all, looking_at, looking_bad, looking_behind, looking_first, looking_put, looking_with};
+ghost use Rattle.tcap_faults.specs.SearchState.{AreRoomy, IsHalfKey, IsTaken, Takes, components_in_all, search_of, search_after_bad, search_after_item, search_begun, with_search, search_ended};
 
 use crate::transaction::history::Facts;
 use crate::transaction::lookup::key_of;
@@ -31,7 +31,7 @@ pub struct BlamedEnds {
 
 /// The state of the search for one end.
 #[derive(Clone, Copy)]
-pub(crate) struct Looking {
+pub(crate) struct EndSearch {
     /// True if the search is over.
     pub(crate) is_over: bool,
     pub(crate) found: Option<Refutation>,
@@ -41,8 +41,8 @@ pub(crate) struct Looking {
 #[derive(Drop)]
 pub(crate) struct SearchState {
     pub(crate) kept: Facts,
-    pub(crate) a: Looking,
-    pub(crate) b: Looking,
+    pub(crate) a: EndSearch,
+    pub(crate) b: EndSearch,
 }
 
 /// Returns the number of components of a message.
@@ -74,23 +74,23 @@ pub(crate) fn entry_count(entry: &Entry) -> usize
     }
 }
 
-impl Looking {
+impl EndSearch {
     /// Creates the state before the first entry. The search is over if the end is not asked for.
-    fn new(is_asked: bool) -> Looking
-        ensures { result ≡ looking_first is_asked }
+    fn new(is_asked: bool) -> EndSearch
+        ensures { result ≡ search_begun is_asked }
     {
-        Looking {
+        EndSearch {
             is_over: !is_asked,
             found: None,
         }
     }
 
     /// Returns the state after an entry with this kind, if it has one.
-    fn with(self, entry: u64, kind: Option<Kind>) -> Looking
-        ensures { result ≡ looking_with entry kind self }
+    fn with(self, entry: u64, kind: Option<Kind>) -> EndSearch
+        ensures { result ≡ search_ended entry kind self }
     {
         match kind {
-            Some(kind) => Looking {
+            Some(kind) => EndSearch {
                 is_over: true,
                 found: Some(Refutation { entry, kind }),
             },
@@ -101,8 +101,8 @@ impl Looking {
 
 impl SearchState {
     /// Returns the state of the search for this end.
-    fn of(&self, side: End) -> Looking
-        ensures { result ≡ looking_at side self.now }
+    fn of(&self, side: End) -> EndSearch
+        ensures { result ≡ search_of side self.now }
     {
         match side {
             End::A => self.a,
@@ -111,12 +111,12 @@ impl SearchState {
     }
 
     /// Replaces the state of the search for this end.
-    fn put(&mut self, side: End, looking: Looking)
-        ensures { self.new ≡ looking_put side looking self.old }
+    fn put(&mut self, side: End, end_search: EndSearch)
+        ensures { self.new ≡ with_search side end_search self.old }
     {
         match side {
-            End::A => self.a = looking,
-            End::B => self.b = looking,
+            End::A => self.a = end_search,
+            End::B => self.b = end_search,
         }
     }
 
@@ -129,7 +129,7 @@ impl SearchState {
         sender: End,
         message: &M,
     ) -> Result<(), AllocError>
-        ensures { (items : List Item) → IsKept table.now items self.old.kept
+        ensures { (items : List Item) → IsHalfKey table.now items self.old.kept
             → AreRoomy (items ++ Sent sender (M.meaning message.now) ∷ [])
             → OnOk result (IsTaken table.now items number (Sent sender (M.meaning message.now)) self.old self.new) }
     {
@@ -137,31 +137,31 @@ impl SearchState {
         let dtid = key_of(message.dtid());
         let found = self.kept.find(sender, otid.as_ref(), dtid.as_ref());
         let effects = self.kept.effects(table, sender, found);
-        let looking = self.of(sender);
-        if !looking.is_over {
+        let end_search = self.of(sender);
+        if !end_search.is_over {
             let kind = self
                 .kept
                 .fault_of(alloc, table, sender, message, found, effects)?;
-            self.put(sender, looking.with(number, kind));
+            self.put(sender, end_search.with(number, kind));
         }
         self.kept.note(alloc, table, sender, message, effects)
     }
 
     /// Returns the state of the search for this end after a quiet mark with this number.
-    fn at_mark(&self, table: &Table, number: u64, side: End) -> Looking
-        ensures { (items : List Item) → IsKept table.now items self.now.kept
-            → result ≡ looking_behind table.now items number Item.Quiet side (looking_at side self.now) }
+    fn at_mark(&self, table: &Table, number: u64, side: End) -> EndSearch
+        ensures { (items : List Item) → IsHalfKey table.now items self.now.kept
+            → result ≡ search_after_item table.now items number Item.Quiet side (search_of side self.now) }
     {
-        let looking = self.of(side);
-        if looking.is_over {
-            return looking;
+        let end_search = self.of(side);
+        if end_search.is_over {
+            return end_search;
         }
-        looking.with(number, self.kept.mark_of(table, side))
+        end_search.with(number, self.kept.mark_of(table, side))
     }
 
     /// Takes a quiet mark with this number.
     fn take_mark(&mut self, alloc: Global, table: &Table, number: u64)
-        ensures { (items : List Item) → IsKept table.now items self.old.kept
+        ensures { (items : List Item) → IsHalfKey table.now items self.old.kept
             → IsTaken table.now items number Item.Quiet self.old self.new }
     {
         let a = self.at_mark(table, number, End::A);
@@ -174,11 +174,12 @@ impl SearchState {
     /// Takes octets with this number that are no message, which an end sent.
     fn take_bad(&mut self, number: u64, sender: End, reason: Reason)
         ensures { (fault : Fault) → fault.reason ≡ reason → (side : Side)
-            → looking_at side self.new ≡ looking_bad number (Some sender) (BadMessage fault) side (looking_at side self.old) }
+            → search_of side self.new ≡ search_after_bad number (Some sender) (BadMessage fault) side
+            (search_of side self.old) }
     {
-        let looking = self.of(sender);
-        if !looking.is_over {
-            self.put(sender, looking.with(number, kind_of_reason(reason)));
+        let end_search = self.of(sender);
+        if !end_search.is_over {
+            self.put(sender, end_search.with(number, kind_of_reason(reason)));
         }
     }
 
@@ -190,7 +191,7 @@ impl SearchState {
         number: u64,
         entry: &Entry,
     ) -> Result<bool, AllocError>
-        ensures { (items : List Item) → IsKept table.now items self.old.kept
+        ensures { (items : List Item) → IsHalfKey table.now items self.old.kept
             → ((item : Item) → item_of entry.now ≡ Ok item → AreRoomy (items ++ item ∷ []))
             → IfOk result (λ more. Takes table.now items number entry.now more self.old self.new) }
     {
@@ -222,8 +223,8 @@ fn search(
 {
     let mut state = SearchState {
         kept: Facts::new(alloc),
-        a: Looking::new(a),
-        b: Looking::new(b),
+        a: EndSearch::new(a),
+        b: EndSearch::new(b),
     };
     for (number, entry) in record.entries.iter().enumerate() {
         // Bounds the number of components, so that no count of them exceeds the greatest.

@@ -10,14 +10,14 @@ ghost use Rattle.tcap_refute.specs.declared.kind.Kind.TheVariants.{WrongReply};
 ghost use Rattle.tcap_faults.specs.Fault.{further_kinds, is_of_further_kind, is_of_half_kind, is_wrong_reply};
 ghost use Rattle.tcap_refute.specs.EarlierMessages.{since_quiet};
 ghost use Rattle.tcap_refute.specs.FirstKinds.{first_kinds, is_of_first_kind};
-ghost use Rattle.tcap_faults.specs.KeptForMessage.{AreFound, IsThere};
+ghost use Rattle.tcap_faults.specs.KeptForMessage.{AreMessageIds, IsPeerId};
 ghost use Rattle.tcap_faults.specs.HalfByPeerId.{half_of};
 ghost use Rattle.tcap_faults.specs.History.{IsSide};
 ghost use Rattle.tcap_faults.specs.SearchState.{AreRoomy, kind_of_components};
 ghost use Rattle.tcap_faults.specs.TangledIds.{goes_over_tangled, is_peer_tangled};
 
 use crate::component::component_faults::{ComponentFaults, faults_of, first_faults};
-use crate::transaction::lookup::{Found, There};
+use crate::transaction::lookup::{MessageIds, PeerId};
 use crate::transaction::tangled_ids::Ends;
 use std::alloc::{AllocError, Global};
 use tcap_ber::SmallView;
@@ -43,11 +43,11 @@ fn kind_of_faults(faults: ComponentFaults) -> Option<Kind>
     }
 }
 
-impl Found<'_> {
+impl MessageIds<'_> {
     /// Returns the lowest of F2 to F7 that a message has, if its end alone is judged.
     pub(crate) fn first_kind<M: MessageParts>(self, table: &Table, message: &M) -> Option<Kind>
         ensures { (side : Side) (items : List Item)
-            → AreFound table.now side (since_quiet items) (M.meaning message.now) self.entry
+            → AreMessageIds table.now side (since_quiet items) (M.meaning message.now) self.entry
             → result ≡ find (is_of_first_kind table.now side (since_quiet items) (M.meaning message.now)) first_kinds }
     {
         let own = self.first_own();
@@ -62,11 +62,11 @@ impl Ends<'_> {
         self,
         alloc: Global,
         table: &Table,
-        there: There,
+        there: PeerId,
         message: &M,
     ) -> Result<Option<Kind>, AllocError>
         ensures { (side : Side) (items : List Item) → IsSide table.now side items self.entry.own.now
-            → IsThere table.now side items there.entry.id.now there.entry
+            → IsPeerId table.now side items there.entry.id.now there.entry
             → is_peer_tangled side items there.entry.id.now ≡ false
             → AreRoomy (items ++ Sent side (M.meaning message.now) ∷ [])
             → IfOk result (λ kind. kind ≡ find (is_of_half_kind table.now side there.entry.id.now items
@@ -103,11 +103,11 @@ impl Ends<'_> {
         alloc: Global,
         table: &Table,
         message: &M,
-        found: Found,
+        found: MessageIds,
     ) -> Result<Option<Kind>, AllocError>
         ensures { (side : Side) (items : List Item) → IsSide table.now side items self.entry.own.now
             → IsSide table.now (other side) items self.entry.peer.now
-            → AreFound table.now side items (M.meaning message.now) found.entry
+            → AreMessageIds table.now side items (M.meaning message.now) found.entry
             → goes_over_tangled side items (M.meaning message.now) ≡ false
             → AreRoomy (items ++ Sent side (M.meaning message.now) ∷ [])
             → IfOk result (λ kind. kind ≡ find

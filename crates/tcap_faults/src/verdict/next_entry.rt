@@ -9,12 +9,12 @@ ghost use Rattle.tcap_refute.specs.EarlierMessages.{since_quiet};
 ghost use Rattle.tcap_faults.specs.Fault.{fault_since};
 ghost use Rattle.tcap_record.specs.Ends.{other};
 ghost use Rattle.tcap_faults.specs.MessageEffects.{AreEffects};
-ghost use Rattle.tcap_faults.specs.KeptForMessage.{AreFound};
+ghost use Rattle.tcap_faults.specs.KeptForMessage.{AreMessageIds};
 ghost use Rattle.tcap_faults.specs.History.{IsSide};
-ghost use Rattle.tcap_faults.specs.SearchState.{AreRoomy, IsKept};
+ghost use Rattle.tcap_faults.specs.SearchState.{AreRoomy, IsHalfKey};
 
 use crate::transaction::history::Facts;
-use crate::transaction::lookup::Found;
+use crate::transaction::lookup::MessageIds;
 use crate::transaction::message_effects::Effects;
 use crate::transaction::tangled_ids::Ends;
 use std::alloc::{AllocError, Global};
@@ -26,7 +26,7 @@ use tcap_refute::Kind;
 impl Facts {
     /// Returns the histories of an end and its peer.
     pub(crate) fn ends(&self, side: End) -> Ends<'_>
-        ensures { (table : Table) (items : List Item) → IsKept table items self.now
+        ensures { (table : Table) (items : List Item) → IsHalfKey table items self.now
             → IsSide table side (since_quiet items) result.own.now
             × IsSide table (other side) (since_quiet items) result.peer.now }
     {
@@ -42,18 +42,18 @@ impl Facts {
         side: End,
         otid: Option<&'a TransactionId>,
         dtid: Option<&'a TransactionId>,
-    ) -> Found<'a>
-        ensures { (table : Table) (items : List Item) (m : Message) → IsKept table items self.now
+    ) -> MessageIds<'a>
+        ensures { (table : Table) (items : List Item) (m : Message) → IsHalfKey table items self.now
             → option_copied otid.entry ≡ otid_in m → option_copied dtid.entry ≡ dtid_in m
-            → AreFound table side (since_quiet items) m result }
+            → AreMessageIds table side (since_quiet items) m result }
     {
         self.ends(side).find(otid, dtid)
     }
 
     /// Returns the effects of a message that an end sends, from what was found of its IDs.
-    pub(crate) fn effects(&self, table: &Table, side: End, found: Found) -> Effects
-        ensures { (items : List Item) (m : Message) → IsKept table.now items self.now
-            → AreFound table.now side (since_quiet items) m found.entry
+    pub(crate) fn effects(&self, table: &Table, side: End, found: MessageIds) -> Effects
+        ensures { (items : List Item) (m : Message) → IsHalfKey table.now items self.now
+            → AreMessageIds table.now side (since_quiet items) m found.entry
             → AreEffects table.now side (since_quiet items) m result }
     {
         let again = self.ends(side).uses_again(table, found);
@@ -68,12 +68,12 @@ impl Facts {
         table: &Table,
         side: End,
         message: &M,
-        found: Found,
+        found: MessageIds,
         effects: Effects,
     ) -> Result<Option<Kind>, AllocError>
-        ensures { (items : List Item) → IsKept table.now items self.now
+        ensures { (items : List Item) → IsHalfKey table.now items self.now
             → AreRoomy (items ++ Sent side (M.meaning message.now) ∷ [])
-            → AreFound table.now side (since_quiet items) (M.meaning message.now) found.entry
+            → AreMessageIds table.now side (since_quiet items) (M.meaning message.now) found.entry
             → AreEffects table.now side (since_quiet items) (M.meaning message.now) effects
             → IfOk result (λ kind. kind
             ≡ fault_since table.now side (since_quiet items) (Sent side (M.meaning message.now))) }
@@ -90,7 +90,7 @@ impl Facts {
 
     /// Returns F15 if a quiet mark is a fault of this end.
     pub(crate) fn mark_of(&self, table: &Table, side: End) -> Option<Kind>
-        ensures { (items : List Item) → IsKept table.now items self.now
+        ensures { (items : List Item) → IsHalfKey table.now items self.now
             → result ≡ fault_since table.now side (since_quiet items) Item.Quiet }
     {
         let ends = self.ends(side);
@@ -103,7 +103,7 @@ impl Facts {
 
     /// Notes a quiet mark: forgets what was before it.
     pub(crate) fn note_mark(&mut self, alloc: Global)
-        ensures { (table : Table) (items : List Item) → IsKept table (items ++ Item.Quiet ∷ []) self.new }
+        ensures { (table : Table) (items : List Item) → IsHalfKey table (items ++ Item.Quiet ∷ []) self.new }
     {
         *self = Facts::new(alloc);
     }

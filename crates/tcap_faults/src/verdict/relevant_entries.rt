@@ -7,7 +7,7 @@ ghost use Rattle.tcap_end.specs.End.{is_id};
 ghost use Rattle.tcap_model.specs.Entries.{item_of};
 ghost use Rattle.tcap_model.specs.World.{Item, Sent};
 ghost use Rattle.tcap_faults.specs.Replay.{items_up_to};
-ghost use Rattle.tcap_faults.specs.RelevantItems.{IsNoted, IsNotedFor, matters, those_for_entry};
+ghost use Rattle.tcap_faults.specs.RelevantItems.{IsNoted, IsNotedFor, matters_for_half, items_for_entry};
 
 use crate::transaction::history::Facts;
 use crate::verdict::first_fault::entry_count;
@@ -36,7 +36,7 @@ fn message_matters<M: MessageParts>(
     sender: End,
     message: &M,
 ) -> bool
-    ensures { result ≡ matters side id.entry.octets.now (Sent sender (M.meaning message.now)) }
+    ensures { result ≡ matters_for_half side id.entry.octets.now (Sent sender (M.meaning message.now)) }
 {
     if sender == side {
         matches!(message.kind(), Form::Begin) || is_id(id, message.dtid())
@@ -47,7 +47,7 @@ fn message_matters<M: MessageParts>(
 
 /// Returns whether an entry matters for the half; a quiet mark always does.
 fn entry_matters(side: End, id: TransactionIdView, entry: &Entry) -> bool
-    ensures { (item : Item) → item_of entry.now ≡ Ok item → result ≡ matters side id.entry.octets.now item }
+    ensures { (item : Item) → item_of entry.now ≡ Ok item → result ≡ matters_for_half side id.entry.octets.now item }
 {
     match (entry.side, &entry.body) {
         (Some(sender), Body::Good(message)) => message_matters(side, id, sender, &message.view()),
@@ -110,7 +110,7 @@ impl Facts {
         number: u64,
         entry: &Entry,
     ) -> Result<Facts, AllocError>
-        ensures { IfOk result (IsNoted table.now (those_for_entry side (item_of entry.now)
+        ensures { IfOk result (IsNoted table.now (items_for_entry side (item_of entry.now)
             (items_up_to «record».now.entries.items number)) number) }
     {
         let (Some(_), Body::Good(message)) = (entry.side, &entry.body) else {

@@ -5,7 +5,7 @@ ghost use Rattle.tcap_record.specs.declared.entry.Entry.{Entry};
 ghost use Rattle.tcap_end.specs.Table.{Table};
 ghost use Rattle.tcap_model.specs.Entries.{item_of};
 ghost use Rattle.tcap_faults.specs.Replay.{items_up_to};
-ghost use Rattle.tcap_faults.specs.SearchState.{IsKept};
+ghost use Rattle.tcap_faults.specs.SearchState.{IsHalfKey};
 ghost use Rattle.tcap_faults.specs.Unblamed.{is_mark, tangled_at, unblamed_at, unblamed_by};
 
 use crate::transaction::history::Facts;
@@ -19,7 +19,8 @@ use tcap_refute::SearchFault;
 impl Facts {
     /// Returns the first tangled ID that an entry's message goes over, if this end sent it after what is kept.
     fn tangled_at(&self, end: End, entry: &Entry) -> Option<TangledId>
-        ensures { (table : Table) (entries : List Entry) (number : ℕ) → IsKept table (items_up_to entries number) self.now
+        ensures { (table : Table) (entries : List Entry) (number : ℕ)
+            → IsHalfKey table (items_up_to entries number) self.now
             → slice_get entries number ≡ Some entry.now → result ≡ tangled_at end entries number }
     {
         match (entry.side, &entry.body) {

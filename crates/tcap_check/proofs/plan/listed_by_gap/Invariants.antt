@@ -1,6 +1,6 @@
 -- These are the lists so far.
 use Rattle.std.proofs.Common.{◌≡◌, ◌<◌, ◌==◌, ◌++◌, ℕ, filter, map, take}
-use Rattle.tcap_check.specs.declared.listed_steps.Listed.TheVariants as listings
+use Rattle.tcap_check.specs.declared.listed_steps.ListedStep.TheVariants as listings
 use Rattle.tcap_check.specs.Buckets.{count_lists, list_at}
 use Rattle.tcap_check.proofs.plan.listed_by_gap.Given as goal
 

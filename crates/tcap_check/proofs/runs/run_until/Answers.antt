@@ -1,6 +1,6 @@
 use Rattle.std.proofs.Common.{Some, sym, ap, ◌∙◌}
 use Rattle.tcap_check.specs.RunSoFar.{EndsListed, stopped_at}
-use Rattle.tcap_check.specs.ReportedSteps.{Told}
+use Rattle.tcap_check.specs.ReportedSteps.{ListedRun}
 use Rattle.tcap_check.proofs.checker_laws.ListedStepsLaws.{nothing_answered, nothing_stopped, run_answered, run_stopped}
 use Rattle.tcap_check.proofs.refusal_laws.TakenEntriesLaws.{Among, in_memory, listed_kept, replay_so_far}
 use Rattle.tcap_check.proofs.runs.run_until.Goals.{in-Some, in-None}
@@ -31,7 +31,7 @@ returns-clause-answer c =
     elim c.match-steps.branch [
       | in-Some v ↦ rw v.steps-is (run_answered x c.args.judged c.args.table.now c.args.certificate.now entries kept c.into_progress-a.result
           c.go_through.result c.in_ok-refused.refused v.into_list-steps.result.items took.1 took.2 took.3 c.into_progress-a.ensures so.refused ends
-          (v.in-Some.is ∙ ap (λ (t : Told). Some t) (sym v.into_list-steps.ensures)))
+          (v.in-Some.is ∙ ap (λ (t : ListedRun). Some t) (sym v.into_list-steps.ensures)))
       | in-None v ↦ absurd (listed_kept x.judged x.certificate.now (stopped_at x.judged x.table.now x.certificate.now entries among.count among.goes.front) kept among.stands
           (ap (λ p. p.steps) (sym c.into_progress-a.ensures) ∙ v.in-None.is))
     ]

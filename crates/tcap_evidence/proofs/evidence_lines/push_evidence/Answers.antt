@@ -10,7 +10,7 @@ returns c =
     let t = string_bytes c.args.text.now in
     let t1 = string_bytes c.push_fault.new.text in
     let fault = fault_text c.args.table.now c.args.end (slice_get c.args.record.now.entries.items c.args.at.entry) c.args.at found.about
-    found.id (map (λ g. (g.what, g.entries.items)) found.grounds.items) in
+    found.id (map (λ g. (g.fact, g.entries.items)) found.grounds.items) in
     let lines = invocation_lines c.args.table.now found.id in
     on_ok_weaker c.push_invocations.result
     (λ e. also t t1 (string_bytes c.push_invocations.new.text) fault (lines found.invocations.items) c.in_ok-push_fault.ensures

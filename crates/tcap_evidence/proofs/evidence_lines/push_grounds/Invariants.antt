@@ -5,4 +5,4 @@ use Rattle.tcap_evidence.proofs.evidence_lines.push_grounds.Given as goal
 abbrev pub invariant-loop-ground : goal.invariant-loop-ground
 invariant-loop-ground l = string_bytes l.text
     ≡ string_bytes l.fn.text
-    ++ flat_map (ground_line l.end l.id) (map (λ g. (g.what, g.entries.items)) (take l.ground-index l.grounds))
+    ++ flat_map (ground_line l.end l.id) (map (λ g. (g.fact, g.entries.items)) (take l.ground-index l.grounds))

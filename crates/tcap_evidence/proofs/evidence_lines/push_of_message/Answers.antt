@@ -12,7 +12,7 @@ returns c =
     let m = c.args.message.now in
     let about = c.args.found.now.about in
     let component = component_at about.component (components_in m) in
-    let grounds = map (λ g. (g.what, g.entries.items)) c.args.found.now.grounds.items in
+    let grounds = map (λ g. (g.fact, g.entries.items)) c.args.found.now.grounds.items in
     let t = string_bytes c.args.text.now in
     let t1 = string_bytes c.push_entry.new.text in
     let t2 = string_bytes c.push_message.new.text in
@@ -25,7 +25,7 @@ returns c =
     let shown = ap (λ x. t1 ++ (codes "    " ++ head_text m ++ line_end ++ component_shown x)) c.component_at-component.ensures in
     let e2 = also t t1 t2 a1 (message_lines m about.component) c.in_ok-push_entry.ensures (c.in_ok-push_message.ensures ∙ shown) in
     let e3 = also t t2 t3 a2 (half_line end at.kind (dtid_in m) about) e2 c.in_ok-push_half.ensures in
-    let listed = ap (λ x. t3 ++ flat_map (ground_line end c.args.found.now.id) (map (λ g. (g.what, g.entries.items)) x)) c.deref.ensures.value in
+    let listed = ap (λ x. t3 ++ flat_map (ground_line end c.args.found.now.id) (map (λ g. (g.fact, g.entries.items)) x)) c.deref.ensures.value in
     let e4 = also t t3 t4 a3 (flat_map (ground_line end c.args.found.now.id) grounds) e3 (c.in_ok-push_grounds.ensures ∙ listed) in
     let doubt = ap (λ x. t4 ++ doubt_lines c.args.table.now at.kind x) c.component_at-component.ensures in
     on_ok_weaker c.push_doubt.result

@@ -12,10 +12,10 @@ returns-in_ok-of_message-in-Some-Good c =
     good c.args.of_one c.args.table.now c.args.end entries c.args.at c.in-Some.entry.now c.in-Some-Good.field-0-0
     c.in-Some-Good.message c.in_ok-about.about c.in_ok-about.ensures (sym c.in-Some.ensures.entry) c.in-Some-Good.is-0 c.in-Some-Good.is-1 in
     record {
-      grounds = found.grounds c.args.end entries c.in_ok-stretch.ensures.0 c.in_ok-stretch.ensures.1 ∙ evidence.0;
+      grounds = found.grounds c.args.end entries c.in_ok-messages_by_end.ensures.0 c.in_ok-messages_by_end.ensures.1 ∙ evidence.0;
       about = found.about ∙ c.in_ok-about.ensures;
       id = found.id ∙ evidence.2;
-      invocations = found.invocations c.args.end entries c.in_ok-stretch.ensures.0 c.in_ok-stretch.ensures.1 ∙ evidence.1;
+      invocations = found.invocations c.args.end entries c.in_ok-messages_by_end.ensures.0 c.in_ok-messages_by_end.ensures.1 ∙ evidence.1;
     }
 
 pub returns-in_ok-of_mark-in-None-Quiet : goal.returns-in_ok-of_mark-in-None-Quiet
@@ -26,7 +26,7 @@ returns-in_ok-of_mark-in-None-Quiet c =
     mark c.args.of_one c.args.table.now c.args.end entries c.args.at c.in-Some.entry.now (sym c.in-Some.ensures.entry)
     c.in-None-Quiet.is-0 c.in-None-Quiet.is-1 in
     record {
-      grounds = found.grounds c.args.end entries c.args.at.entry c.in_ok-stretch.ensures.0 c.in_ok-stretch.ensures.1 ∙ evidence.0;
+      grounds = found.grounds c.args.end entries c.args.at.entry c.in_ok-messages_by_end.ensures.0 c.in_ok-messages_by_end.ensures.1 ∙ evidence.0;
       about = found.about ∙ c.in_ok-about.ensures;
       id = found.id ∙ evidence.2;
       invocations = found.invocations ∙ evidence.1;
@@ -45,7 +45,7 @@ returns-in_default c =
           (sym c.in-Some.ensures.entry) w.in_default.is-0 w.in_default.not-Quiet-1
     ] in
     record {
-      grounds = ap (map (λ g. (g.what, g.entries.items))) found.grounds ∙ none.0;
+      grounds = ap (map (λ g. (g.fact, g.entries.items))) found.grounds ∙ none.0;
       about = found.about ∙ c.in_ok-about.ensures;
       id = found.id ∙ none.2;
       invocations = found.invocations ∙ none.1;
@@ -57,7 +57,7 @@ returns-in-None c =
     let none =
     not_there c.args.of_one c.args.table.now c.args.end c.args.record.now.entries.items c.args.at (sym c.in-None.ensures.entry) in
     record {
-      grounds = ap (map (λ g. (g.what, g.entries.items))) found.grounds ∙ none.0;
+      grounds = ap (map (λ g. (g.fact, g.entries.items))) found.grounds ∙ none.0;
       about = found.about ∙ c.in_ok-about.ensures;
       id = found.id ∙ none.2;
       invocations = found.invocations ∙ none.1;

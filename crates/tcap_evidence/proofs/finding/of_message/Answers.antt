@@ -9,9 +9,9 @@ returns-clause-grounds c = λ side entries own peer.
     let kind = c.args.at.kind in
     let about = c.args.about in
     let known = scene_of c.args.table.now side entries c.args.at.entry m kind about in
-    let are = c.shows_of-whats.ensures ∙ ap (λ x. shows (dtid_in m) about.how x kind) c.component_at-component.ensures in
+    let are = c.facts_of-facts.ensures ∙ ap (λ x. shows (dtid_in m) about.origin x kind) c.component_at-component.ensures in
     c.in_ok-grounds.ensures known (c.in_ok-scene.ensures side entries own peer)
-    (rw are (never_open (dtid_in m) about.how (component_at about.component (components_in m)) kind))
+    (rw are (never_open (dtid_in m) about.origin (component_at about.component (components_in m)) kind))
     ∙ ap (grounds_in known) are
 
 pub returns-clause-invocations : goal.returns-clause-invocations

@@ -11,7 +11,7 @@ use Rattle.tcap_explain.proofs.explaining.explain_by_search.Goals as goal
 pub returns-in-None : goal.returns-in-None
 returns-in-None c =
     let so = c.in_ok-run.ensures in
-    let judged = c.args.asked.judged in
+    let judged = c.args.options.judged in
     let entries = c.args.read.now.entries.items in
     let said = c.explain_run.result in
     proposed_says (λ why. why.outcome) (λ why. string_bytes why.behind) judged c.args.table.now c.in_ok-certificate.certificate

@@ -6,22 +6,22 @@ use Rattle.tcap_judge.proofs.blaming.blame_told.Goals as goal
 pub returns-in-Ok-blame_record : goal.returns-in-Ok-blame_record
 returns-in-Ok-blame_record g c =
     let read = c.in-Ok.ensures in
-    let (told, tells, is_read) = read.told in
-    let said = c.in-Ok-blame_record.ensures in
-    let (ends, is, are, found) = said.2 in
+    let (returned, tells, is_read) = read.returned in
+    let reported = c.in-Ok-blame_record.ensures in
+    let (ends, is, are, found) = reported.2 in
     gives_blame c.blamed_is_at_fault.ensures c.args.table.now _ c.in-Ok.read.entries.items (Ok tt) _ _
-    (record { told = told; tells = tells; is_read = is_read; ended = read.ended; failed = read.failed })
-    said.0 said.1 (ends_said c.args.table.now c.in-Ok.read.entries.items _ ends is are)
+    (record { returned = returned; tells = tells; is_read = is_read; ended = read.ended; failed = read.failed })
+    reported.0 reported.1 (ends_said c.args.table.now c.in-Ok.read.entries.items _ ends is are)
     (found_said c.args.table.now c.in-Ok.read.entries.items _ ends is found)
 
 pub returns : goal.returns
 returns g c =
     let read = c.in-Err.ensures in
-    let (told, tells, (entries, is_read)) = read.told in
+    let (returned, tells, (entries, is_read)) = read.returned in
     let fault = c.in-Err.fault in
-    let said = c.alone-in-Err.ensures in
-    let outcome = said.outcome ∙ ap (λ (n : ℕ). Faulty n fault.place) c.number.ensures in
+    let reported = c.alone-in-Err.ensures in
+    let outcome = reported.outcome ∙ ap (λ (n : ℕ). Faulty n fault.place) c.number.ensures in
     gives_blame c.blamed_is_at_fault.ensures c.args.table.now _ entries (Err fault) _ _
-    (record { told = told; tells = tells; is_read = is_read; ended = read.ended; failed = read.failed })
-    outcome (shown_fault c.args.table.now entries _ _ _ outcome) said.ends
-    (found_none c.args.table.now entries _ said.ends)
+    (record { returned = returned; tells = tells; is_read = is_read; ended = read.ended; failed = read.failed })
+    outcome (shown_fault c.args.table.now entries _ _ _ outcome) reported.ends
+    (found_none c.args.table.now entries _ reported.ends)

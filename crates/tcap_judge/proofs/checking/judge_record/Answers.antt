@@ -10,14 +10,14 @@ returns-in-Ok g c =
     let all = c.in-Ok.ensures c.args.judged table certificate c.in-Some.ensures in
     elim (c.finish.ensures table certificate all.entries all.stands.1 (c.dropped.ensures.count ∙ all.stands.0)) [
       | inl memory ↦ inl memory
-      | inr said ↦ inr (record {
+      | inr reported ↦ inr (record {
         entries = all.entries;
         end = Ok c.in-Ok.field-0;
         reads = all.reads;
-        says = said;
-        shown = shown_by_replay c.args.judged table certificate all.entries c.finish.result said;
-        reasoned = reasoned_by_replay c.args.judged table certificate all.entries c.finish.result said;
-        described = described_by_replay c.args.judged table certificate all.entries (Ok c.in-Ok.field-0) c.finish.result said;
+        says = reported;
+        shown = shown_by_replay c.args.judged table certificate all.entries c.finish.result reported;
+        reasoned = reasoned_by_replay c.args.judged table certificate all.entries c.finish.result reported;
+        described = described_by_replay c.args.judged table certificate all.entries (Ok c.in-Ok.field-0) c.finish.result reported;
       })
     ]
 

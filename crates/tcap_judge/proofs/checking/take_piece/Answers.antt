@@ -2,7 +2,7 @@ use Rattle.std.proofs.Common.{◌≡◌, ◌+◌, ◌≤◌, Bool, length, Resul
 use Rattle.std.proofs.lemmas.Result.{err_from_is_err_and}
 use Rattle.std.proofs.lemmas.List.{length-drop}
 use Rattle.tcap_record.specs.declared.fault.FeedFault.{FeedFault}
-use Rattle.tcap_record.specs.PartialRecord.{Held, IsHeld, dropped}
+use Rattle.tcap_record.specs.PartialRecord.{FramerState, IsFramerState, dropped}
 use Rattle.tcap_record.proofs.FeederLaws.{rest_on, held_dropped, no_less}
 use Rattle.tcap_lines.proofs.ShowLaws.{fails_fed}
 use Rattle.tcap_judge.proofs.JudgeLaws.{dropped_place, fed_short, grown_place, leads_fed, leads_taken, leads_whole}
@@ -45,7 +45,7 @@ returns-then-not-branch-clause-leads c =
     let n = c.in_ok-taken.taken in
     let none = c.in_ok-take_front.ensures.none
     (ap (λ (b : Bool). let r : Result Bool FeedFault = Ok b in r) c.if-not-branch.true) in
-    let sound = ap (λ (h : Held). h.fault) c.in_ok-taken.ensures.taken.1 in
+    let sound = ap (λ (h : FramerState). h.fault) c.in_ok-taken.ensures.taken.1 in
     let most : n ≤ length rest = c.in_ok-taken.ensures.most in
     let all : n ≡ length rest =
     no_less n (length rest) most (λ few. none.0 (sound, c.in_ok-taken.ensures.all few)) in
@@ -67,7 +67,7 @@ loop-taken-preserved c =
     let fed = leads_fed _ _ piece rest was.n n held grew c.loop-taken.checker was.rest_is
     (λ octets entries fed. c.in_ok-taken.ensures.fed octets entries fed) was.leads in
     record {
-      held = λ held. subst IsHeld (sym after) (held_dropped grew c.in_ok-taken.ensures.held there.2 there.3);
+      held = λ held. subst IsFramerState (sym after) (held_dropped grew c.in_ok-taken.ensures.held there.2 there.3);
       n = was.n + n;
       most = omega (arith, was.most, most, ap length was.rest_is, length-drop was.n piece);
       rest_is = rest_on piece rest was.n n was.rest_is most;

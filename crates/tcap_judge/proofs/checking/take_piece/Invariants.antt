@@ -1,12 +1,12 @@
 -- part of the piece is taken, with its entries
 use Rattle.std.proofs.Common.{◌≡◌, ℕ, ◌+◌, ◌≤◌, length, take, drop}
-use Rattle.tcap_record.specs.PartialRecord.{IsHeld}
+use Rattle.tcap_record.specs.PartialRecord.{IsFramerState}
 use Rattle.tcap_judge.specs.PiecewiseReplay.{Leads}
 use Rattle.tcap_judge.proofs.checking.take_piece.Given as goal
 
 abbrev pub invariant-loop-taken : goal.invariant-loop-taken
 invariant-loop-taken l = record {
-  held : IsHeld l.initial.frames → IsHeld l.frames;
+  held : IsFramerState l.initial.frames → IsFramerState l.frames;
   n : ℕ;
   most : n ≤ length l.piece;
   rest_is : l.rest ≡ drop n l.piece;

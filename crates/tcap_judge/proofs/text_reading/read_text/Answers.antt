@@ -3,23 +3,23 @@ use Rattle.std.proofs.KnownBytes.{Consumes-trans}
 use Rattle.std.proofs.lemmas.Result.{err_from_is_err_and}
 use Rattle.tcap_judge.proofs.text_reading.read_text.Goals as goal
 
-pub returns-then-told-limit : goal.returns-then-told-limit
-returns-then-told-limit g c =
+pub returns-then-returned-limit : goal.returns-then-returned-limit
+returns-then-returned-limit g c =
     let before = c.loop-text.invariant in
     let text = c.loop-text.text.items in
-    let more : List ℕ = take c.in-Ok.told c.read.new.buffer in
+    let more : List ℕ = take c.in-Ok.returned c.read.new.buffer in
     record {
       reads = record {
-        told = text ++ more;
+        returned = text ++ more;
         tells = Consumes-trans (g.R.Read.untold c.args.reader.now) (g.R.Read.untold c.loop-text.reader)
             (g.R.Read.untold c.read.new.self) text more before.consumed c.in-Ok.ensures.tells;
         ends = (
           omega (
             arith,
-            c.if-told-limit.true,
+            c.if-returned-limit.true,
             before.within,
             length-append text more,
-            length-take-le c.in-Ok.told c.read.new.buffer c.in-Ok.ensures.within,
+            length-take-le c.in-Ok.returned c.read.new.buffer c.in-Ok.ensures.within,
           ),
           omega (
             arith,
@@ -28,7 +28,7 @@ returns-then-told-limit g c =
             c.in-Ok.ensures.within,
             c.read.auto.buffer,
             length-append text more,
-            length-take-le c.in-Ok.told c.read.new.buffer c.in-Ok.ensures.within,
+            length-take-le c.in-Ok.returned c.read.new.buffer c.in-Ok.ensures.within,
           ),
           c.in-Ok.ensures.counts ∙ before.none_failed,
         );
@@ -39,11 +39,11 @@ pub returns-in_err-extend_from_slice : goal.returns-in_err-extend_from_slice
 returns-in_err-extend_from_slice g c =
     let before = c.loop-text.invariant in
     let text = c.loop-text.text.items in
-    let more : List ℕ = take c.in-Ok.told c.read.new.buffer in
+    let more : List ℕ = take c.in-Ok.returned c.read.new.buffer in
     let p = err_from_is_err_and c.from_residual.result c.from_residual.ensures.1 in
     rw (p.1, p.2) (record {
       reads = record {
-        told = text ++ more;
+        returned = text ++ more;
         tells = Consumes-trans (g.R.Read.untold c.args.reader.now) (g.R.Read.untold c.loop-text.reader)
             (g.R.Read.untold c.read.new.self) text more before.consumed c.in-Ok.ensures.tells;
         ends = c.in-Ok.ensures.counts ∙ before.none_failed;

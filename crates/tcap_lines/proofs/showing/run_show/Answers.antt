@@ -11,7 +11,7 @@ returns-clause-shown g c =
     c.in-Err-Fault.field-0-is c.in-Err-Fault.ensures.shows in
     let printed = faulted all.entries f (g.W.Write.taken c.args.writer.now) (g.W.Write.taken c.show_all.new.writer) (g.W.Write.taken c.write_fault.new.writer) all.written c.in_ok-write_fault-in-Err-Fault.ensures.line in
     record {
-      told = all.told;
+      returned = all.returned;
       entries = all.entries;
       end = Err f;
       text = printed.0;

@@ -1,6 +1,6 @@
 use Rattle.std.proofs.Common.{List, [], ◌++◌, sym, subst, ◌∙◌, append-nil}
 use Rattle.tcap_record.specs.declared.entry.Entry.{Entry}
-use Rattle.tcap_record.specs.PartialRecord.{Held, Fed, dropped}
+use Rattle.tcap_record.specs.PartialRecord.{FramerState, IsFramedSoFar, dropped}
 use Rattle.tcap_record.proofs.FedLaws.{fed_dropped}
 use Rattle.tcap_record.proofs.FeederLaws.{entry_waits}
 use Rattle.tcap_record.proofs.feeder.keep_rest.Goals as goal
@@ -13,6 +13,6 @@ returns-clause-fed c octets taken fed =
     let there = c.in_ok-keep_front.ensures.kept cc in
     let behind = entry_waits octets taken c.args.waiting.now.items there.0 (dropped c.args.frames.now)
     (fed_dropped octets (taken ++ c.args.waiting.now.items) c.args.frames.now there.0 there.1 fed) in
-    let waits = subst (λ (x : List Entry). Fed octets (taken ++ x) (dropped c.args.frames.now)) (sym there.4) behind in
+    let waits = subst (λ (x : List Entry). IsFramedSoFar octets (taken ++ x) (dropped c.args.frames.now)) (sym there.4) behind in
     c.keep_all-kept.ensures.fed octets taken
-    (subst (λ (h : Held). Fed octets (taken ++ c.keep_front.new.waiting.items) h) (sym c.behind_front-behind.ensures) waits)
+    (subst (λ (h : FramerState). IsFramedSoFar octets (taken ++ c.keep_front.new.waiting.items) h) (sym c.behind_front-behind.ensures) waits)

@@ -34,22 +34,22 @@ returns-in_err-transaction c = λ all told.
     c.in_ok-entry.entry.now c.requires.transactions look.3.0 look.1 c.in_ok-side.side c.in_ok-side.was
     c.in_err-transaction.was
 
-pub returns-then-is_unseen : goal.returns-then-is_unseen
-returns-then-is_unseen c = λ all told.
+pub returns-then-shows_closing : goal.returns-then-shows_closing
+returns-then-shows_closing c = λ all told.
     let entries = c.args.entries.now in
     let t = c.args.tie.now in
     let look = c.in_ok-entry.ensures.lookup in
     rw c.other.ensures (shown_is entries c.args.transactions.now all t.entry t.reply
     c.in_ok-entry.entry.now c.requires.transactions look.3.0 look.1 c.args.ended.now c.args.told.now c.in_ok-side.side
     c.in_ok-transaction.transaction true c.in_ok-side.was c.in_ok-transaction.was c.requires.ended told
-    (sym c.if-is_unseen.true ∙ c.is_unseen.ensures))
+    (sym c.if-shows_closing.true ∙ c.shows_closing.ensures))
 
-pub returns-else-is_unseen : goal.returns-else-is_unseen
-returns-else-is_unseen c = λ all told.
+pub returns-else-shows_closing : goal.returns-else-shows_closing
+returns-else-shows_closing c = λ all told.
     let entries = c.args.entries.now in
     let t = c.args.tie.now in
     let look = c.in_ok-entry.ensures.lookup in
     shown_is entries c.args.transactions.now all t.entry t.reply
     c.in_ok-entry.entry.now c.requires.transactions look.3.0 look.1 c.args.ended.now c.args.told.now c.in_ok-side.side
     c.in_ok-transaction.transaction false c.in_ok-side.was c.in_ok-transaction.was c.requires.ended told
-    (sym c.if-is_unseen.false ∙ c.is_unseen.ensures)
+    (sym c.if-shows_closing.false ∙ c.shows_closing.ensures)

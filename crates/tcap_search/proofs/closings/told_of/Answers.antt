@@ -29,7 +29,7 @@ loop-number-preserved c =
     let e = c.index-entries-number.result in
     let read = c.index-entries-number.is in
     let counted = c.requires.count in
-    elim c.match-gap_told.branch [
+    elim c.match-end_delivery_gap.branch [
       | in-Some w ↦ rw w.told-is
           (told_more entries fates i old e (Gap 0) (get_or fates i (Gap 0)) below counted read refl so_far
           w.note.new.self (get_or transactions i None) w.in-Some.gap

@@ -9,7 +9,7 @@ returns-clause-a c =
     let found = c.in_ok-found.ensures.found in
     let earlier = c.in_ok-a.ensures in
     let all : c.len.result ≡ length c.args.read.now.entries.items = search rules in
-    c.in_ok-said_by.ensures
+    c.in_ok-result_by.ensures
     ∙ says_of_a c.args.table.now c.args.circumstances c.args.read.now.entries.items _ _ _ _ earlier.stays found.0 found.1
     (rw all at c.no_message_of-number.ensures) _ earlier.found.0
 
@@ -18,7 +18,7 @@ returns-clause-b c =
     let found = c.in_ok-found.ensures.found in
     let earlier = c.in_ok-a.ensures in
     let all : c.len.result ≡ length c.args.read.now.entries.items = search rules in
-    c.in_ok-said_by-2.ensures
+    c.in_ok-result_by-2.ensures
     ∙ says_of_b c.args.table.now c.args.circumstances c.args.read.now.entries.items _ _ _ _ earlier.stays found.0 found.1
     (rw all at c.no_message_of-number.ensures) _ earlier.found.1
 
@@ -30,8 +30,8 @@ returns-clause-so c =
     let number = rw all at c.no_message_of-number.ensures in (
       so_of_a c.blamed_is_at_fault.ensures c.args.table.now c.args.circumstances c.args.read.now.entries.items _ _ _ _
           earlier.stays found.found.0 found.found.1 found.shown.0 number _ earlier.found.0 earlier.shown.0 _
-          c.in_ok-said_by.ensures,
+          c.in_ok-result_by.ensures,
       so_of_b c.blamed_is_at_fault.ensures c.args.table.now c.args.circumstances c.args.read.now.entries.items _ _ _ _
           earlier.stays found.found.0 found.found.1 found.shown.1 number _ earlier.found.1 earlier.shown.1 _
-          c.in_ok-said_by-2.ensures,
+          c.in_ok-result_by-2.ensures,
     )

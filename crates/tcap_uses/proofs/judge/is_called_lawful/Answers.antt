@@ -18,15 +18,15 @@ known_lawful : (entries table : Device) (taken taken' : Option (List ℕ)) (octe
     → (items : List Item) × (operations : Table) × (moves : ℕ) × SpellsRecord items octets
     × IsTableOf text (Ok operations) × IsLawful items operations moves
 known_lawful entries table taken taken' octets text is text_is found =
-    let told = subst (λ (o : Option (List ℕ)). Consumes o entries.after found.told.octets) is found.told.tells.0 in
-    let told_text = subst (λ (o : Option (List ℕ)). Consumes o table.after found.told.text) text_is found.told.tells_table.0 in
-    let all = told_all octets found.told.octets entries.after told found.told.tells.1 in
-    let all_text = told_all text found.told.text table.after told_text found.told.tells_table.1 in (
+    let returned = subst (λ (o : Option (List ℕ)). Consumes o entries.after found.returned.octets) is found.returned.tells.0 in
+    let refutation_text = subst (λ (o : Option (List ℕ)). Consumes o table.after found.returned.text) text_is found.returned.tells_table.0 in
+    let all = told_all octets found.returned.octets entries.after returned found.returned.tells.1 in
+    let all_text = told_all text found.returned.text table.after refutation_text found.returned.tells_table.1 in (
       found.items,
       found.operations,
       found.moves,
-      subst (SpellsRecord found.items) all found.told.spells,
-      subst (λ (t : List ℕ). IsTableOf t (Ok found.operations)) all_text found.told.is_table,
+      subst (SpellsRecord found.items) all found.returned.spells,
+      subst (λ (t : List ℕ). IsTableOf t (Ok found.operations)) all_text found.returned.is_table,
       found.lawful,
     )
 

@@ -9,9 +9,9 @@ pub returns-in-Ok-check-clause-prompt : goal.returns-in-Ok-check-clause-prompt
 returns-in-Ok-check-clause-prompt c = λ is.
     let entries = c.in-Ok.record.entries.items in
     let certificate = c.in_ok-certificate.certificate in
-    let (told, all, read) = c.in-Ok.ensures.told in
+    let (returned, all, read) = c.in-Ok.ensures.returned in
     let whole =
-    read_whole entries c.args.octets.now told _ (rw c.new-reader.ensures.inner at all) c.in-Ok.ensures.ended read in
+    read_whole entries c.args.octets.now returned _ (rw c.new-reader.ensures.inner at all) c.in-Ok.ensures.ended read in
     let (events, given) =
     reported_run c.args.table.now certificate entries c.in-Ok-check.field-0
     (sym (c.in-Ok-check.ensures.exact (λ e. cc))) in
@@ -26,9 +26,9 @@ returns c = record {
   other = λ is items events spells few run seen at_once.
       let entries = c.in-Ok.record.entries.items in
       let certificate = c.in_ok-certificate.certificate in
-      let (told, all, read) = c.in-Ok.ensures.told in
+      let (returned, all, read) = c.in-Ok.ensures.returned in
       let whole =
-      read_whole entries c.args.octets.now told _ (rw c.new-reader.ensures.inner at all) c.in-Ok.ensures.ended read in
+      read_whole entries c.args.octets.now returned _ (rw c.new-reader.ensures.inner at all) c.in-Ok.ensures.ended read in
       let (fine, are) = c.octets_are_read_as_their_items.ensures items c.args.octets.now entries (Ok tt) spells few whole tt in
       let (given, is_given) =
       c.prompt_octets_are_given.ensures c.args.table.now items c.args.octets.now entries events spells few whole run

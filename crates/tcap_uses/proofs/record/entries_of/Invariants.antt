@@ -1,10 +1,10 @@
 -- all octets are the entries taken and those that wait
 use Rattle.std.proofs.Common.{◌≡◌, ◌++◌, [], length}
-use Rattle.tcap_record.specs.FeederState.{FedTo}
+use Rattle.tcap_record.specs.FeederState.{IsFedSoFar}
 use Rattle.tcap_uses.proofs.record.entries_of.Given as goal
 
 abbrev pub invariant-loop-entry : goal.invariant-loop-entry
-invariant-loop-entry l = (l.feeder.held.octets ≡ []) × FedTo (l.first ++ l.second) l.entries.items l.feeder
+invariant-loop-entry l = (l.feeder.held.octets ≡ []) × IsFedSoFar (l.first ++ l.second) l.entries.items l.feeder
 
 abbrev pub decreases-loop-entry : goal.decreases-loop-entry
 decreases-loop-entry l = length l.feeder.waiting

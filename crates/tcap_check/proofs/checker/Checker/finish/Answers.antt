@@ -1,7 +1,7 @@
 use Rattle.std.proofs.Common.{Option, Result, Err, sym, ap, ◌∙◌, false}
 use Rattle.tcap_check.specs.declared.checker.Report.{Report}
 use Rattle.tcap_certificate.specs.declared.fault.CheckFault.{CheckFault}
-use Rattle.tcap_check.specs.CheckerMeaning.{Checking, so_far_of}
+use Rattle.tcap_check.specs.CheckerMeaning.{CheckerState, so_far_of}
 use Rattle.tcap_check.specs.ReplayInvariants.{kept_in}
 use Rattle.tcap_check.proofs.checker_laws.CheckerLaws.{finishes_so, finishes_still, kept_fault, no_fault}
 use Rattle.tcap_check.proofs.checker_laws.RefusalLaws.{ends_as_described, ends_bounded, ends_lawful, ends_with_reason}
@@ -13,7 +13,7 @@ refusal fault = Err fault
 pub returns-in-Some-clause-finished : goal.returns-in-Some-clause-finished
 returns-in-Some-clause-finished c = λ entries took other.
     finishes_still false c.args.self c.in-Some.fault
-    (ap (λ (x : Checking). x.so_far) (sym c.self.view_is) ∙ ap (λ (o : Option CheckFault). so_far_of o (kept_in c.self.inside.replaying)) c.in-Some.is)
+    (ap (λ (x : CheckerState). x.so_far) (sym c.self.view_is) ∙ ap (λ (o : Option CheckFault). so_far_of o (kept_in c.self.inside.replaying)) c.in-Some.is)
     entries took
 
 pub returns-in-None-clause-finished : goal.returns-in-None-clause-finished

@@ -1,6 +1,6 @@
 use Rattle.std.proofs.Common.{Option, None, Result, Err, refl, sym, ap, ◌∙◌, false}
 use Rattle.tcap_certificate.specs.declared.fault.CheckFault.{CheckFault}
-use Rattle.tcap_check.specs.CheckerMeaning.{Checking, answer_of, so_far_of}
+use Rattle.tcap_check.specs.CheckerMeaning.{CheckerState, answer_of, so_far_of}
 use Rattle.tcap_check.specs.ReplayInvariants.{kept_in}
 use Rattle.tcap_check.proofs.checker_laws.CheckerLaws.{stays, took_ok, took_err, turned}
 use Rattle.tcap_check.proofs.checker_laws.RefusalLaws.{refusal, refuses_for_good}
@@ -9,7 +9,7 @@ use Rattle.tcap_check.proofs.checker.Checker.mark.Goals as goal
 pub returns-in-Some-clause-took : goal.returns-in-Some-clause-took
 returns-in-Some-clause-took c = λ entries took other.
     stays false c.args.self.now c.in-Some.fault _
-    (ap (λ (x : Checking). x.so_far) (sym c.self.view_is) ∙ ap (λ (o : Option CheckFault). so_far_of o (kept_in c.self.inside.replaying)) c.in-Some.is)
+    (ap (λ (x : CheckerState). x.so_far) (sym c.self.view_is) ∙ ap (λ (o : Option CheckFault). so_far_of o (kept_in c.self.inside.replaying)) c.in-Some.is)
     entries took
 
 pub returns-in-Err-clause-took : goal.returns-in-Err-clause-took
@@ -30,12 +30,12 @@ returns-in_default-answer-clause-took c = λ entries took other.
 pub returns-in-Some-clause-refuses : goal.returns-in-Some-clause-refuses
 returns-in-Some-clause-refuses c =
     refuses_for_good c.args.self.now c.args.self.now _ (refusal c.in-Some.fault) (returns-in-Some-clause-took c)
-    (sym (ap answer_of (ap (λ (x : Checking). x.so_far) (sym c.self.view_is)
+    (sym (ap answer_of (ap (λ (x : CheckerState). x.so_far) (sym c.self.view_is)
     ∙ ap (λ (o : Option CheckFault). so_far_of o (kept_in c.self.inside.replaying)) c.in-Some.is))) refl refl refl
 
 pub returns-in-Err-clause-refuses : goal.returns-in-Err-clause-refuses
 returns-in-Err-clause-refuses c =
     refuses_for_good c.args.self.now _ _ (refusal c.in-Err.fault) (returns-in-Err-clause-took c) refl
-    (c.take_mark-answer.ensures.judged ∙ ap (λ (x : Checking). x.judged) c.self.view_is)
-    (ap (λ x. x.now) c.take_mark-answer.ensures.table ∙ ap (λ (x : Checking). x.table) c.self.view_is)
-    (ap (λ x. x.now) c.take_mark-answer.ensures.certificate ∙ ap (λ (x : Checking). x.certificate) c.self.view_is)
+    (c.take_mark-answer.ensures.judged ∙ ap (λ (x : CheckerState). x.judged) c.self.view_is)
+    (ap (λ x. x.now) c.take_mark-answer.ensures.table ∙ ap (λ (x : CheckerState). x.table) c.self.view_is)
+    (ap (λ x. x.now) c.take_mark-answer.ensures.certificate ∙ ap (λ (x : CheckerState). x.certificate) c.self.view_is)

@@ -2,8 +2,8 @@ use Rattle.std.proofs.Common.{List, ap, drop, get_or, sym, ◌+◌, ◌∙◌, a
 use Rattle.tcap_record.specs.declared.entry.End.TheVariants.{A}
 use Rattle.tcap_end.specs.Step.{◌>>=◌}
 use Rattle.tcap_certificate.specs.Replay.{is_judged}
-use Rattle.tcap_check.specs.declared.listed_steps.Listed.{Listed}
-use Rattle.tcap_check.specs.declared.listed_steps.Listed.TheVariants as listings
+use Rattle.tcap_check.specs.declared.listed_steps.ListedStep.{ListedStep}
+use Rattle.tcap_check.specs.declared.listed_steps.ListedStep.TheVariants as listings
 use Rattle.tcap_check.specs.ListedSteps.{listed_judged}
 use Rattle.tcap_check.specs.Progress.{all_kept, listed_kept}
 use Rattle.tcap_check.specs.RefusedReplay.{listed_left}
@@ -20,12 +20,12 @@ loop-x-preserved c =
     let since = c.args.since in
     let judged = c.args.judged in
     let xs = c.args.listed.now in
-    let default : Listed = listings.Closes (record { gap = 0; side = A; entry = 0 }) in
+    let default : ListedStep = listings.Closes (record { gap = 0; side = A; entry = 0 }) in
     let x = get_or xs c.loop-x.x-index default in
     let left = drop (c.loop-x.x-index + 1) xs in
     let so = sym (c.is_judged.ensures ∙ ap (is_judged judged) c.side.ensures) in
-    let left_of = λ (listed : List Listed). listed_left table entries since (listed_judged judged listed) in
-    let all = λ (listed : List Listed). all_kept table entries since (listed_judged judged listed) in
+    let left_of = λ (listed : List ListedStep). listed_left table entries since (listed_judged judged listed) in
+    let all = λ (listed : List ListedStep). all_kept table entries since (listed_judged judged listed) in
     elim c.if-is_judged.branch [
       | then-is_judged+in_ok-hide w ↦
           let grows = w.in_ok-hide.ensures.grows in

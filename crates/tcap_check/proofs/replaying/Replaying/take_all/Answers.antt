@@ -5,7 +5,7 @@ use Rattle.tcap_model.specs.declared.reason.Reason.{Reason}
 use Rattle.tcap_model.specs.World.{Item}
 use Rattle.tcap_model.specs.Entries.{item_of}
 use Rattle.tcap_certificate.specs.declared.fault.CheckFault.{CheckFault}
-use Rattle.tcap_check.specs.CheckerMeaning.{TookListed, taken}
+use Rattle.tcap_check.specs.CheckerMeaning.{HasTakenListing, taken}
 use Rattle.tcap_check.specs.ReplayInvariants.{checking_of, kept_in}
 use Rattle.tcap_certificate.specs.Replay.{replay_by}
 use Rattle.tcap_check.proofs.checker_laws.RefusalLaws.{refused_at, taken_at, took_more, whole_is}
@@ -45,7 +45,7 @@ loop-entry-preserved c =
     c.loop-entry-test.true c.entry-item.is in
     record {
       ready = c.in_ok-take_entry.ensures.ready;
-      took = λ listed start. subst (λ (x : List (Result Item Reason)). TookListed listed (checking_of c.take_entry.new.self) x) (sym so_far)
+      took = λ listed start. subst (λ (x : List (Result Item Reason)). HasTakenListing listed (checking_of c.take_entry.new.self) x) (sym so_far)
           (took_more listed c.loop-entry.self c.take_entry.new.self (item_of c.entry-item.result) c.take_entry.ensures.judged
           c.take_entry.ensures.table c.take_entry.ensures.certificate c.in_ok-take_entry.ensures.taken (map item_of (take i all))
           (c.loop-entry.invariant.took listed start));

@@ -2,8 +2,8 @@ use Rattle.std.proofs.Common.{◌+◌, ◌||◌, sym, ap, subst, ◌∙◌}
 use Rattle.tcap_msg.specs.Meaning.{id_of}
 use Rattle.tcap_dialogues.specs.Course.{joined_by, own_ids}
 use Rattle.tcap_dialogues.specs.HeadingReading.{heading_read}
-use Rattle.tcap_dialogues.specs.CutState.{IsCutOf, known_of, others}
-use Rattle.tcap_dialogues.specs.Cut.{is_among}
+use Rattle.tcap_dialogues.specs.CutState.{IsCutOf, known_of, without_name}
+use Rattle.tcap_dialogues.specs.DialoguesOfList.{is_among}
 use Rattle.tcap_dialogues.specs.CutUpdate.{HasEntry}
 use Rattle.tcap_dialogues.proofs.JoinLaws.{begins_is, entry_comes, more, one_first, one_more, ones, others_apart, owned, same_count}
 use Rattle.tcap_dialogues.proofs.cut.Cut.join.Goals as goal
@@ -24,7 +24,7 @@ returns c = λ s names sent apart held later below.
     let l = c.in_ok-live.live in
     let takes = c.take_or_new-one.ensures s.live names apart held.lives held.overs in
     let takes_more =
-    c.take_or_new-other.ensures (others names own.dialogue s.live) names
+    c.take_or_new-other.ensures (without_name names own.dialogue s.live) names
     (others_apart s names sent h apart old held own peer own_known peer_known) takes.lives takes.overs in
     let joined =
     c.in_ok-live.ensures (ones s names sent h apart old held own peer own_known peer_known)

@@ -2,7 +2,7 @@ use Rattle.std.proofs.Common.{◌∙◌}
 use Rattle.std.proofs.lemmas.Result.{IfOk-weaker}
 use Rattle.tcap_dialogues.specs.Course.{courses_so_far}
 use Rattle.tcap_dialogues.specs.HeadingReading.{heading_read}
-use Rattle.tcap_dialogues.specs.CutState.{freed}
+use Rattle.tcap_dialogues.specs.CutState.{after_done}
 use Rattle.tcap_dialogues.proofs.CourseStretch.{apart_so_far}
 use Rattle.tcap_dialogues.proofs.TakeLaws.{begins_then, below_at, both_hand_over, cut_at, free_names, freed_now, later_at, lingers_old, others_of_apart, sent, then_apart, then_held}
 use Rattle.tcap_dialogues.proofs.cut.Cut.take.Goals as goal
@@ -22,7 +22,7 @@ returns-clause-takes c = λ reuse headings cut.
     (c.given_up-given_up.ensures s names _ apart cut.held) in
     let rest_apart = others_of_apart s.live names past given _ is apart in
     let first = c.in_ok-release.ensures s names (sent reuse headings h) apart cut.held in
-    let second = c.in_ok-release-2.ensures (freed names past s) names (sent reuse headings h) rest_apart first.0 in
+    let second = c.in_ok-release-2.ensures (after_done names past s) names (sent reuse headings h) rest_apart first.0 in
     let two = c.release-2.new.self in
     let held = then_held reuse headings h names past given is two second.0 in
     let same_reuse = second.2 ∙ first.2 ∙ cut.reuse_is in
@@ -50,7 +50,7 @@ returns-clause-begins c = λ reuse headings cut.
     (c.given_up-given_up.ensures s names _ apart cut.held) in
     let rest_apart = others_of_apart s.live names past given _ is apart in
     let first = c.in_ok-release.ensures s names (sent reuse headings h) apart cut.held in
-    let second = c.in_ok-release-2.ensures (freed names past s) names (sent reuse headings h) rest_apart first.0 in
+    let second = c.in_ok-release-2.ensures (after_done names past s) names (sent reuse headings h) rest_apart first.0 in
     let two = c.release-2.new.self in
     let held = then_held reuse headings h names past given is two second.0 in
     let same_count = second.3 ∙ first.3 ∙ cut.count_is in

@@ -11,7 +11,7 @@ use Rattle.tcap_end.specs.Half.{Half}
 use Rattle.tcap_end.specs.Step.{AnswersInMemory}
 use Rattle.tcap_end.specs.HalfState.{half_of, other_id}
 use Rattle.tcap_end.specs.Message.{active_half}
-use Rattle.tcap_end.specs.ComponentSteps.{components_by, way_of}
+use Rattle.tcap_end.specs.ComponentSteps.{components_by, direction_of}
 use Rattle.tcap_end.specs.Halves.{AllPlaced, AnswersOver, IsAt, end_of, index_of}
 use Rattle.tcap_end.proofs.HalfLaws.{Follows, follows_self}
 use Rattle.tcap_end.proofs.ChangeLaws.{answers_on, going_on, held_on, kept_on}
@@ -50,17 +50,17 @@ is_under c = under_before (with_entry c) c.number-number.result c.in-Some.half.n
 -- the half after the step
 abbrev made : After-activate → Half → Result Half EndFault
 made c h =
-    components_by (way_of c.args.found.now.slot) c.args.table.now (active_half c.args.found.now.slot c.args.id h)
+    components_by (direction_of c.args.found.now.slot) c.args.table.now (active_half c.args.found.now.slot c.args.id h)
     (components_left c.args.components)
 
 -- the step, in the slot that was found
 step : (c : After-activate) (r : Result (Unit {0}) EndFault)
-    → AnswersInMemory (components_by (way_of c.in-Some.half.now.slot) c.args.table.now
+    → AnswersInMemory (components_by (direction_of c.in-Some.half.now.slot) c.args.table.now
     (active_half c.in-Some.half.now.slot c.args.id (half_of c.in-Some.half.now)) (components_left c.args.components))
     r (half_of c.activate.new.self)
     → AnswersInMemory (made c (half_of c.in-Some.half.now)) r (half_of c.activate.new.self)
 step c r =
-    subst (λ (slot : Slot). AnswersInMemory (components_by (way_of slot) c.args.table.now
+    subst (λ (slot : Slot). AnswersInMemory (components_by (direction_of slot) c.args.table.now
     (active_half slot c.args.id (half_of c.in-Some.half.now)) (components_left c.args.components)) r (half_of c.activate.new.self))
     (slot_of c.args.self.now c.args.found.now.slot c.args.found.now.key c.number-number.result c.in-Some.half.now
     c.requires.held (is_there c) (is_under c))
@@ -99,7 +99,7 @@ pub returns-in-Ok-clause-held : goal.returns-in-Ok-clause-held
 returns-in-Ok-clause-held c =
     held_gains c.args.self.now _ c.args.found.now.slot c.args.found.now.key c.args.id c.number-number.result c.in-Some.half.now
     c.activate.new.self c.requires.held (is_there (at_ok c)) (is_under (at_ok c)) c.activate.ensures.slot
-    (steps_follow (way_of c.args.found.now.slot) c.args.table.now (components_left c.args.components)
+    (steps_follow (direction_of c.args.found.now.slot) c.args.table.now (components_left c.args.components)
     (active_half c.args.found.now.slot c.args.id (half_of c.in-Some.half.now)) (half_of c.activate.new.self)
     (step (at_ok c) (Ok tt) c.in-Ok.ensures.step))
     (with_entry_on (at_ok c)) c.requires.unknown c.requires.unused

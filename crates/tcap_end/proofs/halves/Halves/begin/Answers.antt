@@ -33,22 +33,22 @@ pub add-requires-clause-new : goal.add-requires-clause-new
 add-requires-clause-new c =
     let s = c.args.self.now in let slot = c.args.slot in let id = c.args.otid.octets.now in
     let table = c.args.table.now in let components = components_left c.args.components in
-    let standing = c.first_standing-standing.result in
+    let dialogue_state = c.first_dialogue_state-dialogue_state.result in
     let none = told_none (named (end_of s) (name_in slot id)) c.with_id.result
     (sym c.is_some.ensures ∙ c.if-is_some.false) c.with_id.ensures.half in
-    let first : half_of c.new-half.result ≡ fresh_in slot id standing = rw c.to_transaction_id.ensures at c.new-half.ensures.half in
+    let first : half_of c.new-half.result ≡ fresh_in slot id dialogue_state = rw c.to_transaction_id.ensures at c.new-half.ensures.half in
     let made = ap (λ (h : Half). components_by c.way.result table h components) (sym first) ∙ c.in_ok-step_components.ensures.step in
     rw c.to_transaction_id-2.ensures
-    (new_by s slot id c.step_components.new.self standing c.requires.sound none
+    (new_by s slot id c.step_components.new.self dialogue_state c.requires.sound none
     (c.in_ok-step_components.ensures.slot ∙ c.new-half.ensures.slot)
-    (steps_follow c.way.result table components (fresh_in slot id standing) (half_of c.step_components.new.self) made))
+    (steps_follow c.way.result table components (fresh_in slot id dialogue_state) (half_of c.step_components.new.self) made))
 
 pub returns-in_err-step_components-clause-step : goal.returns-in_err-step_components-clause-step
 returns-in_err-step_components-clause-step c =
     let e = end_of c.args.self.now in let slot = c.args.slot in let id = c.args.otid.octets.now in
     let none = told_none (named e (name_in slot id)) c.with_id.result
     (sym c.is_some.ensures ∙ c.if-is_some.false) c.with_id.ensures.half in
-    let half = rw (c.to_transaction_id.ensures, c.first_standing-standing.ensures) at c.new-half.ensures.half in
+    let half = rw (c.to_transaction_id.ensures, c.first_dialogue_state-dialogue_state.ensures) at c.new-half.ensures.half in
     let p = err_from_is_err_and c.from_residual.result c.from_residual.ensures.1 in
     rw (p.1, p.2) (λ apart.
     begins c.args.table.now e id (option_map dialogue_of c.args.dialogue) (components_left c.args.components) slot none
@@ -61,7 +61,7 @@ returns-clause-step c =
     let e = end_of c.args.self.now in let slot = c.args.slot in let id = c.args.otid.octets.now in
     let none = told_none (named e (name_in slot id)) c.with_id.result
     (sym c.is_some.ensures ∙ c.if-is_some.false) c.with_id.ensures.half in
-    let half = rw (c.to_transaction_id.ensures, c.first_standing-standing.ensures) at c.new-half.ensures.half in
+    let half = rw (c.to_transaction_id.ensures, c.first_dialogue_state-dialogue_state.ensures) at c.new-half.ensures.half in
     let its = c.in_ok-step_components.ensures.slot ∙ c.new-half.ensures.slot in
     let added = rw (its, c.to_transaction_id-2.ensures) at c.in_ok-add.ensures.added in
     begins c.args.table.now e id (option_map dialogue_of c.args.dialogue) (components_left c.args.components) slot none

@@ -5,7 +5,7 @@ use Rattle.tcap_parts.specs.Meaning.{components_left}
 use Rattle.tcap_end.specs.Half.{Half}
 use Rattle.tcap_end.specs.HalfState.{half_of}
 use Rattle.tcap_end.specs.End.{with_peer}
-use Rattle.tcap_end.specs.Halves.{end_of, kept_half}
+use Rattle.tcap_end.specs.Halves.{end_of, keyed_half}
 use Rattle.tcap_end.proofs.ContinueLaws.{over_another, over_closed, over_first, over_next, over_other, over_unanswered, over_used, sent_begun, sent_peer}
 use Rattle.tcap_end.proofs.FoundLaws.{none_peer}
 use Rattle.tcap_end.proofs.OverLaws.{over_half, over_own, own_there, told_none, told_some}
@@ -46,7 +46,7 @@ activate_over-requires-clause-open c =
 
 pub activate_over-requires-clause-unknown : goal.activate_over-requires-clause-unknown
 activate_over-requires-clause-unknown c h has =
-    let f = kept_half c.in-Some.found.slot c.in-Some.found.key h in
+    let f = keyed_half c.in-Some.found.slot c.in-Some.found.key h in
     let e = end_of c.args.self.now in
     let sent = ap (λ (h : Half). h.phase) (sym (c.in-Some-half.ensures h has).0) ∙ c.in-Sent.is in
     rw (sent_begun e f c.requires.sound has sent) (sent_peer e f c.requires.sound has sent)

@@ -3,7 +3,7 @@ use Rattle.std.proofs.lemmas.Result.{err_from_is_err_and}
 use Rattle.std.specs.Option.{option_map}
 use Rattle.tcap_parts.specs.DialogueMeaning.{dialogue_of}
 use Rattle.tcap_parts.specs.Meaning.{components_left}
-use Rattle.tcap_end.specs.declared.half_components.Way.TheVariants.{Out}
+use Rattle.tcap_end.specs.declared.half_components.Direction.TheVariants.{Out}
 use Rattle.tcap_end.specs.End.{put}
 use Rattle.tcap_end.specs.Half.{Half, closed_half}
 use Rattle.tcap_end.specs.HalfState.{half_of}

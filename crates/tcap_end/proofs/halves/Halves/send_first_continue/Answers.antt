@@ -4,7 +4,7 @@ use Rattle.tcap_parts.specs.DialogueMeaning.{dialogue_of}
 use Rattle.tcap_parts.specs.Meaning.{components_left}
 use Rattle.tcap_end.specs.Half.{Half}
 use Rattle.tcap_end.specs.HalfState.{half_of}
-use Rattle.tcap_end.specs.Halves.{end_of, kept_half}
+use Rattle.tcap_end.specs.Halves.{end_of, keyed_half}
 use Rattle.tcap_end.specs.Message.{is_received}
 use Rattle.tcap_end.proofs.FoundLaws.{none_own}
 use Rattle.tcap_end.proofs.OverLaws.{over_half, over_peer, peer_there}
@@ -43,7 +43,7 @@ activate_over-requires-clause-open c =
 
 pub activate_over-requires-clause-unknown : goal.activate_over-requires-clause-unknown
 activate_over-requires-clause-unknown c h has =
-    let f = kept_half c.in-Some.found.slot c.in-Some.found.key h in
+    let f = keyed_half c.in-Some.found.slot c.in-Some.found.key h in
     let e = end_of c.args.self.now in
     let received = ap (λ (x : Half). is_received x.phase) (sym (c.in-Some-half.ensures h has).0)
     ∙ (sym c.is_received.ensures ∙ c.if-not-is_received.false) in

@@ -2,7 +2,7 @@ use Rattle.std.proofs.Common.{is_some, sym, ap, ◌∙◌}
 use Rattle.std.specs.Option.{option_copied}
 use Rattle.tcap_end.specs.End.{named}
 use Rattle.tcap_end.specs.HalfState.{kept_id}
-use Rattle.tcap_end.specs.Halves.{end_of, index_of, kept_half, name_in, other_slot}
+use Rattle.tcap_end.specs.Halves.{end_of, index_of, keyed_half, name_in, other_slot}
 use Rattle.tcap_end.proofs.FindLaws.{at_place, found_some, id_finds, id_parts, index_serves, is_its, led_found, led_on, nowhere}
 use Rattle.tcap_end.proofs.halves.Halves.with_id.Goals as goal
 
@@ -13,7 +13,7 @@ returns-in-Some-clause-half c =
     let told = rw c.to_transaction_id-key.ensures at c.in-Some.ensures in
     rw (told.0, told.1)
     (at_place (kept_id slot) s slot id (named (end_of s) (name_in slot id)) (id_finds slot (end_of s) id sound)
-    (λ h had. is_its slot id h (sound.kept (kept_half slot id h) had)) (found_some s slot id c.in-Some.found told))
+    (λ h had. is_its slot id h (sound.kept (keyed_half slot id h) had)) (found_some s slot id c.in-Some.found told))
 
 pub returns-in_err-get-in-None-clause-half : goal.returns-in_err-get-in-None-clause-half
 returns-in_err-get-in-None-clause-half c =

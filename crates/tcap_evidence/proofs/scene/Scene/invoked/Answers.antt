@@ -9,6 +9,6 @@ returns c = λ s are.
     ∙ ap in_order
     (ap numbered_of c.deref-2.ensures.value
     ∙ c.in_ok-push_where.ensures
-    ∙ ap₂ (λ a b. a ++ b) c.in_ok-invoked.ensures (filter_all _ ∙ ap numbered_of c.deref.ensures.value ∙ are.told)
+    ∙ ap₂ (λ a b. a ++ b) c.in_ok-invoked.ensures (filter_all _ ∙ ap numbered_of c.deref.ensures.value ∙ are.outgoing)
     ∙ c.sent_begin.ensures s are))
     c.in_order.ensures

@@ -11,5 +11,5 @@ returns-then-links_so_again c =
     (names_so c.args.table.now (tallies_of (map (λ b. b.now) c.args.invoked.now)) c.args.problem))
     (λ t. (tally_of t).has_link c.args.id
     (names_so c.args.table.now (tallies_of (map (λ b. b.now) c.args.invoked.now)) c.args.problem))
-    c.loop-tally.tally-index c.args.heard.now c.tally-item.result (λ t more. refl) c.loop-tally-test.true
+    c.loop-tally.tally-index c.args.incoming.now c.tally-item.result (λ t more. refl) c.loop-tally-test.true
     c.tally-item.is (rw (to_z-of_z c.ranges.id) at (c.links_so_again.ensures c.if-links_so_again.true))

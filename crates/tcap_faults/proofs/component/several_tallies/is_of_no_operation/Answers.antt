@@ -11,6 +11,6 @@ returns-then-answers_none c =
     (is_of_none (tallies_of (map (λ b. b.now) c.args.invoked.now)) c.args.id))
     (λ t. (tally_of t).has_result c.args.id
     (is_of_none (tallies_of (map (λ b. b.now) c.args.invoked.now)) c.args.id))
-    c.loop-tally.tally-index c.args.heard.now c.tally-item.result (λ t more. refl) c.loop-tally-test.true
+    c.loop-tally.tally-index c.args.incoming.now c.tally-item.result (λ t more. refl) c.loop-tally-test.true
     c.tally-item.is (rw (to_z-of_z c.ranges.id) at (sym c.answers_none.ensures ∙ c.if-answers_none.true))
     (rw (to_z-of_z c.ranges.id) at c.loop-tally.invariant)

@@ -3,7 +3,7 @@ use Rattle.std.specs.Prelude.{option_copied}
 use Rattle.std.specs.BTreeSet as set
 use Rattle.std.specs.List.{list_any}
 use Rattle.tcap_end.specs.Table.{octets_cmp}
-use Rattle.tcap_model.specs.Run.{then_so}
+use Rattle.tcap_model.specs.Run.{option_then}
 use Rattle.tcap_faults.specs.IdList.{AreAmong, ids_kept}
 use Rattle.tcap_faults.specs.JoinedIds.{HasMore}
 use Rattle.tcap_faults.proofs.transaction_laws.JoinedIdsLaws.{any_all, has_at_first, has_next, has_none, none_at_all}
@@ -12,14 +12,14 @@ use Rattle.tcap_faults.proofs.transaction.history_update.insert_all.Goals as goa
 
 pub loop-id-init : goal.loop-id-init
 loop-id-init c =
-    has_at_first (then_so (option_copied c.args.ids) (λ kept. kept.first)) c.in-Some-first.first
+    has_at_first (option_then (option_copied c.args.ids) (λ kept. kept.first)) c.in-Some-first.first
     (rw c.in-Some.is c.in-Some-first.is) c.deref-id-items.result.now c.args.set.now c.insert.new.self
     (set_more c.in-Some-first.first c.args.set.now c.insert.new.self
     (rw (c.to_transaction_id.ensures, c.view.ensures) at c.in_ok-insert.ensures.updates.0))
 
 pub loop-id-preserved : goal.loop-id-preserved
 loop-id-preserved c =
-    has_next (then_so (option_copied c.args.ids) (λ kept. kept.first)) c.in-Some-first.first
+    has_next (option_then (option_copied c.args.ids) (λ kept. kept.first)) c.in-Some-first.first
     (rw c.in-Some.is c.in-Some-first.is) c.deref-id-items.result.now c.args.set.now c.loop-id.id-index c.id-item.result
     c.loop-id-test.true c.id-item.is c.loop-id.set _ c.loop-id.invariant
     (set_more c.id-item.result c.loop-id.set _

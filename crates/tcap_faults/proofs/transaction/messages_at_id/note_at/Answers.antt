@@ -5,7 +5,7 @@ use Rattle.tcap_faults.proofs.transaction.messages_at_id.note_at.Goals as goal
 
 pub returns-in-Some-get_mut : goal.returns-in-Some-get_mut
 returns-in-Some-get_mut g c = λ id_in lists it are.
-    let of = g.N.OfMessages.of c.args.table.now in
+    let of = g.N.MessageSummary.of c.args.table.now in
     let m = g.M.MessageParts.meaning c.args.message.now in
     let id = c.in-Some.id.octets.now in
     let named : id_in m ≡ Some id = rw c.in-Some.is at (sym it) in
@@ -18,7 +18,7 @@ returns-in-Some-get_mut g c = λ id_in lists it are.
 
 pub returns : goal.returns
 returns g c = λ id_in lists it are.
-    let of = g.N.OfMessages.of c.args.table.now in
+    let of = g.N.MessageSummary.of c.args.table.now in
     let m = g.M.MessageParts.meaning c.args.message.now in
     let id = c.in-Some.id.octets.now in
     let named : id_in m ≡ Some id = rw c.in-Some.is at (sym it) in

@@ -1,6 +1,6 @@
 use Rattle.std.proofs.Common.{refl, sym, ◌∙◌}
 use Rattle.tcap_model.specs.Entries.{item_of}
-use Rattle.tcap_faults.specs.RelevantItems.{those_for_entry}
+use Rattle.tcap_faults.specs.RelevantItems.{items_for_entry}
 use Rattle.tcap_faults.specs.Replay.{items_up_to}
 use Rattle.tcap_faults.proofs.verdict_laws.RelevantItemsLaws.{matters_alone}
 use Rattle.tcap_faults.proofs.verdict_laws.RelevantEntriesLaws.{noted_roomy}
@@ -21,7 +21,7 @@ returns c =
     let entry = c.in-Some.entry.now in
     let number = c.args.at.entry in
     let items = items_up_to entries number in
-    let those = those_for_entry side (item_of entry) items in
+    let those = items_for_entry side (item_of entry) items in
     let known = c.in_ok-kept.ensures in
     c.in_ok-subject_of_entry.ensures those known.are
     (noted_roomy table those number c.in_ok-kept.kept known (c.in-Some.ensures.small refl)

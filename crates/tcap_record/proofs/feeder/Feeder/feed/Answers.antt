@@ -1,6 +1,6 @@
 use Rattle.std.proofs.Common.{◌≡◌, ℕ, ◌-◌, List, [], ◌++◌, length, take, drop, sym, ap, subst, ◌∙◌, arith, append-nil}
 use Rattle.std.proofs.lemmas.List.{take_at}
-use Rattle.tcap_record.specs.PartialRecord.{Fed}
+use Rattle.tcap_record.specs.PartialRecord.{IsFramedSoFar}
 use Rattle.tcap_record.proofs.FeederLaws.{rest_is, fed_behind, cut_back}
 use Rattle.tcap_record.proofs.feeder.Feeder.feed.Goals as goal
 
@@ -10,9 +10,9 @@ returns-in-Ok-Some-clause-fed c =
     let piece = c.args.piece.now in
     let there = rw c.in-Ok-Some.field-0-is at c.in-Ok-Some.ensures.fed in
     rw (← c.self.view_is, c.in-Ok-Some.field-0-is) (λ octets taken fed.
-    let grown : Fed (octets ++ take n piece) (taken ++ c.self.inside.waiting.items) c.feed_some.new.self =
+    let grown : IsFramedSoFar (octets ++ take n piece) (taken ++ c.self.inside.waiting.items) c.feed_some.new.self =
     c.in_ok-taken.ensures.fed octets (taken ++ c.self.inside.waiting.items) fed in
-    fed_behind (λ (x : List ℕ). Fed x (taken ++ c.keep_rest.new.waiting.items) c.in-Ok-Some.frames) octets piece
+    fed_behind (λ (x : List ℕ). IsFramedSoFar x (taken ++ c.keep_rest.new.waiting.items) c.in-Ok-Some.frames) octets piece
     (take (length piece - n) (drop n piece)) n c.in-Ok-Some.kept (rest_is piece n) c.in_ok-taken.ensures.most
     (there (octets ++ take n piece) taken grown))
 
@@ -39,4 +39,4 @@ returns-in-Err-clause-fed c =
     ∙ cut_back inside.frames c.feed_some.new.self (take c.in_ok-taken.taken c.args.piece.now) c.buffered-held.result
     c.in_ok-taken.ensures.taken.0 c.buffered-held.ensures.count c.in_ok-taken.ensures.taken.1 in
     rw (← c.self.view_is, waits, back) (λ octets taken fed.
-    (0, omega arith, subst (λ (x : List ℕ). Fed x (taken ++ waiting) inside.frames) (sym (append-nil octets)) fed))
+    (0, omega arith, subst (λ (x : List ℕ). IsFramedSoFar x (taken ++ waiting) inside.frames) (sym (append-nil octets)) fed))

@@ -1,5 +1,5 @@
 use Rattle.std.proofs.Common.{◌≡◌, length, arith}
-use Rattle.tcap_record.specs.PartialRecord.{Held}
+use Rattle.tcap_record.specs.PartialRecord.{FramerState}
 use Rattle.tcap_record.proofs.FrontLaws.{part_not_whole}
 use Rattle.tcap_record.proofs.FedLaws.{fed_emptied}
 use Rattle.tcap_record.proofs.frames.Frames.drop_front.Goals as goal
@@ -16,5 +16,5 @@ pub returns-clause-fed : goal.returns-clause-fed
 returns-clause-fed c =
     let inside = c.self.inside in
     let len : c.len.result ≡ length inside.octets.items = omega (arith, c.len.ensures, inside.octets.ok.0) in
-    let h : Held = record { octets = inside.octets.items; place = inside.place; count = inside.count; fault = inside.fault } in
+    let h : FramerState = record { octets = inside.octets.items; place = inside.place; count = inside.count; fault = inside.fault } in
     rw (← c.self.view_is) (λ octets entries entry. fed_emptied octets entries h entry c.clear.new.self.items c.len.result c.clear.ensures.items len)

@@ -1,7 +1,7 @@
 use Rattle.std.proofs.Common.{◌≡◌, List, ℕ, length, None, ap, ◌∙◌, inr, arith}
 use Rattle.std.proofs.lemmas.Result.{err_from_is_err_and}
 use Rattle.tcap_ber.proofs.EachLoopLaws.{not_empty}
-use Rattle.tcap_record.specs.PartialRecord.{Held}
+use Rattle.tcap_record.specs.PartialRecord.{FramerState}
 use Rattle.tcap_record.proofs.FrontLaws.{part_not_whole}
 use Rattle.tcap_record.proofs.FedLaws.{fed_taken}
 use Rattle.tcap_record.proofs.HeldLaws.{none_there}
@@ -17,7 +17,7 @@ returns-in_err-front-clause-fails c =
     rw (← c.self.view_is) (λ f e. inr (inr (
       sound,
       (let same : f ≡ p.0 = cc in same ∙ p.2),
-      ap (λ (x : List ℕ). let h : Held = record { octets = x; place = inside.place; count = inside.count; fault = inside.fault } in h) c.in_err-front.ensures.kept,
+      ap (λ (x : List ℕ). let h : FramerState = record { octets = x; place = inside.place; count = inside.count; fault = inside.fault } in h) c.in_err-front.ensures.kept,
       (λ none. absurd (omega (arith, some, ap length none))),
       (λ whole. part_not_whole inside.octets.items is_part whole),
     )))
@@ -26,7 +26,7 @@ pub returns-in-Refused-clause-fed : goal.returns-in-Refused-clause-fed
 returns-in-Refused-clause-fed c =
     let inside = c.self.inside in
     let there = c.in_ok-front.ensures.taken in
-    let h : Held = record { octets = inside.octets.items; place = inside.place; count = inside.count; fault = inside.fault } in
+    let h : FramerState = record { octets = inside.octets.items; place = inside.place; count = inside.count; fault = inside.fault } in
     rw (← c.self.view_is) (λ octets entries fed. (c.in_ok-front.taken, there.most, fed_taken octets entries h c.args.piece.now c.extend.new.part.items c.in_ok-front.taken _ there.grown fed))
 
 pub returns-in-Whole-clause-none : goal.returns-in-Whole-clause-none
@@ -39,11 +39,11 @@ returns-in-Whole-clause-none c =
 pub returns-in-Whole-clause-fed : goal.returns-in-Whole-clause-fed
 returns-in-Whole-clause-fed c =
     let inside = c.self.inside in
-    let h : Held = record { octets = inside.octets.items; place = inside.place; count = inside.count; fault = inside.fault } in
+    let h : FramerState = record { octets = inside.octets.items; place = inside.place; count = inside.count; fault = inside.fault } in
     rw (← c.self.view_is) (λ octets entries fed. fed_taken octets entries h c.args.piece.now c.extend.new.part.items c.in_ok-front.taken _ c.in_ok-front.ensures.taken.grown fed)
 
 pub returns-in-Part-clause-fed : goal.returns-in-Part-clause-fed
 returns-in-Part-clause-fed c =
     let inside = c.self.inside in
-    let h : Held = record { octets = inside.octets.items; place = inside.place; count = inside.count; fault = inside.fault } in
+    let h : FramerState = record { octets = inside.octets.items; place = inside.place; count = inside.count; fault = inside.fault } in
     rw (← c.self.view_is) (λ octets entries fed. fed_taken octets entries h c.args.piece.now c.extend.new.part.items c.in_ok-front.taken _ c.in_ok-front.ensures.taken.grown fed)

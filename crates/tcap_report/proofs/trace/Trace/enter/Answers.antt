@@ -7,11 +7,11 @@ use Rattle.tcap_report.proofs.TraceLaws.{comes}
 use Rattle.tcap_report.proofs.trace.Trace.enter.Goals as goal
 
 pub returns-clause-within : goal.returns-clause-within
-returns-clause-within g c = λ asked within.
+returns-clause-within g c = λ options within.
     let rest = c.note.ensures.rest in
     let taken =
-    c.in_ok-begins.ensures.takes asked.reuse within.stretch.headings
-    (subst (IsCut asked.reuse within.stretch.headings) (sym (ap (λ t. t.cut) rest)) within.cut) in
+    c.in_ok-begins.ensures.takes options.reuse within.segment.headings
+    (subst (IsCut options.reuse within.segment.headings) (sym (ap (λ t. t.cut) rest)) within.cut) in
     let (given, is, are) = taken.1 in
     let one = record c.note.new.self {
       cut = c.take.new.self;
@@ -21,7 +21,7 @@ returns-clause-within g c = λ asked within.
     } in
     on_ok_weaker c.judge_all.result
     (λ judges.
-    comes asked c.args.self.now one c.judge_all.new.self (heading_read c.heading_of-heading.result) given within
-    (ap (λ t. t.asked) rest) (ap (λ t. t.dialogues) rest) c.note.ensures.messages c.note.ensures.readable taken.0 are
+    comes options c.args.self.now one c.judge_all.new.self (heading_read c.heading_of-heading.result) given within
+    (ap (λ t. t.options) rest) (ap (λ t. t.dialogues) rest) c.note.ensures.messages c.note.ensures.readable taken.0 are
     (subst (λ l. Judges false l one c.judge_all.new.self) (is ∙ ap (λ l. l ++ given) c.new-done.ensures.items) judges))
     c.judge_all.ensures.judges

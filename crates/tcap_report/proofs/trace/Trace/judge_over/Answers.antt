@@ -4,8 +4,8 @@ use Rattle.tcap_report.proofs.TraceLaws.{stops}
 use Rattle.tcap_report.proofs.trace.Trace.judge_over.Goals as goal
 
 pub returns-clause-stopped : goal.returns-clause-stopped
-returns-clause-stopped g c = λ asked within.
+returns-clause-stopped g c = λ options within.
     on_ok_weaker c.judge_all.result
-    (stops asked c.args.self.now c.finished.new.self c.judge_all.new.self c.in_ok-given.given.items within
-    c.in_ok-given.ensures.rest (c.in_ok-given.ensures.live asked.reuse within.stretch.headings within.cut))
+    (stops options c.args.self.now c.finished.new.self c.judge_all.new.self c.in_ok-given.given.items within
+    c.in_ok-given.ensures.rest (c.in_ok-given.ensures.live options.reuse within.segment.headings within.cut))
     c.judge_all.ensures.judges

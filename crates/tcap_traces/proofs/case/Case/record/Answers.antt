@@ -16,11 +16,11 @@ returns-clause-are c =
     c.in_ok-entries.ensures ∙ ap (λ l. map entry_of (take c.min.result l)) all ∙ ap (λ n. map entry_of (take n es)) few
     ∙ ap (map entry_of) (take_min most es) in
     elim c.if-has_judged_mark.branch [
-      then-has_judged_mark+in_ok-push w ↦
+      | then-has_judged_mark+in_ok-push w ↦
           let more : c.if-has_judged_mark.entries.items ≡ c.in_ok-entries.entries.items ++ quiet_mark ∷ [] = search rules in
           let marked : (is_marked d.after && nat_lt (length es) most) ≡ true = sym c.has_judged_mark.ensures ∙ w.if-has_judged_mark.true in
           more ∙ ap (λ l. l ++ quiet_mark ∷ []) made ∙ sym (ap (λ b. first ++ cond b (quiet_mark ∷ []) []) marked)
-    | else-has_judged_mark w ↦
+      | else-has_judged_mark w ↦
           let same : c.if-has_judged_mark.entries.items ≡ c.in_ok-entries.entries.items = search rules in
           let none : (is_marked d.after && nat_lt (length es) most) ≡ false = sym c.has_judged_mark.ensures ∙ w.if-has_judged_mark.false in
           same ∙ made ∙ sym (append-nil first) ∙ sym (ap (λ b. first ++ cond b (quiet_mark ∷ []) []) none)

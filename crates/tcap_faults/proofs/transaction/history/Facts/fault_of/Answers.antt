@@ -3,7 +3,7 @@ use Rattle.tcap_refute.specs.EarlierMessages.{since_quiet}
 use Rattle.tcap_faults.specs.TangledIds.{goes_over_tangled}
 use Rattle.tcap_faults.specs.UsedAgain.{has_used_again, uses_again}
 use Rattle.tcap_faults.proofs.component_laws.FewComponentsLaws.{still_roomy}
-use Rattle.tcap_faults.proofs.verdict_laws.NextEntryLaws.{first_fault, first_so, further_fault, no_fault, none_so, second_so, third_so, over}
+use Rattle.tcap_faults.proofs.verdict_laws.NextEntryLaws.{first_fault, first_where, further_fault, no_fault, none_so, second_so, third_so, over}
 use Rattle.tcap_faults.proofs.transaction.history.Facts.fault_of.Goals.{then-ends-via-then-ends, then-ends-via-else-ends+then-effects, then-ends-via-else-ends+else-effects+then-is_some}
 use Rattle.tcap_faults.proofs.transaction.history.Facts.fault_of.Goals as goal
 
@@ -16,7 +16,7 @@ returns-then-ends g c = λ items are roomy found effects.
     let (own, peer) = c.ends-ends.ensures table items are in
     let so : (has_used_again table side xs || uses_again table side xs m || goes_over_tangled side xs m) ≡ true =
     elim c.then-ends.branch [
-      | then-ends-via-then-ends w ↦ first_so (has_used_again table side xs) (uses_again table side xs m) _ (sym own.again ∙ w.if-ends.true)
+      | then-ends-via-then-ends w ↦ first_where (has_used_again table side xs) (uses_again table side xs m) _ (sym own.again ∙ w.if-ends.true)
       | then-ends-via-else-ends+then-effects w ↦
           second_so (has_used_again table side xs) (uses_again table side xs m) _ (sym effects.again ∙ w.if-effects.true)
       | then-ends-via-else-ends+else-effects+then-is_some w ↦

@@ -1,5 +1,5 @@
 use Rattle.std.proofs.Common.{ap, sym}
-use Rattle.tcap_faults.specs.RelevantItems.{those_for}
+use Rattle.tcap_faults.specs.RelevantItems.{items_for_half}
 use Rattle.tcap_faults.specs.Replay.{items_up_to}
 use Rattle.tcap_faults.proofs.verdict_laws.RelevantEntriesLaws.{none_for_bad, none_from_no_end, noted_nothing}
 use Rattle.tcap_faults.proofs.transaction.history.Facts.for_entry.Goals as goal
@@ -20,5 +20,5 @@ returns-in-None c =
     let items = items_up_to c.args.record.now.entries.items c.args.number in
     noted_nothing c.args.table.now _ c.args.number c.new-in-None.result
     (rw (c.in-Some-Good.is-0, c.in-Some-Good.is-1)
-    (ap (λ o. those_for c.args.side o items) (sym (rw c.view-view.ensures at c.in-None.ensures))))
+    (ap (λ o. items_for_half c.args.side o items) (sym (rw c.view-view.ensures at c.in-None.ensures))))
     (c.new-in-None.ensures c.args.table.now)

@@ -1,5 +1,5 @@
 use Rattle.std.proofs.Common.{filter, sym, ◌∙◌}
-use Rattle.tcap_faults.specs.RelevantItems.{matters}
+use Rattle.tcap_faults.specs.RelevantItems.{matters_for_half}
 use Rattle.tcap_faults.specs.Replay.{items_up_to}
 use Rattle.tcap_faults.proofs.verdict_laws.RelevantEntriesLaws.{noted_more, on_ok_then, passed_over}
 use Rattle.tcap_faults.proofs.transaction.history.Facts.note_for.Goals as goal
@@ -11,7 +11,7 @@ returns-then-not-entry_matters c = λ entries number so_far there.
 
 pub returns : goal.returns
 returns c = λ entries number so_far there.
-    let before = filter (matters c.args.side c.args.id.octets.now) (items_up_to entries number) in
+    let before = filter (matters_for_half c.args.side c.args.id.octets.now) (items_up_to entries number) in
     on_ok_then c.note_entry.result
     (noted_more c.args.table.now c.args.side c.args.id.octets.now entries number c.args.self.now so_far c.args.entry.now there
     c.entry_count-count.result c.entry_count-count.ensures.count c.entry_count-count.ensures.small

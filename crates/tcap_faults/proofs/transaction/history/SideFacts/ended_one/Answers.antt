@@ -2,7 +2,7 @@ use Rattle.std.proofs.Common.{refl, sym, ap, ◌∙◌}
 use Rattle.std.specs.List.{list_any}
 use Rattle.tcap_faults.specs.SentToId.{has_ended}
 use Rattle.tcap_faults.proofs.transaction_laws.JoinedIdsLaws.{none_at_all}
-use Rattle.tcap_faults.proofs.dialogue_laws.OpenHalvesLaws.{any_first, any_last, any_next, first_so, others_so}
+use Rattle.tcap_faults.proofs.dialogue_laws.OpenHalvesLaws.{any_first, any_last, any_next, first_where, others_so}
 use Rattle.tcap_faults.proofs.transaction.history.SideFacts.ended_one.Goals as goal
 
 pub returns-in_default : goal.returns-in_default
@@ -11,7 +11,7 @@ returns-in_default c = λ table side items those was are.
 
 pub returns-then-has_ended : goal.returns-then-has_ended
 returns-then-has_ended c = λ table side items those was are.
-    first_so (has_ended side items) those c.args.ids.now are c.in-Some.first c.in-Some.is
+    first_where (has_ended side items) those c.args.ids.now are c.in-Some.first c.in-Some.is
     (sym (c.has_ended.ensures table side items was) ∙ c.if-has_ended.true)
 
 pub loop-id-init : goal.loop-id-init

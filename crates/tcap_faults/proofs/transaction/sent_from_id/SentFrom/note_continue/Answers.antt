@@ -2,7 +2,7 @@ use Rattle.std.proofs.Common.{◌≡◌, rules, sym}
 use Rattle.std.specs.Prelude.{filter}
 use Rattle.std.proofs.lemmas.Result.{on_ok_weaker}
 use Rattle.tcap_msg.specs.Parts.{dtid_in}
-use Rattle.tcap_faults.specs.SentToId.{goes_on_to}
+use Rattle.tcap_faults.specs.SentToId.{is_continue_to}
 use Rattle.tcap_faults.specs.History.{dtids_of}
 use Rattle.tcap_faults.specs.InvokeCounts.{sum}
 use Rattle.tcap_faults.proofs.transaction_laws.SentFromLaws.{IsContinued, continued_nowhere, continued_to, from_continue}
@@ -23,4 +23,4 @@ returns-clause-from g c = λ ms it was.
     ] in
     on_ok_weaker c.note_at.result
     (from_continue table ms m old was it c.match-dtid.self c.note_at.new.map noted)
-    (c.note_at.ensures dtid_in (λ own. filter (goes_on_to own) ms) c.dtid-2.ensures (rw noted.came was.came))
+    (c.note_at.ensures dtid_in (λ own. filter (is_continue_to own) ms) c.dtid-2.ensures (rw noted.came was.came))

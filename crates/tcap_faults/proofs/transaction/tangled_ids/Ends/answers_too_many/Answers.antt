@@ -3,8 +3,8 @@ use Rattle.std.specs.Prelude.{nat_le}
 use Rattle.tcap_msg.specs.declared.kind.Kind.TheVariants as forms
 use Rattle.tcap_msg.specs.Parts.{cause_in}
 use Rattle.tcap_record.specs.Ends.{other}
-use Rattle.tcap_refute.specs.EarlierMessages.{asked, is_a, sent_by}
-use Rattle.tcap_faults.specs.SentToId.{is_abort_with, is_cause, told}
+use Rattle.tcap_refute.specs.EarlierMessages.{peer_sent_from, is_a, sent_by}
+use Rattle.tcap_faults.specs.SentToId.{is_abort_with, is_cause, outgoing}
 use Rattle.tcap_faults.specs.Counts.{count, is_nothing}
 use Rattle.tcap_faults.specs.Fault.{count_received}
 use Rattle.tcap_faults.specs.HalfByPeerId.{half_of}
@@ -16,7 +16,7 @@ use Rattle.tcap_faults.proofs.transaction.tangled_ids.Ends.answers_too_many.Goal
 pub returns : goal.returns
 returns c = λ table side items own_is peer_is few.
     let id = c.args.id.now in
-    let continues : c.match-get.continues ≡ count (is_a forms.Continue) (asked side id items) =
+    let continues : c.match-get.continues ≡ count (is_a forms.Continue) (peer_sent_from side id items) =
     elim c.match-get.branch [
       | in-Some w ↦
           w.continues-is
@@ -29,19 +29,19 @@ returns c = λ table side items own_is peer_is few.
     elim c.match-get-2.branch [
       | in-Some-get w ↦
           ap (λ x. x.0) w.unknown-is
-          ∙ (to_there own_is id w.in-Some-get.told.now w.in-Some-get.ensures.value).unknown (few_to side items id few)
+          ∙ (to_there own_is id w.in-Some-get.outgoing.now w.in-Some-get.ensures.value).unknown (few_to side items id few)
           ∙ unknown_is side items id
       | in-None-get w ↦
           ap (λ x. x.0) w.unknown-is
           ∙ ap (count (λ m. is_cause 1 (cause_in m))) (sym (to_nowhere own_is id w.in-None-get.ensures.value))
           ∙ unknown_is side items id
     ] in
-    let spoke : c.match-get-2.unknown.1 ≡ not (is_nothing (told side id items)) =
+    let spoke : c.match-get-2.unknown.1 ≡ not (is_nothing (outgoing side id items)) =
     elim c.match-get-2.branch [
       | in-Some-get w ↦
           ap (λ x. x.1) w.unknown-is
-          ∙ spoken_there table side items id w.in-Some-get.told.now
-          (to_there own_is id w.in-Some-get.told.now w.in-Some-get.ensures.value)
+          ∙ spoken_there table side items id w.in-Some-get.outgoing.now
+          (to_there own_is id w.in-Some-get.outgoing.now w.in-Some-get.ensures.value)
       | in-None-get w ↦
           ap (λ x. x.1) w.unknown-is
           ∙ spoken_nowhere table side items id (to_nowhere own_is id w.in-None-get.ensures.value)

@@ -3,7 +3,7 @@ use Rattle.std.specs.List.{list_any}
 use Rattle.tcap_faults.specs.ClosedHalves.{is_surely_open}
 use Rattle.tcap_faults.specs.IdList.{ids_kept}
 use Rattle.tcap_faults.proofs.transaction_laws.JoinedIdsLaws.{any_kept}
-use Rattle.tcap_faults.proofs.dialogue_laws.OpenHalvesLaws.{any_first, any_last, any_next, first_so, others_so}
+use Rattle.tcap_faults.proofs.dialogue_laws.OpenHalvesLaws.{any_first, any_last, any_next, first_where, others_so}
 use Rattle.tcap_faults.proofs.transaction.tangled_ids.Ends.goes_to_shut.Goals as goal
 
 pub returns-in_default : goal.returns-in_default
@@ -15,7 +15,7 @@ returns-in_default c = λ side items those own_is peer_is are.
 pub returns-then-not-is_surely_open : goal.returns-then-not-is_surely_open
 returns-then-not-is_surely_open c = λ side items those own_is peer_is are.
     let shut : List ℕ → Bool = λ own. not (is_surely_open c.args.table.now side items own) in
-    first_so shut those c.args.ids.now are c.in-Some.first c.in-Some.is
+    first_where shut those c.args.ids.now are c.in-Some.first c.in-Some.is
     (ap not (sym (c.is_surely_open.ensures side items own_is peer_is) ∙ c.if-not-is_surely_open.true))
 
 pub loop-id-init : goal.loop-id-init

@@ -2,7 +2,7 @@ use Rattle.std.proofs.Common.{◌∙◌}
 use Rattle.std.proofs.lemmas.Result.{IfOk-at_ok}
 use Rattle.tcap_msg.specs.Parts.{components_in}
 use Rattle.tcap_faults.specs.HalfByPeerId.{half_of}
-use Rattle.tcap_faults.proofs.component_laws.FewComponentsLaws.{heard_are_few, invoked_are_few, told_are_few}
+use Rattle.tcap_faults.proofs.component_laws.FewComponentsLaws.{incoming_are_few, invoked_are_few, outgoing_are_few}
 use Rattle.tcap_faults.proofs.verdict_laws.LowestKindLaws.{kind_last, kind_of_dialogue, kinds_found}
 use Rattle.tcap_faults.proofs.transaction.tangled_ids.Ends.half_kind.Goals as goal
 
@@ -26,5 +26,5 @@ returns g c = λ side items own is plain roomy.
     (c.kind_of_faults.ensures
     ∙ kinds_found c.args.table.now (half_of side items id) (components_in m) c.in_ok-faults.faults
     (IfOk-at_ok _ c.in_ok-faults.was
-    (c.faults_of.ensures _ half (heard_are_few side id items m roomy) (invoked_are_few side id items m roomy)
-    (told_are_few side id items m roomy))))
+    (c.faults_of.ensures _ half (incoming_are_few side id items m roomy) (invoked_are_few side id items m roomy)
+    (outgoing_are_few side id items m roomy))))

@@ -19,7 +19,7 @@ pub returns-in-Some : goal.returns-in-Some
 returns-in-Some c = λ table side items own_is peer_is.
     let id = c.args.id.now in
     let some = sym c.if-not-began.false ∙ c.began.ensures table (other side) items peer_is ∙ began_asked side items id in
-    ap not (to_there own_is id c.in-Some.told.now c.in-Some.ensures.value).refused
+    ap not (to_there own_is id c.in-Some.outgoing.now c.in-Some.ensures.value).refused
     ∙ ap (λ b. b && not (list_any (λ m. is_cause 4 (cause_in m)) (sent_to side items id))) some
     ∙ accepted_is side items id
 

@@ -1,5 +1,5 @@
 use Rattle.std.proofs.Common.{◌≡◌, Bool, true, false, [], ◌∷◌, Some, is_some, not, sym, ap, ◌∙◌, arith}
-use Rattle.tcap_faults.proofs.transaction_laws.FirstTangled.{id_told}
+use Rattle.tcap_faults.proofs.transaction_laws.FirstTangled.{id_outgoing}
 use Rattle.tcap_faults.proofs.dialogue_laws.OpenHalvesLaws.{left_at, left_differing, left_shut, open_nowhere}
 use Rattle.tcap_faults.proofs.transaction.tangled_ids.Ends.is_left_open.Goals as goal
 use Rattle.tcap_faults.proofs.transaction.tangled_ids.Ends.is_left_open.Goals.{then-differ-via-then-differ, then-differ-via-else-differ+then-not-is_open}
@@ -28,7 +28,7 @@ returns-in-Some c = λ items own_is peer_is from.
     turned _ _ c.is_none.ensures
     ∙ ap not (ap is_some (c.tangled_id-tangled.ensures table items c.in-Some.to (Some own) own_is peer_is
     (c.there.ensures table side items own_is peer_is) (c.own_at.ensures table side items own_is peer_is))
-    ∙ id_told side items (own ∷ []) c.in-Some.to)
+    ∙ id_outgoing side items (own ∷ []) c.in-Some.to)
     ∙ left_at table side items own c.in-Some.to (sym c.in-Some.is ∙ from.to.first)
     (sym (c.differ.ensures _ from.to) ∙ c.if-differ.false)
     (sym (c.is_open.ensures side items own_is peer_is from) ∙ c.if-not-is_open.false)

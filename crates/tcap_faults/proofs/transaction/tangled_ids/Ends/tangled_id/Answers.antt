@@ -15,7 +15,7 @@ use Rattle.tcap_faults.proofs.transaction.tangled_ids.Ends.tangled_id.Goals as g
 of_peer : (side of : Side) (items : List Item) (id : List ℕ) (o : Option TangledId)
     → o ≡ tangled_for of id (tangle_of_peer side items id) → of ≡ other side
     → o ≡ tangled_for (other side) id (tangle_of_peer side items id)
-of_peer side of items id o told same = told ∙ ap (λ s. tangled_for s id (tangle_of_peer side items id)) same
+of_peer side of items id o outgoing same = outgoing ∙ ap (λ s. tangled_for s id (tangle_of_peer side items id)) same
 
 pub returns-in-Some : goal.returns-in-Some
 returns-in-Some c = λ table items id near was their there is.

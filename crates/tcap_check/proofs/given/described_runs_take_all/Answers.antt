@@ -1,5 +1,0 @@
-use Rattle.tcap_check.proofs.given_run_laws.GivenRuns.{nothing_left}
-use Rattle.tcap_check.proofs.given.described_runs_take_all.Goals as goal
-
-pub returns : goal.returns
-returns c = nothing_left

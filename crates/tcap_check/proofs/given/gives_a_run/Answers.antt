@@ -1,5 +1,0 @@
-use Rattle.tcap_check.proofs.given_run_laws.GivenRuns.{gives}
-use Rattle.tcap_check.proofs.given.gives_a_run.Goals as goal
-
-pub returns : goal.returns
-returns c = gives

@@ -1,5 +1,0 @@
-use Rattle.tcap_check.proofs.given_run_laws.StepsAreOne.{one_list}
-use Rattle.tcap_check.proofs.given.one_list_of_steps.Goals as goal
-
-pub returns : goal.returns
-returns c = one_list

@@ -1,5 +1,0 @@
-use Rattle.tcap_check.proofs.refusal_laws.ReasonLaws.{refusal_says}
-use Rattle.tcap_check.proofs.given.refusals_have_reasons.Goals as goal
-
-pub returns : goal.returns
-returns c = refusal_says

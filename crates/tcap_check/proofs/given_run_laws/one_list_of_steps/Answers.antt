@@ -1,0 +1,5 @@
+use Rattle.tcap_check.proofs.given_run_laws.StepsAreOne.{one_list}
+use Rattle.tcap_check.proofs.given_run_laws.one_list_of_steps.Goals as goal
+
+pub returns : goal.returns
+returns c = one_list

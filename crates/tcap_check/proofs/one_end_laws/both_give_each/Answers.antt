@@ -1,0 +1,5 @@
+use Rattle.tcap_check.proofs.one_end_laws.AloneBoth.{both_give}
+use Rattle.tcap_check.proofs.one_end_laws.both_give_each.Goals as goal
+
+pub returns : goal.returns
+returns c = both_give

@@ -1,0 +1,19 @@
+use Rattle.std.proofs.Common.{◌≡◌, ◌∙◌, ◌||◌, ap, ap₂, codes}
+use Rattle.std.proofs.lemmas.Result.{IfOk-weaker}
+use Rattle.clap.specs.Words.{App, app_of, with_rule}
+use Rattle.clap.specs.Simple.{app_of_fields, new_app}
+use Rattle.clap.specs.declared.builder.command.Command.{Command}
+use Rattle.clap.specs.declared.builder.command.Command.TheOpen.{Command-F}
+use Rattle.tcap_command_line.proofs.command_line.table_command.Goals as goal
+
+pub returns : goal.returns
+returns c =
+    let about_is : app_of c.after_help.result ≡ new_app (codes "table") =
+    ap app_of_fields c.after_help.ensures ∙ ap app_of_fields c.about.ensures ∙ c.new.ensures.app in
+    let about_local =
+    ap (λ (f : Command-F Command). f.has_globals) c.after_help.ensures
+    ∙ ap (λ (f : Command-F Command). f.has_globals) c.about.ensures ∙ c.new.ensures.local in
+    IfOk-weaker c.arg.result _ _ (λ r h. (
+      ap (λ (a : App). a.top) (h.shape c.left_out_arg-table.ensures.local ∙ ap₂ with_rule about_is c.left_out_arg-table.ensures.rule),
+      h.globals ∙ ap₂ (λ a b. a || b) about_local c.left_out_arg-table.ensures.local,
+    )) c.arg.ensures

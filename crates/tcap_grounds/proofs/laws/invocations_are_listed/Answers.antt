@@ -1,9 +1,0 @@
-use Rattle.tcap_grounds.proofs.InvocationLaws.{are_listed, is_invoke, none_given}
-use Rattle.tcap_grounds.proofs.laws.invocations_are_listed.Goals as goal
-
-pub returns : goal.returns
-returns c = record {
-  listed = λ of_one table side sender entries r m what is. are_listed of_one table side entries r sender m is what;
-  each = λ of_one table side sender entries r m what i is. is_invoke of_one table side entries r sender m is what i;
-  none = λ of_one table side sender entries r m is. none_given of_one table side entries r sender m is;
-}

@@ -1,9 +1,0 @@
-use Rattle.std.proofs.Common.{◌≡◌, ◌∙◌, ◌∷◌, [], ap, codes, rules}
-use Rattle.clap.specs.Walk.{texts}
-use Rattle.tcap_words.specs.CommandLine.{choice_rule}
-use Rattle.tcap_words.proofs.command_line.ids_arg.Goals as goal
-
-pub returns-clause-rule : goal.returns-clause-rule
-returns-clause-rule c =
-    let known : texts c.as_slice.result.now ≡ codes "again" ∷ codes "settled" ∷ codes "once" ∷ [] = search rules in
-    c.choice_arg.ensures.rule ∙ ap (choice_rule (codes "ids")) known
