@@ -184,12 +184,17 @@ def show(folder, entries):
     """Returns the text of `show` for each of these entries, as one record. It does not read octets that are not one
     element: of these an entry has the number and the place of the fault."""
     faults = [length_fault(digits) if end != "Q" else None for end, digits, *_ in entries]
-    octets = b"".join(end.encode() + bytes.fromhex(digits if fault is None else "6300") for (end, digits, *_), fault in zip(entries, faults))
-    printed = run(["show", put(folder, "dialogue", octets)]).stdout.decode()
-    shown = re.findall(r"^\d.*\n(?:^ .*\n)*", printed, re.MULTILINE)
-    for number, fault in enumerate(faults):
+    parts = [end.encode() + bytes.fromhex(digits if fault is None else "6300") for (end, digits, *_), fault in zip(entries, faults)]
+    printed = run(["show", put(folder, "dialogue", b"".join(parts))]).stdout.decode()
+    shown, start = re.findall(r"^\d.*\n(?:^ .*\n)*", printed, re.MULTILINE), 0
+    for number, (part, fault) in enumerate(zip(parts, faults)):
+        found = re.fullmatch(r"(\d+ [AB] FAULT \d+ )(\d+)\n", shown[number])
         if fault is not None:
             shown[number] = f"{number} {entries[number][0]} FAULT {fault[0]} {fault[1]}\n"
+        elif found:
+            # A report counts from the first octet of the message, and `show` from that of the record.
+            shown[number] = f"{found[1]}{int(found[2]) - start - 1}\n"
+        start += len(part)
     return shown
 
 

@@ -112,7 +112,7 @@ SAID = [
                     "fault": "unexpected tag, at octet 12 of it",
                     "line": 2,
                     "comment": "here",
-                    "show": "0 A FAULT 8 13\n",
+                    "show": "0 A FAULT 8 12\n",
                     "octets": "620d4801016c08a10602010130012d",
                 }
             ],
@@ -122,7 +122,7 @@ SAID = [
                     "end": "B",
                     "fault": "unexpected tag, at octet 0 of it",
                     "line": 3,
-                    "show": "0 B FAULT 8 1\n",
+                    "show": "0 B FAULT 8 0\n",
                     "octets": "6303480101",
                 }
             ],

@@ -16,7 +16,7 @@ use Rattle.tcap_traces.specs.Dialogue.{verdict_on as verdict_by_tables}
 use Rattle.tcap_traces.specs.Case.{gathered_as}
 
 -- A judged dialogue: its entry numbers in the segment, its IDs, and what is known of earlier dialogues with them; its
--- entries; and what the trace says of it.
+-- entries; and what the trace shows about it.
 pub record Dialogue : Type 0 where
   pub gathered : CompleteDialogue
   pub entries : List TraceEntry

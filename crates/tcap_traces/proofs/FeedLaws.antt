@@ -15,7 +15,7 @@ front_dropped xs n within =
     ∙ take-append-le (length xs - n) (drop n xs) (drop (0 + (length xs - n)) xs) (omega (len, arith))
     ∙ ap (λ k. take k (drop n xs)) len ∙ take-length (drop n xs)
 
--- What holds of a result that is Ok.
+-- What holds for a result that is Ok.
 pub if_ok : {T E : Type 0} (result : Result T E) (new both old : List ℕ)
     → new ≡ (if is_ok result then both else old) → OnOk result (new ≡ both)
 if_ok (Ok x) new both old is = is

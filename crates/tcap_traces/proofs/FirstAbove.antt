@@ -1,4 +1,4 @@
--- The first of ascending numbers that is above a number, found at the place where those above it begin.
+-- The first of ascending numbers that is above a number, found at the place from which on all are above it.
 use Rattle.std.proofs.Common.{arith, ◌≡◌, ℕ, zero, suc, ◌-◌, ◌<◌, ◌≤◌, true, false, cond, List, [], ◌∷◌, drop, length, take, Some, None, refl, sym, ap, ◌∙◌}
 use Rattle.std.specs.Prelude.{nat_le, nat_lt, slice_get, slice_index_or}
 use Rattle.std.specs.List.{AllWithin, find}
@@ -6,7 +6,7 @@ use Rattle.std.proofs.lemmas.Bool.{le-ltb, leb-false, leb-true, lt-ltb}
 use Rattle.std.proofs.lemmas.List.{length-drop}
 use Rattle.std.proofs.Math.Seq.{take-length}
 
--- The number at the place where those above n begin is the first of them.
+-- The number at the first place from which on all numbers are above n is the first number above n.
 pub found_at : (n : ℕ) (ns : List ℕ) (at : ℕ) → AllWithin (λ y. nat_le y n ≡ true) ns 0 at
     → AllWithin (λ y. nat_le y n ≡ false) ns at (length ns) → slice_get ns at ≡ find (λ other. nat_lt n other) ns
 found_at n [] zero below above = refl

@@ -177,7 +177,7 @@ front_fault letter element more place sender f no_mark is_sender is =
     ∙ ap (λ s. framed_by (frames_from (length all)) place all s (outer_at all)) is_sender
     ∙ ap (framed_by (frames_from (length all)) place all (Some sender)) (stays_fault element more f is)
 
--- within an element of which more octets are needed, the record ends
+-- A whole element has no more octets than there are.
 pub whole_within : (element : List ℕ) (len : ℕ) → outer_at element ≡ Ok (Whole len) → len ≤ length element
 whole_within element len is = (stays_whole element [] len is).0
 

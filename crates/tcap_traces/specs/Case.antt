@@ -21,7 +21,7 @@ after_of behinds.Fault = FaultAfter
 abbrev pub has_some : BTreeSet (List ℕ) → Bool
 has_some ids = is_some (slice_get ids.keys 0)
 
--- a gathered dialogue with these entries, and with what the trace says of it
+-- a gathered dialogue with these entries, and with what the trace shows about it
 abbrev pub gathered_as : CompleteDialogue → List TraceEntry → After → Option ℕ → Bool → Option ℕ → Dialogue
 gathered_as g entries after under_way in_use unread = record {
   entries = entries;

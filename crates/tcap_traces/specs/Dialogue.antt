@@ -1,4 +1,4 @@
--- What is the verdict on a dialogue, given its entries and what the trace says of it?
+-- What is the verdict on a dialogue, given its entries and what the trace shows about it?
 use Rattle.std.specs.Prelude.{◌≡◌, ◌≤◌, ℕ, Bool, true, false, cond, List, [], ◌∷◌, ◌++◌, length, map, take, ◌==◌, ◌&&◌, ◌||◌, not, nat_le, nat_lt, Option, Some, None, is_none, is_some, option_map, slice_get, Result, Ok, Err}
 use Rattle.std.specs.List.{count_by}
 use Rattle.tcap_ber.specs.declared.fault.Fault.{Fault}
@@ -31,7 +31,7 @@ pub data After : Type 0 where
   EndAfter : After
   FaultAfter : After
 
--- A dialogue of a segment, and what the trace says of it.
+-- A dialogue of a segment, and what the trace shows about it.
 pub record Dialogue : Type 0 where
   -- its entries in their order, and their numbers in the segment, counted from 0
   pub entries : List TraceEntry
@@ -52,7 +52,7 @@ pub record Dialogue : Type 0 where
   -- the number in the segment of the first unreadable entry that may belong to it
   pub unread : Option ℕ
 
--- What is asked of a dialogue: of which end, or of both; whether no message of an earlier dialogue is in transit when
+-- The options for a dialogue: the end that is judged, or both; whether no message of an earlier dialogue is in transit when
 -- one of its IDs is used again; and whether a dialogue should be complete.
 pub record Question : Type 0 where
   pub of : Option Side
@@ -74,7 +74,7 @@ body_of octets = by (message_at octets)
     by (Ok found) = cond (found.1 == length octets) (Good found.0) (Bad (record { reason = Trailing; place = found.1 }))
     by (Err fault) = Bad fault
 
--- an entry by itself; places are counted from its first octet
+-- an entry on its own; places are counted from its first octet
 abbrev pub entry_of : TraceEntry → Entry
 entry_of entry = record { side = Some entry.sender; place = 0; body = body_of entry.octets }
 

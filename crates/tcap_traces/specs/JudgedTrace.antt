@@ -1,4 +1,4 @@
--- What does `test` say of a trace with given octets?
+-- What does `test` report for a trace with given octets?
 use Rattle.std.specs.Prelude.{ℕ, suc, ◌+◌, Bool, true, false, List, [], ◌∷◌, ◌++◌, filter, length, map, ◌||◌, not, Option, Some, None, is_some}
 use Rattle.std.specs.List.{count_by, list_any}
 use Rattle.tcap_books.specs.Book.{NamedTable}
@@ -21,7 +21,7 @@ pub record Asked : Type 0 where
   pub tables : List NamedTable
 
 -- A judged dialogue: the number of its first entry in the trace, counted from 0, quiet marks included; what the trace
--- says of it; and the result for each end, or None if it has no table.
+-- shows about it; and the result for each end, or None if it has no table.
 pub record JudgedDialogue : Type 0 where
   pub number : ℕ
   pub dialogue : Dialogue
@@ -104,7 +104,7 @@ abbrev pub worst : List Verdict → Verdict
 worst [] = verdicts.Pass
 worst (verdict ∷ more) = worse verdict (worst more)
 
--- What `test` says of a trace: the verdict, the dialogues that are reported, and the number of entries.
+-- The report of `test` on a trace: the verdict, the dialogues that are reported, and the number of entries.
 pub record JudgedTrace : Type 0 where
   pub verdict : Verdict
   pub dialogues : List JudgedDialogue
@@ -125,6 +125,6 @@ judged_pieces asked p =
     judged_by asked p (segments_of (end_of p.fault) p.pieces)
     (reported_from asked nothing_before 0 (segments_of (end_of p.fault) p.pieces))
 
--- what `test` says of a trace with these octets
+-- the report of `test` on a trace with these octets
 unfoldable pub judged_trace : Asked → List ℕ → JudgedTrace
 judged_trace asked octets = judged_pieces asked (pieces_of octets)

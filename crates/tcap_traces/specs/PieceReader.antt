@@ -54,7 +54,7 @@ is_record_as forms.Unknown octets = is_record octets
 is_record_as forms.Lines octets = false
 is_record_as forms.Record octets = true
 
--- the pieces of these octets, from where the reader is
+-- the pieces of these octets, from the place of the reader on
 abbrev pub pieces_by : PieceReader → List ℕ → Pieces
 pieces_by r octets =
     cond (is_record_as r.form octets) (frames_from (length octets) r.place octets)
@@ -115,7 +115,7 @@ Steps old (Ok steps.Passed) new =
 Steps old (Ok steps.Needs) new = Returns old (Ok None) new
 Steps old (Err fault) new = Returns old (Err fault) new
 
--- the pieces of a record with these octets, the first of which has this offset
+-- the pieces of a record with these octets; the first octet has this offset
 abbrev pub framed_from : ℕ → List ℕ → Pieces
 framed_from place octets = frames_from (length octets) place octets
 

@@ -89,7 +89,7 @@ abbrev pub first_content : List Line → List ℕ
 first_content [] = []
 first_content (line ∷ lines) = line.content
 
--- ---- the meaning of a line by itself
+-- ---- the meaning of a line
 
 -- an empty line; a comment, with its text; a directive; a quiet mark; a message, with its sender and octets; or none
 pub data LineMeaning : Type 0 where
@@ -230,7 +230,7 @@ framed_by rest place octets (Some sender) (Ok (outers.Whole len)) =
 framed_by rest place octets (Some sender) (Ok (outers.Need count)) = stopped (CutEntry place)
 framed_by rest place octets (Some sender) (Err fault) = stopped (BadElement fault.reason (further place (1 + fault.place)))
 
--- The pieces of these octets of a record, the first of which has this offset. Each piece has an octet or more, so there
+-- The pieces of these octets of a record; the first octet has this offset. Each piece has an octet or more, so there
 -- are at most as many pieces as octets (`most`).
 abbrev pub frames_from : ℕ → ℕ → List ℕ → Pieces
 frames_from zero place octets = no_more

@@ -76,7 +76,7 @@ heading_with before first number h = record h {
   known = is_continue h.kind && goes_to_earlier before h;
 }
 
--- the headings of these entries, the first of which has this number
+-- the headings of these entries; the first entry has this number
 abbrev pub headings_from : Before → Option ℕ → ℕ → List TraceEntry → List Heading
 headings_from before first number [] = []
 headings_from before first number (entry ∷ entries) =
@@ -96,16 +96,16 @@ is_uni kind = false
 abbrev pub is_unreadable : Heading → Bool
 is_unreadable h = is_alone h && not (is_uni h.kind)
 
--- the number of the first unreadable entry with at least this number, among these headings, the first of which has
--- number n
+-- the number of the first unreadable entry with at least this number, among these headings; the first heading has number
+-- n
 abbrev pub unreadable_from : ℕ → ℕ → List Heading → Option ℕ
 unreadable_from least n [] = None
 unreadable_from least n (h ∷ hs) = cond (nat_le least n && is_unreadable h) (Some n) (unreadable_from least (suc n) hs)
 
 -- ---- the dialogues of a segment
 
--- the numbers of a dialogue's entries in their order, among the numbers of these entries, the first of which is n; and
--- those entries
+-- the numbers of a dialogue's entries in their order, among the numbers of these entries, which begin with n; and those
+-- entries
 abbrev pub numbers_in : Course → ℕ → List TraceEntry → List ℕ
 numbers_in d n [] = []
 numbers_in d n (entry ∷ entries) = cond (has_entry d n) (n ∷ numbers_in d (suc n) entries) (numbers_in d (suc n) entries)

@@ -44,7 +44,7 @@ first_context (entry ∷ entries) = option_or (context_of entry.body) (first_con
 
 -- ---- the messages that choose a table
 
--- whether a message of this kind chooses a table: it begins something, and its context is the one that it asks for
+-- whether a message of this kind chooses a table: it begins something, and it asks for the table of its context
 abbrev pub chooses : Kind → Bool
 chooses kinds.Begin = true
 chooses kinds.Unidirectional = true

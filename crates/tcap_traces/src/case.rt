@@ -53,7 +53,7 @@ impl TraceEntry {
         read_heading(self.sender, &self.octets)
     }
 
-    /// Decodes the entry by itself. Fails if memory runs out.
+    /// Decodes the entry on its own. Fails if memory runs out.
     fn entry(&self, alloc: Global) -> Result<Entry, AllocError>
         ensures { IfOk result (λ entry. entry ≡ entry_of self.now) }
     {

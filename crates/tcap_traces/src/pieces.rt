@@ -33,7 +33,7 @@ pub enum Piece {
     About(u64, End, Vec<u8>),
 }
 
-/// What is wrong with a line of a trace.
+/// The rule that a line of a trace breaks.
 #[derive(Clone, Copy, Debug, PartialEq, Eq)]
 pub enum LineRule {
     /// The line is longer than the limit.
@@ -54,7 +54,7 @@ pub enum LineRule {
     CutLine,
 }
 
-/// What is wrong with the form of a trace.
+/// The rule that the form of a trace breaks.
 #[derive(Clone, Copy, Debug, PartialEq, Eq)]
 pub enum FormRule {
     /// A line has a fault. Its number, counted from 1, and the rule that it breaks.
@@ -92,15 +92,15 @@ pub(crate) enum Form {
     Record,
 }
 
-/// What was read of a trace of lines, as far as it decides whether an entry or a directive may follow.
+/// The progress of a trace of lines, as far as it decides if an entry or a directive may follow.
 #[derive(Clone, Copy)]
 pub(crate) struct Progress {
-    /// Whether an entry or a quiet mark was read.
+    /// True if an entry or a quiet mark was read.
     pub(crate) begun: bool,
-    /// Whether a directive about A was read, and (`b`) one about B.
+    /// True if a directive about A was read, and (`b`) one about B.
     pub(crate) a: bool,
     pub(crate) b: bool,
-    /// Whether the directive `broken off` was read.
+    /// True if the directive `broken off` was read.
     pub(crate) broken_off: bool,
 }
 
@@ -285,7 +285,7 @@ pub(crate) struct FrontLine<'a> {
     pub(crate) content: &'a [u8],
     /// The number of octets with its end.
     pub(crate) count: usize,
-    /// Whether a line feed ends it.
+    /// True if a line feed ends it.
     pub(crate) ended: bool,
 }
 
@@ -330,7 +330,7 @@ fn front_line(octets: &[u8], ended: bool) -> Option<FrontLine<'_>>
     None
 }
 
-/// What is at the front of a record's octets.
+/// The entry or quiet mark at the front of a record's octets.
 #[derive(Clone, Copy)]
 pub(crate) enum Frame {
     /// A quiet mark.
@@ -382,7 +382,7 @@ fn front_entry(
     }
 }
 
-/// What a step over a line gives.
+/// The result of a step over a line.
 #[derive(Drop)]
 pub(crate) enum Step {
     /// A piece.

@@ -1,4 +1,4 @@
-//! A line of a trace by itself.
+//! A line of a trace.
 
 ghost use Rattle.std.specs.Prelude.{◌≡◌, IfOk, option_copied};
 ghost use Rattle.tcap_record.specs.FramingResult.{end_in};
@@ -10,7 +10,7 @@ use hex::FromHexError;
 use std::alloc::{AllocError, Global};
 use tcap_record::End;
 
-/// What a line of a trace means by itself.
+/// The meaning of a line of a trace.
 #[derive(Drop)]
 pub(crate) enum TraceLine<'a> {
     /// Nothing.

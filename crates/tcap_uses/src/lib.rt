@@ -23,7 +23,7 @@ mod record;
 mod refute;
 mod search;
 mod traces;
-mod words;
+mod command_line;
 
 pub use ber::integer_content;
 pub use books::operation_name;
@@ -46,4 +46,4 @@ pub use record::{entries_of, ids_of};
 pub use refute::no_certificate_helps;
 pub use search::is_shown_lawful;
 pub use traces::verdict_on;
-pub use words::status_of_words;
+pub use command_line::status_of_words;

@@ -156,7 +156,7 @@ all_made : {A B : Type 0} (P : B → Type 0) (f : A → B) (xs : List A) → All
 all_made P f [] all = tt
 all_made P f (x ∷ xs) all = (all.0, all_made P f xs all.1)
 
--- The listed event is in this gap, and the certificate names its entry.
+-- The listed event is in this gap, and its entry is among those that the certificate names.
 abbrev pub IsNamed : Certificate → ℕ → ListedStep → Type 0
 IsNamed c count x = (gap_of x ≡ count) × (is_named c (entry_of x) ≡ true)
 
