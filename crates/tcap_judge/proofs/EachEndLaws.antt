@@ -14,9 +14,9 @@ use Rattle.tcap_certificate.specs.Replay.{replayed_by}
 use Rattle.tcap_model.specs.Run.{Event}
 use Rattle.tcap_record.specs.Ends.{other}
 use Rattle.tcap_model.specs.World.{Item, Sent, is_side}
-use Rattle.tcap_check.proofs.one_end_laws.AloneBoth.{both_give}
-use Rattle.tcap_check.proofs.one_end_laws.AloneRuns.{gives_for, unheard_are_lost}
-use Rattle.tcap_check.proofs.given_run_laws.GivenRuns.{gives}
+use Rattle.tcap_check.proofs.one_end_lemmas.AloneBoth.{both_give}
+use Rattle.tcap_check.proofs.one_end_lemmas.AloneRuns.{gives_for, unheard_are_lost}
+use Rattle.tcap_check.proofs.given_run_lemmas.GivenRuns.{gives}
 use Rattle.tcap_faults.specs.Fault.{blamed}
 use Rattle.tcap_refute.specs.declared.kind.Refutation.{Refutation}
 use Rattle.tcap_search.specs.ProposedCertificate.{proposed_for}

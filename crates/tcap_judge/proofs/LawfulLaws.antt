@@ -18,8 +18,8 @@ use Rattle.tcap_model.specs.Entries.{AreItems}
 use Rattle.tcap_check.specs.GivenRun.{SaysLawful}
 use Rattle.tcap_check.specs.declared.checker.Report.{Report}
 use Rattle.tcap_certificate.specs.LossCounts.{unheard_of}
-use Rattle.tcap_check.proofs.one_end_laws.AloneRuns.{gives_for}
-use Rattle.tcap_check.proofs.given_run_laws.GivenRuns.{gives}
+use Rattle.tcap_check.proofs.one_end_lemmas.AloneRuns.{gives_for}
+use Rattle.tcap_check.proofs.given_run_lemmas.GivenRuns.{gives}
 use Rattle.tcap_check.proofs.described_run_laws.DescribedRuns.{described_is_given}
 use Rattle.tcap_check.proofs.refusal_laws.ReasonGaps.{as_many}
 use Rattle.tcap_check.proofs.refusal_laws.ReasonLaws.{refusal_says}

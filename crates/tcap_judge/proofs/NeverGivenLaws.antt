@@ -10,7 +10,7 @@ use Rattle.tcap_model.specs.Run.{Event, KeepsRules, Runs}
 use Rattle.tcap_certificate.specs.Certificate.{Certificate}
 use Rattle.tcap_model.specs.Entries.{item_by, item_of}
 use Rattle.tcap_certificate.specs.Replay.{replayed_by}
-use Rattle.tcap_check.proofs.one_end_laws.AloneRuns.{gives_for}
+use Rattle.tcap_check.proofs.one_end_lemmas.AloneRuns.{gives_for}
 use Rattle.tcap_refute.specs.declared.kind.Refutation.{Refutation}
 use Rattle.tcap_refute.proofs.RefutedLaws.{are_oks, oks, split_oks}
 use Rattle.tcap_faults.specs.BlameMeaning.{IsAtFaultOf}

@@ -35,7 +35,7 @@ use Rattle.tcap_check.specs.GivenRun.{DeliversAtOnce, IsVisible}
 use Rattle.tcap_certificate.specs.Replay.{replayed_by}
 use Rattle.tcap_check.proofs.prompt_laws.AtOnceLaws.{at_once_follows, followed_at_once}
 use Rattle.tcap_check.proofs.described_run_laws.DescribedRuns.{followed_is_given}
-use Rattle.tcap_check.proofs.given_run_laws.GivenRuns.{gives}
+use Rattle.tcap_check.proofs.given_run_lemmas.GivenRuns.{gives}
 use Rattle.tcap_check.proofs.prompt_laws.PromptLaws.{prompt_plain}
 use Rattle.tcap_check.proofs.refusal_laws.ReasonGaps.{as_many}
 use Rattle.tcap_judge.specs.LawfulRecord.{SpellsRecord}

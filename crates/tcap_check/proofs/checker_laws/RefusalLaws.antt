@@ -23,15 +23,15 @@ use Rattle.tcap_check.specs.ReportedSteps.{MayAllBeDiscarded}
 use Rattle.tcap_model.specs.declared.reason.Reason.TheVariants.{Memory}
 use Rattle.tcap_check.specs.CheckerMeaning.{CheckerState, ReplayState, HasTakenListing, ended, kept_next, kept_of, map_ok, reported, taken, taken_next, HasTaken, answer_of}
 use Rattle.tcap_check.specs.ReplayInvariants.{checking_of, kept_in}
-use Rattle.tcap_check.proofs.one_end_laws.AloneRuns.{gives_for}
+use Rattle.tcap_check.proofs.one_end_lemmas.AloneRuns.{gives_for}
 use Rattle.tcap_check.proofs.checker_laws.CheckerLaws.{checking, ends_so, given, refusing, took_err, took_ok}
 use Rattle.tcap_check.proofs.replay_laws.ReplayInvariants.{all_may}
 use Rattle.tcap_check.proofs.checker_laws.EntryLaws.{replayed_is, taken_more}
-use Rattle.tcap_check.proofs.given_run_laws.GivenRuns.{gives, are_fit, both_ok}
+use Rattle.tcap_check.proofs.given_run_lemmas.GivenRuns.{gives, are_fit, both_ok}
 use Rattle.tcap_end.proofs.AnsweringLaws.{then_ok}
 use Rattle.tcap_certificate.specs.HalfNames.{IsDescribedBy}
 use Rattle.tcap_certificate.specs.LossCounts.{steps_of, unheard_of}
-use Rattle.tcap_check.proofs.one_end_laws.AloneReplays.{entries_lead}
+use Rattle.tcap_check.proofs.one_end_lemmas.AloneReplays.{entries_lead}
 use Rattle.tcap_check.proofs.described_run_laws.DescribedRuns.{items_of, items_same, described_is_given}
 use Rattle.tcap_check.proofs.refusal_laws.ReasonGaps.{as_many}
 use Rattle.tcap_check.proofs.refusal_laws.ReasonLaws.{refusal_says}

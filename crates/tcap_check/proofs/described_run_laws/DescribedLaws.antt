@@ -25,7 +25,7 @@ use Rattle.tcap_model.proofs.ChannelLaws.{in_order}
 use Rattle.tcap_check.proofs.described_run_laws.OrderLaws.{Rises, Takes, here_takes, in_turn, rises_front, rises_without, run_timed, sending_takes, step_takes}
 use Rattle.tcap_check.proofs.replay_laws.ReplayGaps.{get_before}
 use Rattle.tcap_check.proofs.refusal_laws.TakenNumberLaws.{taken_sent}
-use Rattle.tcap_check.proofs.given_run_laws.NumberLaws.{among_plain}
+use Rattle.tcap_check.proofs.given_run_lemmas.NumberLaws.{among_plain}
 use Rattle.tcap_check.proofs.replay_laws.ReplaySteps.{IsIn, in_left, in_right}
 
 -- ---- ranges

@@ -24,7 +24,7 @@ use Rattle.tcap_model.proofs.RunLaws.{grows, where_some}
 use Rattle.tcap_check.proofs.replay_laws.ReplaySteps.{both_replay, from_start}
 use Rattle.tcap_check.proofs.replay_laws.ReplayGaps.{gap_events_before}
 use Rattle.tcap_check.proofs.described_run_laws.DescribedLaws.{described_fits, none_overtakes}
-use Rattle.tcap_check.proofs.given_run_laws.GivenRuns.{gives}
+use Rattle.tcap_check.proofs.given_run_lemmas.GivenRuns.{gives}
 use Rattle.tcap_check.proofs.described_run_laws.AlikeLaws.{Ahead, alike_same, go_on, next_step, quiet_goes}
 use Rattle.tcap_check.proofs.described_run_laws.DescribedGaps.{all_steps, gap_goes, losses_fit, lost_are, ok_both, ok_needs, ok_some, ok_then, plain, plain_more, plain_step, some_same}
 use Rattle.tcap_check.proofs.described_run_laws.DescribedSends.{IsSent, message_goes, none_quiet}

@@ -19,8 +19,8 @@ use Rattle.tcap_certificate.specs.Replay.{time_of}
 use Rattle.tcap_model.proofs.ListLaws.{all_both, all_weaker}
 use Rattle.tcap_check.proofs.replay_laws.ReplayGaps.{gap_split, all_implied}
 use Rattle.tcap_check.proofs.replay_laws.ReplaySteps.{IsIn, in_left, in_right, in_either, all_in, from_start, all_delivered, taken_are}
-use Rattle.tcap_check.proofs.given_run_laws.NumberLaws.{taken_both, among_plain}
-use Rattle.tcap_check.proofs.given_run_laws.GivenEvents.{IsSender, by_mark, by_reply, by_send, sender_is}
+use Rattle.tcap_check.proofs.given_run_lemmas.NumberLaws.{taken_both, among_plain}
+use Rattle.tcap_check.proofs.given_run_lemmas.GivenEvents.{IsSender, by_mark, by_reply, by_send, sender_is}
 
 -- ---- numbers in lists
 

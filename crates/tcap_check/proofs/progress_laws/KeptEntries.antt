@@ -22,7 +22,7 @@ use Rattle.tcap_check.specs.EntryOutlines.{is_named, outline_of, outlines_from, 
 use Rattle.tcap_check.specs.Progress.{overtakes, seat_at}
 use Rattle.tcap_check.specs.ReplaySteps.{is_received_from, is_sent_by_end, mark_taken, own_taken, sent_among, peer_message_taken}
 use Rattle.tcap_check.specs.CheckerMeaning.{gap_before, item_kept, kept_of, map_ok, progress_of, tied_now, taken, taken_from, taken_next}
-use Rattle.tcap_check.proofs.one_end_laws.AloneReplays.{gap_leads, item_leads, drop_all}
+use Rattle.tcap_check.proofs.one_end_lemmas.AloneReplays.{gap_leads, item_leads, drop_all}
 use Rattle.tcap_check.proofs.replay_laws.ReplayLaws.{gap_replays}
 use Rattle.tcap_check.proofs.replay_laws.ReplayEntries.{item_replays}
 use Rattle.tcap_check.proofs.replay_laws.ReplaySteps.{replays_then, channel_with, discard_is}

@@ -19,7 +19,7 @@ use Rattle.tcap_check.specs.GivenRun.{is_over_or_sends}
 use Rattle.tcap_model.proofs.ListLaws.{all_both}
 use Rattle.tcap_model.proofs.RunLaws.{same_events}
 use Rattle.tcap_check.proofs.prompt_laws.PromptLaws.{none_taken}
-use Rattle.tcap_check.proofs.given_run_laws.NumberLaws.{taken_both}
+use Rattle.tcap_check.proofs.given_run_lemmas.NumberLaws.{taken_both}
 use Rattle.tcap_check.proofs.replay_laws.ReplayGaps.{all_implied}
 
 -- ---- prompt fates

@@ -13,7 +13,7 @@ use Rattle.tcap_model.proofs.ListLaws.{all_both}
 use Rattle.tcap_model.proofs.RunLaws.{same_events}
 use Rattle.tcap_check.proofs.replay_laws.ReplaySteps.{from_start, all_delivered}
 use Rattle.tcap_check.proofs.replay_laws.ReplayGaps.{all_implied}
-use Rattle.tcap_check.proofs.given_run_laws.GivenEvents.{IsSender, by_mark, by_reply, by_send, sender_is}
+use Rattle.tcap_check.proofs.given_run_lemmas.GivenEvents.{IsSender, by_mark, by_reply, by_send, sender_is}
 
 -- events that are all sends, deliveries, expiries and quiet marks
 abbrev AllPlain : List Event → Type 0

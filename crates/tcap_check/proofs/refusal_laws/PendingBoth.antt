@@ -23,9 +23,9 @@ use Rattle.tcap_check.proofs.replay_laws.ReplayLaws.{IsSentBy}
 use Rattle.tcap_check.proofs.refusal_laws.FollowingLaws.{FollowsBehind, FollowsSo, IsUpTo, follows_gap, follows_more, plain_on}
 use Rattle.tcap_check.proofs.refusal_laws.TakenNumberLaws.{in_all, in_events, in_some, in_taken, taken_sent, takes_received, takes_replied}
 use Rattle.tcap_check.proofs.refusal_laws.PendingLaws.{AreTaken, IsAsSaid, IsOver, SendsSoFar, further_on, old_or_new, runs_on, stands_more, stands_on, taken_next, taken_on, taken_still}
-use Rattle.tcap_check.proofs.given_run_laws.NumberLaws.{taken_right}
-use Rattle.tcap_check.proofs.given_run_laws.GivenRuns.{replied_at}
-use Rattle.tcap_check.proofs.given_run_laws.GivenEvents.{IsSender, by_mark, by_reply, by_send, sender_is}
+use Rattle.tcap_check.proofs.given_run_lemmas.NumberLaws.{taken_right}
+use Rattle.tcap_check.proofs.given_run_lemmas.GivenRuns.{replied_at}
+use Rattle.tcap_check.proofs.given_run_lemmas.GivenEvents.{IsSender, by_mark, by_reply, by_send, sender_is}
 
 -- ---- fates
 

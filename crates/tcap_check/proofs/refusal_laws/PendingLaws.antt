@@ -18,17 +18,17 @@ use Rattle.tcap_model.specs.Entries.{AreItems, IsItem}
 use Rattle.tcap_certificate.specs.DescribedRun.{FatesFit, without_losses}
 use Rattle.tcap_certificate.specs.Replay.{Replay, is_received_from, next_entry, gap_by, item_by}
 use Rattle.tcap_model.proofs.RunLaws.{played_on, closing, delivery, expiry, loss, quiet as quiet_step, reply, same_side, sending, some_is, telling, then_some}
-use Rattle.tcap_check.proofs.one_end_laws.AloneCounts.{IsOwn}
+use Rattle.tcap_check.proofs.one_end_lemmas.AloneCounts.{IsOwn}
 use Rattle.tcap_check.proofs.replay_laws.ReplaySteps.{Extends, IsIn}
 use Rattle.tcap_check.proofs.refusal_laws.FollowingLaws.{IsUpTo}
-use Rattle.tcap_check.proofs.given_run_laws.NumberLaws.{taken_left}
+use Rattle.tcap_check.proofs.given_run_lemmas.NumberLaws.{taken_left}
 use Rattle.std.proofs.lemmas.Bool.{cases_lt}
 use Rattle.tcap_record.specs.declared.entry.End.TheVariants as sides
 use Rattle.tcap_end.specs.End.{nothing}
 use Rattle.tcap_record.specs.Ends.{other}
 use Rattle.tcap_model.proofs.ListLaws.{all_both}
-use Rattle.tcap_check.proofs.one_end_laws.AloneReplays.{gap_leads, item_leads, Leads}
-use Rattle.tcap_check.proofs.one_end_laws.AloneTaken.{IsNext, gap_takes, item_takes}
+use Rattle.tcap_check.proofs.one_end_lemmas.AloneReplays.{gap_leads, item_leads, Leads}
+use Rattle.tcap_check.proofs.one_end_lemmas.AloneTaken.{IsNext, gap_takes, item_takes}
 use Rattle.tcap_model.proofs.WorldLaws.{end_joined, end_with_channel, peer_with_end}
 
 -- ---- fates

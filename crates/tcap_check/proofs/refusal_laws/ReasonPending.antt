@@ -33,7 +33,7 @@ use Rattle.tcap_check.proofs.refusal_laws.TakenNumberLaws.{taken_is_gone}
 use Rattle.tcap_check.proofs.refusal_laws.ReasonGaps.{at_front, in_filter}
 use Rattle.tcap_end.specs.HiddenSteps.{open_halves}
 use Rattle.tcap_end.proofs.AnsweringLaws.{ok_same}
-use Rattle.tcap_check.proofs.one_end_laws.AloneReplays.{closed_leads, front_leads}
+use Rattle.tcap_check.proofs.one_end_lemmas.AloneReplays.{closed_leads, front_leads}
 use Rattle.tcap_check.proofs.progress_laws.KeptEntries.{IsHeard}
 use Rattle.tcap_check.proofs.progress_laws.KeptSteps.{before_stays}
 use Rattle.tcap_check.proofs.refusal_laws.PendingBoth.{losses_said}

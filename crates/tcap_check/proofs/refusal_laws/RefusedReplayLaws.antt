@@ -22,7 +22,7 @@ use Rattle.tcap_certificate.specs.Replay.{Replay, closed_at_mark, delivery_by, f
 use Rattle.tcap_check.specs.CheckerMeaning.{is_alone}
 use Rattle.tcap_check.specs.PartialReplay.{as_far, behind_or, deliveries_so_far, fated_so_far, gap_so_far, halves_so_far, losses_before, mark_so_far, message_so_far, next_so_far, quiet_so_far, sending_so_far, listed_so_far}
 use Rattle.tcap_check.specs.RunSoFar.{IsRunWithDiscards}
-use Rattle.tcap_check.proofs.one_end_laws.AloneReplays.{closed_leads, gap_leads, heard_leads, stepped_adds}
+use Rattle.tcap_check.proofs.one_end_lemmas.AloneReplays.{closed_leads, gap_leads, heard_leads, stepped_adds}
 use Rattle.tcap_check.proofs.replay_laws.DiscardReasons.{tells_front, tells_heard, tells_kept, tells_step}
 use Rattle.tcap_check.proofs.replay_laws.ReplayInvariants.{closed_keeps, gap_keeps, over_keeps, one_keeps}
 use Rattle.tcap_check.proofs.replay_laws.ReplayLaws.{gap_replays, implied_by, one_replays}

@@ -41,10 +41,10 @@ use Rattle.tcap_record.specs.declared.entry.End.TheVariants as sides
 use Rattle.tcap_model.specs.Run.{BothKeepRules, IsRunOf}
 use Rattle.tcap_model.proofs.ListLaws.{all_both}
 use Rattle.tcap_check.specs.GivenRun.{MayBeSent}
-use Rattle.tcap_check.proofs.one_end_laws.AloneCounts.{own_keeps}
+use Rattle.tcap_check.proofs.one_end_lemmas.AloneCounts.{own_keeps}
 use Rattle.tcap_check.proofs.refusal_laws.FollowingLaws.{plain_on}
-use Rattle.tcap_check.proofs.given_run_laws.GivenEvents.{gap_fated, implied_fated, sender_fated, sender_is}
-use Rattle.tcap_check.proofs.given_run_laws.GivenLosses.{IsFated, fated_keeps, taken_fated}
+use Rattle.tcap_check.proofs.given_run_lemmas.GivenEvents.{gap_fated, implied_fated, sender_fated, sender_is}
+use Rattle.tcap_check.proofs.given_run_lemmas.GivenLosses.{IsFated, fated_keeps, taken_fated}
 use Rattle.tcap_check.proofs.checker_laws.RefusalLaws.{entries_are, items_of_entries, same_items}
 use Rattle.tcap_check.proofs.replay_laws.ReplayEntries.{item_replays, ok_item}
 use Rattle.tcap_check.proofs.replay_laws.ReplaySteps.{replays_then}

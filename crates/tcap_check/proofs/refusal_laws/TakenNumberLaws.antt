@@ -14,7 +14,7 @@ use Rattle.tcap_certificate.specs.DescribedRun.{is_loss, without_losses}
 use Rattle.tcap_model.proofs.ChannelLaws.{are_whole, in_order}
 use Rattle.tcap_model.proofs.RunLaws.{same_side}
 use Rattle.tcap_check.proofs.replay_laws.ReplaySteps.{IsIn, in_left, in_right}
-use Rattle.tcap_check.proofs.given_run_laws.NumberLaws.{parts_apart}
+use Rattle.tcap_check.proofs.given_run_lemmas.NumberLaws.{parts_apart}
 
 -- ---- elements of lists
 

@@ -29,10 +29,10 @@ use Rattle.tcap_certificate.specs.Replay.{Replay, all_lost_from, certificate_fit
 use Rattle.tcap_check.specs.CheckerMeaning.{taken, taken_from}
 use Rattle.tcap_check.specs.RunSoFar.{ExplainsLosses, IsDiscardOf, IsRunWithDiscards}
 use Rattle.tcap_check.specs.ReportedSteps.{IsDiscarded, IsReportedLoss, MayAllBeDiscarded}
-use Rattle.tcap_check.proofs.given_run_laws.GivenRuns.{both_ok}
+use Rattle.tcap_check.proofs.given_run_lemmas.GivenRuns.{both_ok}
 use Rattle.tcap_check.proofs.replay_laws.ReplaySteps.{Extends, losing_replays, stepped_extends, head_stays}
-use Rattle.tcap_check.proofs.one_end_laws.AloneReplays.{all_lost_leads}
-use Rattle.tcap_check.proofs.one_end_laws.AloneMirrors.{losses_both}
+use Rattle.tcap_check.proofs.one_end_lemmas.AloneReplays.{all_lost_leads}
+use Rattle.tcap_check.proofs.one_end_lemmas.AloneMirrors.{losses_both}
 use Rattle.tcap_check.proofs.replay_laws.ReplayInvariants.{all_may, IsKept, entries_keep, last_keeps, taken_keeps}
 use Rattle.tcap_model.proofs.WorldLaws.{apart, itself}
 

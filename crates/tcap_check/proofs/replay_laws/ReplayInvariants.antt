@@ -25,7 +25,7 @@ use Rattle.tcap_certificate.specs.Certificate.{Certificate}
 use Rattle.tcap_certificate.specs.DescribedRun.{invoke_id, invoking_half, is_loss, sending_by}
 use Rattle.tcap_check.specs.CheckerMeaning.{taken_from, taken_next}
 use Rattle.tcap_certificate.specs.Replay.{Replay, all_lost_from, after_sending, closed_at_mark, closed_before, comes_in_order, deliveries_by, delivery_by, entries_by, entry_by, fault_at, gap_by, after_event, delivered, implied, implied_over, is_abort, is_due, is_gap, is_nothing, is_overtaking, item_by, lost_before, lost_from_front, lost_last, mark_judged, message_by, next_entry, or_same, own_judged, received, sent_or_refused, stepped, tied, peer_replayed, with_step, certificate_fits, discarded, discards_by, nothing_replayed, first_receive_refusal}
-use Rattle.tcap_check.proofs.given_run_laws.GivenRuns.{both_ok}
+use Rattle.tcap_check.proofs.given_run_lemmas.GivenRuns.{both_ok}
 use Rattle.tcap_check.specs.declared.listed_steps.ListedStep.{ListedStep}
 use Rattle.tcap_check.specs.ListedSteps.{all_replayed, entry_of, event_listed, listed_for, listed_replayed, why_refused}
 use Rattle.tcap_check.proofs.replay_laws.ReplayGaps.{gap_parts, listed_so}

@@ -1,5 +1,5 @@
 use Rattle.tcap_check.proofs.prompt_laws.AtOnceLaws.{followed_at_once}
-use Rattle.tcap_check.proofs.given_run_laws.GivenRuns.{gives}
+use Rattle.tcap_check.proofs.given_run_lemmas.GivenRuns.{gives}
 use Rattle.tcap_check.proofs.prompt_laws.PromptLaws.{prompt_plain}
 use Rattle.tcap_check.proofs.given_run_laws.prompt_certificates_deliver_at_once.Goals as goal
 

@@ -1,4 +1,4 @@
-use Rattle.tcap_check.proofs.one_end_laws.AloneRuns.{gives_for}
+use Rattle.tcap_check.proofs.one_end_lemmas.AloneRuns.{gives_for}
 use Rattle.tcap_check.proofs.one_end_laws.what_one_end_is_given_is_lawful.Goals as goal
 
 pub returns : goal.returns

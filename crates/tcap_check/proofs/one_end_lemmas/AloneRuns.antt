@@ -23,14 +23,14 @@ use Rattle.tcap_certificate.specs.Replay.{Replay, certificate_fits, entries_by, 
 use Rattle.tcap_model.specs.SinceMark.{WasSent}
 use Rattle.tcap_certificate.specs.LossCounts.{is_lost_from, unheard_of}
 use Rattle.tcap_model.proofs.ChannelLaws.{in_order, were_sent}
-use Rattle.tcap_check.proofs.given_run_laws.GivenLosses.{all_numbered, fits_gap, fits_reply, is_lost, says_lost}
-use Rattle.tcap_check.proofs.given_run_laws.GivenRuns.{are_fit, both_ok, front_empty, are_items}
+use Rattle.tcap_check.proofs.given_run_lemmas.GivenLosses.{all_numbered, fits_gap, fits_reply, is_lost, says_lost}
+use Rattle.tcap_check.proofs.given_run_lemmas.GivenRuns.{are_fit, both_ok, front_empty, are_items}
 use Rattle.tcap_check.proofs.replay_laws.ReplaySteps.{channel_with, IsIn}
-use Rattle.tcap_check.proofs.one_end_laws.AloneReplays.{entries_lead, gap_leads, front_leads, leads_then, Leads}
-use Rattle.tcap_check.proofs.one_end_laws.AloneTaken.{IsAhead, HasTaken, entries_take}
-use Rattle.tcap_check.proofs.given_run_laws.NumberLaws.{parts_apart}
+use Rattle.tcap_check.proofs.one_end_lemmas.AloneReplays.{entries_lead, gap_leads, front_leads, leads_then, Leads}
+use Rattle.tcap_check.proofs.one_end_lemmas.AloneTaken.{IsAhead, HasTaken, entries_take}
+use Rattle.tcap_check.proofs.given_run_lemmas.NumberLaws.{parts_apart}
 use Rattle.tcap_check.specs.OneEndRun.{IsGivenFor}
-use Rattle.tcap_check.proofs.one_end_laws.AloneCounts.{own_keeps, own_most, unheard_most}
+use Rattle.tcap_check.proofs.one_end_lemmas.AloneCounts.{own_keeps, own_most, unheard_most}
 
 -- ---- messages that are left
 

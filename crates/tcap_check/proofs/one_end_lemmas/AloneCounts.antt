@@ -18,8 +18,8 @@ use Rattle.tcap_model.specs.Entries.{count_components}
 use Rattle.tcap_certificate.specs.LossCounts.{is_lost_from, steps_of, unheard_of}
 use Rattle.tcap_model.proofs.RunLaws.{closing, delivery, expiry, loss, quiet, reply, runs_keep, sending, sound as ends_sound, telling}
 use Rattle.tcap_model.proofs.WorldLaws.{sent_with_channel}
-use Rattle.tcap_check.proofs.given_run_laws.StepCounts.{taken_most}
-use Rattle.tcap_check.proofs.one_end_laws.AloneLoad.{closes_load, expires_load, load, receives_load, sends_load}
+use Rattle.tcap_check.proofs.given_run_lemmas.StepCounts.{taken_most}
+use Rattle.tcap_check.proofs.one_end_lemmas.AloneLoad.{closes_load, expires_load, load, receives_load, sends_load}
 use Rattle.tcap_model.proofs.WorldLaws.{apart, sent_joined, sent_with_end}
 
 -- An event in a run of one end: an event of the end, a message of its peer, a loss, or a quiet mark.

@@ -13,10 +13,10 @@ use Rattle.tcap_certificate.specs.Certificate.{Certificate}
 use Rattle.tcap_certificate.specs.DescribedRun.{losses_from}
 use Rattle.tcap_certificate.specs.Replay.{Replay, all_lost_from, lost_from_both, lost_from_front, lost_front, stepped, with_step, deliveries_by, delivery_by, fault_at, gap_by, after_event, delivered, lost_before, next_entry}
 use Rattle.tcap_check.proofs.described_run_laws.DescribedGaps.{ok_then, ok_some}
-use Rattle.tcap_check.proofs.given_run_laws.NumberLaws.{loss_of, losses_first}
+use Rattle.tcap_check.proofs.given_run_lemmas.NumberLaws.{loss_of, losses_first}
 use Rattle.tcap_model.proofs.RunLaws.{map_some, same_side, closing, delivery, expiry}
-use Rattle.tcap_check.proofs.one_end_laws.AloneReplays.{drop_all}
-use Rattle.tcap_check.proofs.one_end_laws.AloneViews.{seen_by, seen_channel, seen_sent, seen_with, internal_channel, seen_closing, seen_delivery, seen_expiry, internal_end}
+use Rattle.tcap_check.proofs.one_end_lemmas.AloneReplays.{drop_all}
+use Rattle.tcap_check.proofs.one_end_lemmas.AloneViews.{seen_by, seen_channel, seen_sent, seen_with, internal_channel, seen_closing, seen_delivery, seen_expiry, internal_end}
 use Rattle.std.specs.Prelude.{◌&&◌, ok_or}
 use Rattle.tcap_end.specs.declared.half.HalfName.{HalfName}
 use Rattle.tcap_end.proofs.AnsweringLaws.{ok_same, some_ok, then_ok}

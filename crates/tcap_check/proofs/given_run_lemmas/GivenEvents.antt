@@ -13,12 +13,12 @@ use Rattle.tcap_certificate.specs.declared.certificate.Fate.{Fate}
 use Rattle.tcap_certificate.specs.declared.certificate.Fate.TheVariants.{Gap, Lost, By}
 use Rattle.tcap_certificate.specs.Certificate.{Certificate}
 use Rattle.tcap_certificate.specs.DescribedRun.{FollowsFrom, IsImplied, deliveries, gap_events, quiet_by, sending, sending_by, taken_by}
-use Rattle.tcap_check.proofs.given_run_laws.GivenLosses.{IsFated, is_lost, taken_fated, says_lost}
+use Rattle.tcap_check.proofs.given_run_lemmas.GivenLosses.{IsFated, is_lost, taken_fated, says_lost}
 use Rattle.tcap_model.proofs.ListLaws.{all_both}
 use Rattle.tcap_model.proofs.RunLaws.{some_is}
 use Rattle.tcap_check.proofs.replay_laws.ReplayGaps.{gap_split, all_implied}
 use Rattle.tcap_check.proofs.replay_laws.ReplaySteps.{IsIn, in_left, in_right, from_start, all_delivered, sending_so}
-use Rattle.tcap_check.proofs.given_run_laws.NumberLaws.{taken_left, taken_right}
+use Rattle.tcap_check.proofs.given_run_lemmas.NumberLaws.{taken_left, taken_right}
 
 -- ---- gaps
 

@@ -26,13 +26,13 @@ use Rattle.tcap_model.specs.Entries.{AreItems, count_components, item_of}
 use Rattle.tcap_certificate.specs.DescribedRun.{FatesFit, Follows, FollowsFrom, deliveries, taken_by, without_losses, lost_from}
 use Rattle.tcap_check.specs.GivenRun.{IsGiven}
 use Rattle.tcap_certificate.specs.Replay.{Replay, all_fit, certificate_fits, entries_by, fates_fit, if_lost, lost_from_both, lost_front, nothing_replayed, replayed_by}
-use Rattle.tcap_check.proofs.given_run_laws.GivenBound.{described_bound}
-use Rattle.tcap_check.proofs.given_run_laws.NumberLaws.{among_plain, taken_right, among_losses, parts_apart}
-use Rattle.tcap_check.proofs.given_run_laws.GivenLosses.{IsFated, IsSettled, fated_keeps, fits_gap, fits_reply, is_lost, left_lost, losses_are, says_lost, filter_sent}
+use Rattle.tcap_check.proofs.given_run_lemmas.GivenBound.{described_bound}
+use Rattle.tcap_check.proofs.given_run_lemmas.NumberLaws.{among_plain, taken_right, among_losses, parts_apart}
+use Rattle.tcap_check.proofs.given_run_lemmas.GivenLosses.{IsFated, IsSettled, fated_keeps, fits_gap, fits_reply, is_lost, left_lost, losses_are, says_lost, filter_sent}
 use Rattle.tcap_check.proofs.replay_laws.ReplayEntries.{entries_replay, item_is}
 use Rattle.tcap_check.proofs.replay_laws.ReplayGaps.{fates_ok, listed_ok, gap_split}
 use Rattle.tcap_check.proofs.replay_laws.ReplaySteps.{Extends, both_replay, extends_then, without_both, IsIn, in_right, from_start}
-use Rattle.tcap_check.proofs.given_run_laws.GivenEvents.{follows_fated, gap_at, sender_at, sender_is, sender_takes}
+use Rattle.tcap_check.proofs.given_run_lemmas.GivenEvents.{follows_fated, gap_at, sender_at, sender_is, sender_takes}
 use Rattle.tcap_check.proofs.refusal_laws.TakenNumberLaws.{taken_sent}
 use Rattle.tcap_model.proofs.ChannelLaws.{are_whole, in_order}
 

@@ -36,7 +36,7 @@ use Rattle.tcap_end.proofs.AnsweringLaws.{needs_ok, ok_same, some_ok, then_ok}
 use Rattle.tcap_end.proofs.ComponentLaws.{all_receives, all_sends}
 use Rattle.tcap_end.proofs.FoundLaws.{named_has, own_has, peer_has}
 use Rattle.tcap_end.proofs.HalfLaws.{received_is}
-use Rattle.tcap_check.proofs.one_end_laws.AloneWeights.{half_most, half_over, halves_weigh, put_again, put_most, taken_most, taken_one}
+use Rattle.tcap_check.proofs.one_end_lemmas.AloneWeights.{half_most, half_over, halves_weigh, put_again, put_most, taken_most, taken_one}
 
 -- 1 if a half in this phase is open, else 0
 abbrev opens : Phase → ℕ

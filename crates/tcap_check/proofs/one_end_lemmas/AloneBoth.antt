@@ -30,14 +30,14 @@ use Rattle.tcap_check.specs.OneEndRun.{DiscardsNothing}
 use Rattle.tcap_check.proofs.replay_laws.DiscardReasons.{none_discarded}
 use Rattle.tcap_check.proofs.described_run_laws.DescribedGaps.{ok_both, ok_needs, ok_some, ok_then}
 use Rattle.tcap_check.proofs.described_run_laws.DescribedRuns.{items_of, items_same}
-use Rattle.tcap_check.proofs.given_run_laws.GivenRuns.{both_ok, gives}
+use Rattle.tcap_check.proofs.given_run_lemmas.GivenRuns.{both_ok, gives}
 use Rattle.tcap_check.proofs.replay_laws.ReplayEntries.{item_replays, nothing_is}
 use Rattle.tcap_check.proofs.replay_laws.ReplayLaws.{gap_replays}
 use Rattle.tcap_model.proofs.RunLaws.{map_some}
 use Rattle.tcap_model.proofs.WorldLaws.{end_with_channel}
-use Rattle.tcap_check.proofs.one_end_laws.AloneMirrors.{gap_reflects, Mirrors, Reflects, all_lost_mirrors, both_fronts_mirror, same_sent, seen_step}
-use Rattle.tcap_check.proofs.one_end_laws.AloneTies.{IsReached, is_from, own_reflects, peer_mirrors, peer_ties, reached_on, told}
-use Rattle.tcap_check.proofs.one_end_laws.AloneViews.{AreClosed, quiet_closed, seen_end, seen_quiet}
+use Rattle.tcap_check.proofs.one_end_lemmas.AloneMirrors.{gap_reflects, Mirrors, Reflects, all_lost_mirrors, both_fronts_mirror, same_sent, seen_step}
+use Rattle.tcap_check.proofs.one_end_lemmas.AloneTies.{IsReached, is_from, own_reflects, peer_mirrors, peer_ties, reached_on, told}
+use Rattle.tcap_check.proofs.one_end_lemmas.AloneViews.{AreClosed, quiet_closed, seen_end, seen_quiet}
 
 -- ---- messages
 

@@ -31,8 +31,8 @@ use Rattle.tcap_check.proofs.replay_laws.ReplaySteps.{losing_replays, sending_so
 use Rattle.tcap_model.proofs.WorldLaws.{sent_with_channel}
 use Rattle.tcap_model.proofs.RunLaws.{expiry, map_some, reply}
 use Rattle.tcap_model.proofs.WorldLaws.{itself, sent_joined}
-use Rattle.tcap_check.proofs.one_end_laws.AloneMirrors.{Mirrors, MirrorsBut, front_mirrors, more_losses, own_front_mirrors, same_sent, internal_step}
-use Rattle.tcap_check.proofs.one_end_laws.AloneViews.{seen_by, seen_end, seen_sent, seen_expiry, seen_reply, seen_sending, seen_told, internal_channel, internal_end}
+use Rattle.tcap_check.proofs.one_end_lemmas.AloneMirrors.{Mirrors, MirrorsBut, front_mirrors, more_losses, own_front_mirrors, same_sent, internal_step}
+use Rattle.tcap_check.proofs.one_end_lemmas.AloneViews.{seen_by, seen_end, seen_sent, seen_expiry, seen_reply, seen_sending, seen_told, internal_channel, internal_end}
 
 -- ---- worlds that runs lead to
 

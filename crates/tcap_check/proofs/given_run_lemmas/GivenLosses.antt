@@ -17,7 +17,7 @@ use Rattle.tcap_certificate.specs.declared.certificate.Fate.TheVariants.{Gap, Lo
 use Rattle.tcap_certificate.specs.DescribedRun.{FatesFit, is_loss, losses_from, lost_from, taken_by, without_losses}
 use Rattle.tcap_model.specs.SinceMark.{WasSent}
 use Rattle.tcap_model.proofs.ChannelLaws.{are_whole, in_order, were_sent}
-use Rattle.tcap_check.proofs.given_run_laws.NumberLaws.{among_losses, among_plain, filter_all, loss_of, losses_apart, losses_first, parts_apart}
+use Rattle.tcap_check.proofs.given_run_lemmas.NumberLaws.{among_losses, among_plain, filter_all, loss_of, losses_apart, losses_first, parts_apart}
 use Rattle.tcap_model.proofs.ListLaws.{all_weaker}
 use Rattle.tcap_check.proofs.replay_laws.ReplaySteps.{IsIn, AreFrom, from_next, first_from, from_start, taken_are}
 use Rattle.tcap_check.proofs.refusal_laws.TakenNumberLaws.{taken_sent}

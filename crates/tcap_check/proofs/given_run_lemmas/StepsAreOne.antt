@@ -18,7 +18,7 @@ use Rattle.tcap_check.proofs.replay_laws.DiscardReasons.{none_in}
 use Rattle.tcap_model.proofs.WorldLaws.{itself}
 use Rattle.tcap_check.proofs.refusal_laws.TakenNumberLaws.{taken_sent}
 use Rattle.tcap_check.proofs.replay_laws.ReplaySteps.{IsIn, in_left}
-use Rattle.tcap_check.proofs.given_run_laws.NumberLaws.{parts_apart, taken_left, taken_right, taken_both}
+use Rattle.tcap_check.proofs.given_run_lemmas.NumberLaws.{parts_apart, taken_left, taken_right, taken_both}
 
 -- ---- each message is lost once
 

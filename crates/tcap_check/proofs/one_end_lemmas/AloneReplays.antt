@@ -17,7 +17,7 @@ use Rattle.tcap_model.proofs.ListLaws.{all_both, all_weaker}
 use Rattle.tcap_model.proofs.RunLaws.{grows, map_some, same_side}
 use Rattle.tcap_check.proofs.replay_laws.ReplaySteps.{Extends, Replays, channel_with, extends_nothing, extends_then, losing_replays, stepped_extends, discard_is, sending_so}
 use Rattle.tcap_model.proofs.WorldLaws.{with_same, sent_with_channel}
-use Rattle.tcap_check.proofs.one_end_laws.AloneCounts.{IsOwn}
+use Rattle.tcap_check.proofs.one_end_lemmas.AloneCounts.{IsOwn}
 use Rattle.std.specs.Prelude.{◌&&◌, not, ok_or, slice_get}
 use Rattle.tcap_end.specs.declared.half.HalfName.{HalfName}
 use Rattle.tcap_end.specs.HiddenSteps.{open_halves}

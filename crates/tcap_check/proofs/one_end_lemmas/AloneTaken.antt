@@ -21,14 +21,14 @@ use Rattle.tcap_certificate.specs.Certificate.{Certificate}
 use Rattle.tcap_certificate.specs.DescribedRun.{sending_by, taken_by}
 use Rattle.tcap_certificate.specs.Replay.{Replay, all_lost_from, deliveries_by, delivery_by, discarded, entries_by, entry_by, fault_at, gap_by, delivered, is_gap, is_nothing, is_overtaking, item_by, lost_from_front, mark_judged, message_by, next_entry, own_judged, reply_replayed, stepped, tied, peer_replayed}
 use Rattle.tcap_check.proofs.replay_laws.ReplaySteps.{discard_is, IsIn, sending_so}
-use Rattle.tcap_check.proofs.given_run_laws.GivenRuns.{replied_at, among_filter}
-use Rattle.tcap_check.proofs.given_run_laws.NumberLaws.{among_plain, taken_left, taken_right}
+use Rattle.tcap_check.proofs.given_run_lemmas.GivenRuns.{replied_at, among_filter}
+use Rattle.tcap_check.proofs.given_run_lemmas.NumberLaws.{among_plain, taken_left, taken_right}
 use Rattle.tcap_check.proofs.replay_laws.ReplayEntries.{nothing_is}
 use Rattle.tcap_check.proofs.replay_laws.ReplayGaps.{get_before, gap_parts}
 use Rattle.tcap_check.proofs.replay_laws.ReplayLaws.{reply_replays}
 use Rattle.tcap_model.proofs.RunLaws.{map_some}
-use Rattle.tcap_check.proofs.one_end_laws.AloneReplays.{deliveries_lead, entries_lead, gap_leads, item_leads, mark_rest, own_rest, peer_rest, tied_behind, Leads, all_lost_leads}
-use Rattle.tcap_check.proofs.one_end_laws.AloneTies.{is_from}
+use Rattle.tcap_check.proofs.one_end_lemmas.AloneReplays.{deliveries_lead, entries_lead, gap_leads, item_leads, mark_rest, own_rest, peer_rest, tied_behind, Leads, all_lost_leads}
+use Rattle.tcap_check.proofs.one_end_lemmas.AloneTies.{is_from}
 use Rattle.tcap_model.proofs.WorldLaws.{itself}
 use Rattle.tcap_check.proofs.refusal_laws.TakenNumberLaws.{takes_replied}
 

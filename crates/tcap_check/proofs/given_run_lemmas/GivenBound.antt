@@ -24,9 +24,9 @@ use Rattle.tcap_certificate.specs.DescribedRun.{Follows, FollowsFrom, IsImplied,
 use Rattle.tcap_model.proofs.RunLaws.{played_on}
 use Rattle.tcap_model.proofs.RunLaws.{expiry, loss, sound as ends_sound}
 use Rattle.tcap_model.proofs.WorldLaws.{end_with, end_with_channel}
-use Rattle.tcap_check.proofs.given_run_laws.StepCounts.{expired, fewer, filter_map_most, hides, in_use, joins_most, one, one_most, steps_most, taken_most, total, total_both, total_most}
+use Rattle.tcap_check.proofs.given_run_lemmas.StepCounts.{expired, fewer, filter_map_most, hides, in_use, joins_most, one, one_most, steps_most, taken_most, total, total_both, total_most}
 use Rattle.tcap_check.proofs.replay_laws.ReplaySteps.{from_start, all_delivered}
-use Rattle.tcap_check.proofs.given_run_laws.GivenEvents.{IsSender, by_mark, by_reply, by_send, sender_is}
+use Rattle.tcap_check.proofs.given_run_lemmas.GivenEvents.{IsSender, by_mark, by_reply, by_send, sender_is}
 
 -- ---- runs in parts
 

@@ -15,7 +15,7 @@ use Rattle.tcap_end.specs.End.{End, KeyedHalf, put}
 use Rattle.tcap_end.specs.ReachableEnd.{HasHalf, IsEnd, Rises, halves_of}
 use Rattle.tcap_end.proofs.MapLaws.{below_first, kept_at}
 use Rattle.tcap_end.proofs.FoundLaws.{half_at, octets_total}
-use Rattle.tcap_check.proofs.given_run_laws.StepCounts.{total}
+use Rattle.tcap_check.proofs.given_run_lemmas.StepCounts.{total}
 
 -- ---- lists by keys
 
