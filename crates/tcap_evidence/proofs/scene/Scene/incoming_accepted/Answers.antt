@@ -10,5 +10,5 @@ returns c = λ s are.
     ∙ ap₂ (λ a b. a ++ b)
     (c.in_ok-incoming.ensures
     ∙ ap option_to_list
-    (c.first_where.ensures ∙ ap (find (λ n. is_a forms.Begin n.1)) (ap numbered_of c.deref.ensures.value ∙ are.there)))
-    (to_half_is s _ (c.as_ref.ensures.value ∙ are.half) _ (ap numbered_of c.deref-2.ensures.value ∙ are.there))
+    (c.first_where.ensures ∙ ap (find (λ n. is_a forms.Begin n.1)) (ap numbered_of c.deref.ensures.value ∙ are.peer_from_dtid)))
+    (to_half_is s _ (c.as_ref.ensures.value ∙ are.half) _ (ap numbered_of c.deref-2.ensures.value ∙ are.peer_from_dtid))
