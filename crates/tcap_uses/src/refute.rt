@@ -8,7 +8,7 @@ ghost use Rattle.tcap_certificate.specs.Replay.{replayed_by};
 ghost use Rattle.tcap_refute.specs.declared.kind.Refutation.{Refutation};
 ghost use Rattle.tcap_refute.specs.Kind.{refuted};
 
-use tcap_check::given;
+use tcap_check::given_run_laws;
 use tcap_refute::laws;
 
 /// Where a record is refuted, no certificate gives a run for it.
@@ -16,6 +16,6 @@ pub fn no_certificate_helps()
     ensures { (table : Table) (c : Certificate) (entries : List Entry) (r : Refutation) (events : List Event)
         → refuted table (map item_of entries) ≡ Some r → replayed_by None table c entries ≡ Ok events → ⊥ }
 {
-    given::what_is_given_is_lawful();
+    given_run_laws::what_is_given_is_lawful();
     laws::refuted_is_never_lawful();
 }
