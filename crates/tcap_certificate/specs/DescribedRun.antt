@@ -116,7 +116,7 @@ invoking_half _ = None
 
 -- An expiry just before an item is sent, of an invoke ID that this item uses again on its half. If a run makes these
 -- expiries and then sends the item, their IDs are exactly those that the item invokes and that were in use. Each of
--- these has to end, and no other can (`given::implied_are_needed`).
+-- these has to end, and no other can (`given_run_laws::implied_are_needed`).
 abbrev pub IsImplied : Item → Event → Type 0
 IsImplied (Sent sender message) (Expires side name id) =
     (side ≡ sender) × (invoking_half message ≡ Some name) × Contains (filter_map invoke_id (components_in message)) id
