@@ -400,15 +400,84 @@ def unlawful_in(folder):
     return wrong
 
 
+def content(path):
+    """Returns the octets of the file with this path, or None if there is none."""
+    if not os.path.exists(path):
+        return None
+    with open(path, "rb") as file:
+        return file.read()
+
+
+def packed_in(folder):
+    """Returns how many runs of `pack -o` there are and how many are wrong, and prints each of these. A file is written only if no line has a
+    fault; otherwise it stays as it is."""
+    fine, bad, none = f"{folder}/LINES", f"{folder}/bad", f"{folder}/NONE"
+    out, link, dangling = f"{folder}/record", f"{folder}/linked", f"{folder}/dangling"
+    old = b"a record from before"
+    with open(bad, "wb") as file:
+        file.write(LINES + b"x\n")
+    os.symlink("record", link)
+    os.symlink("NONE", dangling)
+    cases = [
+        ("a new file", [fine], out, None, (0, BEGIN)),
+        ("a file that is longer", [fine], out, BEGIN * 9, (0, BEGIN)),
+        ("of the standard input", [], out, None, (0, BEGIN)),
+        ("by a link", [fine], link, old, (0, BEGIN)),
+        ("a fault", [bad], out, None, (3, None)),
+        ("a fault, and a file from before", [bad], out, old, (3, old)),
+        ("a fault, by a link", [bad], link, old, (3, old)),
+        ("no lines", [none], out, old, (3, old)),
+        ("no lines, and a link to them", [none], dangling, None, (3, None)),
+        ("no lines, by another path of the file", [f"{folder}/./NONE"], none, None, (3, None)),
+        ("a folder that is missing", [fine], f"{folder}/NONE/record", None, (3, None)),
+        ("a folder", [fine], folder, None, (3, None)),
+        ("over the lines", [out], out, LINES, (3, LINES)),
+        ("over the lines, by a link", [out], link, LINES, (3, LINES)),
+        ("-", [fine], "-", None, (4, None)),
+    ]
+    wrong = 0
+    for name, words, path, before, wanted in cases:
+        for flag in ["-o", path], ["--output", path], [f"-o{path}"], [f"--output={path}"]:
+            with contextlib.suppress(FileNotFoundError):
+                os.remove(out)
+            if before is not None:
+                with open(out, "wb") as file:
+                    file.write(before)
+            run = subprocess.run([PROGRAM, "pack", *flag, *words], input=LINES, capture_output=True, check=False)
+            is_said = (run.stderr != b"") == (wanted[0] != 0)
+            found = None if path == folder else content(path)
+            if (run.returncode, found) != wanted or run.stdout or not is_said:
+                wrong += 1
+                print(f"pack -o, {name}: {run.returncode} {found} {run.stdout} {run.stderr}")
+    # A device that is full is no file to remove; a standard stream is no file to write over.
+    run = subprocess.run([PROGRAM, "pack", "-o", "/dev/full", fine], capture_output=True, check=False)
+    if run.returncode != 3 or not run.stderr or not os.path.exists("/dev/full"):
+        wrong += 1
+        print(f"pack -o /dev/full: {run.returncode} {run.stderr}")
+    for stream in "stdout", "stderr":
+        with open(out, "wb") as file:
+            file.write(old)
+            file.flush()
+            streams = {"stdout": subprocess.PIPE, "stderr": subprocess.PIPE, stream: file}
+            run = subprocess.run([PROGRAM, "pack", "-o", out, fine], check=False, **streams)
+        found = content(out)
+        if run.returncode != 3 or not found.startswith(old):
+            wrong += 1
+            print(f"pack -o over {stream}: {run.returncode} {found}")
+    return 4 * len(cases) + 3, wrong
+
+
 def main():
     with tempfile.TemporaryDirectory() as folder:
         for name, octets in FILES.items():
             with open(f"{folder}/{name}", "wb") as file:
                 file.write(octets)
         wrong = wrong_in(folder) + misjudged_in(folder) + misblamed_in(folder) + missaid_in(folder) + unlawful_in(folder)
+        packs, wrong_packs = packed_in(folder)
+        wrong += wrong_packs
     ends = len(list(alone.rows())) + 2 * len(list(alone.known()))
     judgements = len(judged.ROWS) + len(blamed.ROWS) + len(list(blamed.faults())) + ends + len(TABLES)
-    print(f"{len(ROWS) + len(FULL) + len(DEVICES) * (len(FULL) + 1) + judgements - wrong} passed, {wrong} failed")
+    print(f"{len(ROWS) + len(FULL) + len(DEVICES) * (len(FULL) + 1) + judgements + packs - wrong} passed, {wrong} failed")
     return int(wrong != 0)
 
 

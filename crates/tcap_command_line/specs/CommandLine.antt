@@ -60,6 +60,14 @@ end_rule name = choice_rule name letters
 abbrev pub file_rule : Text → Rule
 file_rule name = record (new_rule name) { long = Some name; action = Some Set; value_names = 1 }
 
+-- the option `-o`, also `--output`, whose value is the path of the file for a record
+abbrev pub output_rule : Rule
+output_rule = record (file_rule (codes "output")) { short = Some 111 }
+
+-- `pack`: one optional path, and the file for the record
+abbrev pub pack_shape : Shape
+pack_shape = record (new_shape (codes "pack")) { rules = left_out_rule (codes "LINES") ∷ output_rule ∷ [] }
+
 -- `check`: three required paths, and an end
 abbrev pub check_shape : Shape
 check_shape = record (new_shape (codes "check")) {
@@ -133,7 +141,7 @@ test_shape = record (new_shape (codes "test")) {
 -- the program with its eight subcommands
 unfoldable pub tool : App
 tool = with_subcommand (with_subcommand (with_subcommand (with_subcommand (with_subcommand (with_subcommand
-    (with_subcommand (with_subcommand bare_tool show_shape) (with_path (codes "pack") (codes "LINES")))
+    (with_subcommand (with_subcommand bare_tool show_shape) pack_shape)
     check_shape)
     judge_shape)
     explain_shape)

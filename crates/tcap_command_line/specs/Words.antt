@@ -20,6 +20,10 @@ use Rattle.tcap_command_line.specs.declared.words.WordsFault.TheVariants.{Words,
 abbrev pub named_by : {X : Type 0} → (List Row → X) → Option (Text × List Row) → Option (Text × X)
 named_by read = option_map (λ p. (p.0, read p.1))
 
+-- the first values of the arguments of `pack`
+abbrev pub packed_paths : List Row → Option Text × Option Text
+packed_paths rows = (first_of (codes "LINES") rows, first_of (codes "output") rows)
+
 -- the first values of the arguments of `check`
 abbrev pub checked_paths : List Row → Option Text × Option Text × Option Text
 checked_paths rows = (first_of (codes "RECORD") rows, first_of (codes "TABLE") rows, first_of (codes "CERT") rows)
@@ -55,7 +59,8 @@ shown_path rows =
 abbrev pub IsRequestBy : Option (Text × List Row) → Request → Type 0
 IsRequestBy named (Show path with_reasons of_lines) =
     named_by shown_path named ≡ Some (codes "show", (path_text path, with_reasons, of_lines))
-IsRequestBy named (Pack path) = named_by (first_of (codes "LINES")) named ≡ Some (codes "pack", path_text path)
+IsRequestBy named (Pack path output) =
+    named_by packed_paths named ≡ Some (codes "pack", (path_text path, path_text output))
 IsRequestBy named (Check taken table cert side) =
     (named_by checked_paths named ≡ Some (codes "check", (Some taken.now, Some table.now, Some cert.now)))
     × (end_value named ≡ option_map letter side)

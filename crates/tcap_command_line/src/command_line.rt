@@ -5,7 +5,7 @@ ghost use Rattle.clap.specs.Walk.{texts};
 ghost use Rattle.clap.specs.Words.{app_of, rule_of, shape_of};
 ghost use Rattle.clap.specs.declared.builder.command.Command.TheViews.{out-Command};
 ghost use Rattle.tcap_command_line.specs.CommandLine.{blame_shape, check_shape, choice_rule, end_rule, explain_shape, file_rule};
-ghost use Rattle.tcap_command_line.specs.CommandLine.{flag_rule, ids_rule, judge_shape, left_out_rule, linger_rule, needed_rule, show_shape};
+ghost use Rattle.tcap_command_line.specs.CommandLine.{flag_rule, ids_rule, judge_shape, left_out_rule, linger_rule, needed_rule, output_rule, pack_shape, show_shape};
 ghost use Rattle.tcap_command_line.specs.CommandLine.{tables_rule, test_shape, traces_rule, with_path};
 ghost use Rattle.tcap_command_line.specs.CommandLine.{placeless, placeless_rule, placeless_shape, tool};
 
@@ -105,6 +105,15 @@ fn file_arg<'a>(alloc: Global, name: &'a str, text: &'a str) -> Arg<'a>
         .action(ArgAction::Set)
         .value_name("FILE")
         .help(text)
+}
+
+/// Creates the option `-o`, whose value is the path of the file for a record.
+fn output_arg<'a>(alloc: Global) -> Arg<'a>
+    ensures rule { rule_of result ≡ output_rule }
+    ensures local { result.global ≡ false }
+{
+    let text = "Writes the record to this file, if no line has a fault";
+    file_arg(alloc, "output", text).short('o')
 }
 
 /// Creates the option `--of`, whose value is the letter of an end.
@@ -263,8 +272,7 @@ fn show_command<'a>(alloc: Global) -> Result<Command<'a>, AllocError>
 
 /// Creates the subcommand `pack`, or fails if memory runs out.
 fn pack_command<'a>(alloc: Global) -> Result<Command<'a>, AllocError>
-    ensures { IfOk result (λ c. (shape_of c ≡ with_path (codes "pack") (codes "LINES"))
-        × ((out-Command c).has_globals ≡ false)) }
+    ensures { IfOk result (λ c. (shape_of c ≡ pack_shape) × ((out-Command c).has_globals ≡ false)) }
 {
     let lines = left_out_arg(
         alloc,
@@ -273,8 +281,9 @@ fn pack_command<'a>(alloc: Global) -> Result<Command<'a>, AllocError>
     );
     Command::new(alloc, "pack")
         .about("Makes a record of lines of hex digits")
-        .after_help("Example: tcapjudge pack dialogue.hex > record")
-        .arg(lines)
+        .after_help("Example: tcapjudge pack -o record dialogue.hex")
+        .arg(lines)?
+        .arg(output_arg(alloc))
 }
 
 /// Creates the subcommand `table`, or fails if memory runs out.

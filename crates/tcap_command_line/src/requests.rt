@@ -44,8 +44,9 @@ pub enum Request<'a> {
     /// Print the entries of the record at this path, or on standard input. The flags ask for the reason why an entry
     /// or the record is refused, and say that the input is lines of hex digits.
     Show(Option<&'a str>, bool, bool),
-    /// Make a record from the lines of hex digits in the file at this path, or on standard input.
-    Pack(Option<&'a str>),
+    /// Make a record from lines of hex digits. The paths of the lines (None: standard input) and of the file for the
+    /// record (None: standard output).
+    Pack(Option<&'a str>, Option<&'a str>),
     /// Replay a certificate for a record: the paths of the record, the operation table and the certificate, and the
     /// end to judge alone, if given.
     Check(&'a str, &'a str, &'a str, Option<End>),

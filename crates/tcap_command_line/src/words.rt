@@ -266,7 +266,10 @@ fn request_of<'a>(
             let of_lines = is_set(found, "lines");
             Ok(Request::Show(path, with_reasons, of_lines))
         }
-        "pack" => Ok(Request::Pack(value_of(found, "LINES"))),
+        "pack" => {
+            let path = value_of(found, "LINES");
+            Ok(Request::Pack(path, value_of(found, "output")))
+        }
         "check" => {
             let record = needed(found, "RECORD");
             let table = needed(found, "TABLE");

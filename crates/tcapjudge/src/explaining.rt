@@ -1,6 +1,6 @@
 //! The subcommand `explain`: a verdict, its reasons, and a chart of the run.
 
-use crate::opening::{DASH, WRONG_WORDS, is_fault, is_read_twice, status_of, tell};
+use crate::opening::{DASH, WRONG_WORDS, hint_on, is_fault, is_read_twice, status_of};
 use crate::outputs::is_input;
 use crate::source::Source;
 use std::{fs, io};
@@ -54,8 +54,8 @@ fn explained(
     let mut writer = Counted::new(io::writer(rt));
     let ended = run_explain(alloc, entries, table, asked, &mut chart, &mut writer);
     if is_fault(&ended) {
-        tell(rt, Role::Record, paths.entries, entries);
-        tell(rt, Role::Table, paths.table, table);
+        hint_on(rt, Role::Record, paths.entries, entries);
+        hint_on(rt, Role::Table, paths.table, table);
     }
     finish(rt, paths.chart, &chart, ended)
 }
@@ -83,9 +83,9 @@ fn explained_check(
         &mut writer,
     );
     if is_fault(&ended) {
-        tell(rt, Role::Record, paths.entries, entries);
-        tell(rt, Role::Table, paths.table, table);
-        tell(rt, Role::Certificate, path, &mut cert);
+        hint_on(rt, Role::Record, paths.entries, entries);
+        hint_on(rt, Role::Table, paths.table, table);
+        hint_on(rt, Role::Certificate, path, &mut cert);
     }
     finish(rt, paths.chart, &chart, ended)
 }

@@ -1,6 +1,6 @@
 //! The words `judge`, `blame` and `check`: verdicts on a record, by an operation table.
 
-use crate::opening::{WRONG_WORDS, is_fault, is_read_twice, status_of, tell};
+use crate::opening::{WRONG_WORDS, hint_on, is_fault, is_read_twice, status_of};
 use crate::source::Source;
 use std::io;
 use tcap_ber::Counted;
@@ -11,15 +11,16 @@ use tcap_record::End;
 /// What is asked of a record and an operation table.
 #[derive(Clone, Copy)]
 pub(crate) enum Question {
-    /// The verdict on both ends, or on the given end alone; and whether the certificate that shows it to be lawful is printed too.
+    /// The verdict on both ends, or on the given end alone; and whether the certificate that shows it to be lawful is
+    /// printed too.
     Verdict(Option<End>, bool),
     /// The verdict, and which end is at fault.
     Blame,
 }
 
-/// Replays the certificate of the file `cert` over the record of the file `entries`, by the table of the file `table`; for one end
-/// alone if `judged` is given. The files are opened in the order in which they are read: the table, the certificate, the record. The
-/// line is printed at once. Returns the exit status.
+/// Replays the certificate of the file `cert` over the record of the file `entries`, by the table of the file `table`;
+/// for one end alone if `judged` is given. The files are opened in the order in which they are read: the table, the
+/// certificate, the record. The line is printed at once. Returns the exit status.
 pub(crate) fn check<'a>(
     rt: &HostRuntime,
     entries: &'a str,
@@ -47,15 +48,15 @@ pub(crate) fn check<'a>(
         &mut writer,
     );
     if is_fault(&ended) {
-        tell(rt, Role::Record, entries, &mut record);
-        tell(rt, Role::Table, table, &mut book);
-        tell(rt, Role::Certificate, cert, &mut certificate);
+        hint_on(rt, Role::Record, entries, &mut record);
+        hint_on(rt, Role::Table, table, &mut book);
+        hint_on(rt, Role::Certificate, cert, &mut certificate);
     }
     status_of(ended)
 }
 
-/// Answers what is asked of the record of the file `entries`, by the table of the file `table`. The table is opened first, since it is
-/// read first. What is printed goes out at once. Returns the exit status.
+/// Answers what is asked of the record of the file `entries`, by the table of the file `table`. The table is opened
+/// first, since it is read first. What is printed goes out at once. Returns the exit status.
 pub(crate) fn judge<'a>(
     rt: &HostRuntime,
     entries: &'a str,
@@ -80,8 +81,8 @@ pub(crate) fn judge<'a>(
         Question::Blame => run_blame(alloc, &mut record, &mut book, &mut writer),
     };
     if is_fault(&ended) {
-        tell(rt, Role::Record, entries, &mut record);
-        tell(rt, Role::Table, table, &mut book);
+        hint_on(rt, Role::Record, entries, &mut record);
+        hint_on(rt, Role::Table, table, &mut book);
     }
     status_of(ended)
 }

@@ -7,14 +7,17 @@ mod judging;
 mod not_utf8;
 mod opening;
 mod outputs;
+mod packing;
+mod progress;
 mod source;
 mod testing;
 mod writing;
 
 use crate::explaining::{Paths, explain};
 use crate::judging::{Question, check, judge};
-use crate::not_utf8::tell_no_text;
-use crate::opening::{DASH, named};
+use crate::not_utf8::report_no_text;
+use crate::opening::{DASH, file_path};
+use crate::packing::{make_record, pack_into};
 use crate::source::Source;
 use crate::testing::test;
 use std::alloc::Global;
@@ -24,12 +27,9 @@ use std::{env, io};
 use tcap_ber::{Counted, Write};
 use tcap_books::CARRIED_BOOK;
 use tcap_command_line::{Request, WordsFault, request};
-use tcap_diagnostics::{
-    FaultWriter, FirstOctets, LineReader, Role, run_lines, run_table, run_why, write_hint,
-    write_rule,
-};
+use tcap_diagnostics::{FirstOctets, Role, run_lines, run_table, run_why, write_hint};
 use tcap_explain::ExplainOptions;
-use tcap_lines::{MEMORY_LINE, Status, WriteFailed, run_pack, run_show};
+use tcap_lines::{MEMORY_LINE, Status, WriteFailed, run_show};
 
 /// The exit status if a word of the command line is not text, which `clap` cannot report.
 const NO_TEXT: u8 = 4;
@@ -58,7 +58,7 @@ fn run(rt: &HostRuntime) -> io::Result<u8> {
         Ok(args) => args,
         Err(error) if error.kind() == io::ErrorKind::OutOfMemory => return Err(error),
         Err(_) => {
-            tell_no_text(rt);
+            report_no_text(rt);
             return Ok(NO_TEXT);
         }
     };
@@ -84,7 +84,8 @@ fn answer(rt: &HostRuntime, request: Request) -> io::Result<u8> {
         Request::Show(path, why, true) => over_path(rt, Task::Lines(why), path),
         Request::Show(path, true, false) => over_path(rt, Task::Why, path),
         Request::Show(path, false, false) => over_path(rt, Task::Show, path),
-        Request::Pack(path) => over_path(rt, Task::Pack, path),
+        Request::Pack(path, None) => over_path(rt, Task::Pack, path),
+        Request::Pack(path, Some(output)) => Ok(pack_into(rt, path, output)),
         Request::Check(entries, table, cert, judged) => {
             Ok(check(rt, entries, table, cert, judged))
         }
@@ -119,13 +120,13 @@ fn answer(rt: &HostRuntime, request: Request) -> io::Result<u8> {
 
 /// Runs a task over the file with this path, or over the standard input if there is no path, or the path is `-`.
 fn over_path(rt: &HostRuntime, task: Task, path: Option<&str>) -> io::Result<u8> {
-    let path = named(path.unwrap_or(DASH));
+    let path = file_path(path.unwrap_or(DASH));
     let source = Source::open(rt, path.unwrap_or(DASH));
     over(rt, task, path, source)
 }
 
-/// Prints the rows of the table or the table set in the file with this path. Without a path, prints those of the set that
-/// the program carries.
+/// Prints the rows of the table or the table set in the file with this path. Without a path, prints those of the set
+/// that the program carries.
 fn show_table(rt: &HostRuntime, path: Option<&str>) -> io::Result<u8> {
     let task = match path {
         Some(_) => Task::Table,
@@ -201,7 +202,7 @@ fn done<W: Write, F: Write + Drop>(
 
 /// After a fault, writes to `faults` what the file with this path, or the standard input, looks like, if that does not
 /// fit its role.
-fn hint<F: Write>(
+pub(crate) fn hint<F: Write>(
     status: Status,
     role: Role,
     path: Option<&str>,
@@ -212,23 +213,6 @@ fn hint<F: Write>(
         write_hint(role, path, reader.first(), faults)?;
     }
     Ok(status)
-}
-
-/// Makes a record of lines. After the fault of a line, writes to `faults` the rule that the line breaks.
-fn make_record<W: Write, F: Write + Drop>(
-    alloc: Global,
-    path: Option<&str>,
-    reader: FirstOctets<Source>,
-    writer: &mut W,
-    faults: F,
-) -> Result<Status, WriteFailed> {
-    let mut kept = LineReader::new(alloc, reader);
-    let mut returned = FaultWriter::new(faults);
-    let status = run_pack(alloc, &mut kept, writer, &mut returned)?;
-    if status == Status::Fault {
-        write_rule(alloc, &kept, &mut returned)?;
-    }
-    hint(status, Role::Lines, path, kept.inner(), &mut returned)
 }
 
 fn main(rt: HostRuntime) -> ExitCode {

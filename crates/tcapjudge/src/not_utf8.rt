@@ -22,7 +22,7 @@ fn no_text(rt: &HostRuntime) -> Option<usize> {
 }
 
 /// Reports on standard error which word is not text.
-pub(crate) fn tell_no_text(rt: &HostRuntime) {
+pub(crate) fn report_no_text(rt: &HostRuntime) {
     let _ = match no_text(rt) {
         Some(number) => eprintln!(rt; "error: a word of the command is not text: word {number}"),
         None => eprintln!(rt; "error: a word of the command is not text"),

@@ -33,8 +33,8 @@ pub(crate) fn is_plain(rt: &HostRuntime, path: &str) -> bool {
     }
 }
 
-/// Returns whether several inputs are the standard input. If so, standard error names the first two. `names` are the words
-/// of the help for the inputs, and `inputs` the paths of each.
+/// Returns whether several inputs are the standard input. If so, standard error names the first two. `names` are the
+/// words of the help for the inputs, and `inputs` the paths of each.
 pub(crate) fn is_read_twice(rt: &HostRuntime, names: &[&str], inputs: &[&[&str]]) -> bool {
     let mut first = None;
     for (name, paths) in names.iter().zip(inputs) {
@@ -56,7 +56,7 @@ pub(crate) fn is_read_twice(rt: &HostRuntime, names: &[&str], inputs: &[&[&str]]
 }
 
 /// Returns the words that name an input in a fault.
-pub(crate) fn shown<'a>(path: &'a str) -> &'a str {
+pub(crate) fn display_name<'a>(path: &'a str) -> &'a str {
     match path {
         DASH => "the standard input",
         _ => path,
@@ -64,7 +64,7 @@ pub(crate) fn shown<'a>(path: &'a str) -> &'a str {
 }
 
 /// Returns the path of an input, or None if it is the standard input.
-pub(crate) fn named<'a>(path: &'a str) -> Option<&'a str> {
+pub(crate) fn file_path<'a>(path: &'a str) -> Option<&'a str> {
     match path {
         DASH => None,
         _ => Some(path),
@@ -89,24 +89,24 @@ pub(crate) fn is_same(rt: &HostRuntime, one: &str, other: &str) -> bool {
 
 /// Writes on standard error, after a fault, what the file with this path looks like, if that does not fit its role. If
 /// nothing of a plain file was read yet, reads its first octets.
-pub(crate) fn tell(rt: &HostRuntime, role: Role, path: &str, reader: &mut FirstOctets<Source>) {
+pub(crate) fn hint_on(rt: &HostRuntime, role: Role, path: &str, reader: &mut FirstOctets<Source>) {
     if reader.first().is_empty() && path != DASH && is_plain(rt, path) {
         let mut piece = [0; LOOKED_AT];
         let _ = reader.read(&mut piece);
     }
-    tell_text(rt, role, path, reader.first());
+    hint_on_text(rt, role, path, reader.first());
 }
 
 /// Writes on standard error what a file that begins with these octets looks like, if that does not fit its role.
-pub(crate) fn tell_text(rt: &HostRuntime, role: Role, path: &str, octets: &[u8]) {
+pub(crate) fn hint_on_text(rt: &HostRuntime, role: Role, path: &str, octets: &[u8]) {
     let mut faults = Counted::new(rt.stderr());
-    let _ = write_hint(role, named(path), octets, &mut faults);
+    let _ = write_hint(role, file_path(path), octets, &mut faults);
 }
 
 /// Writes hints on the codes of the table with this path to standard error.
-pub(crate) fn tell_codes(rt: &HostRuntime, path: &str, table: &[u8]) {
+pub(crate) fn hint_on_codes(rt: &HostRuntime, path: &str, table: &[u8]) {
     let mut faults = Counted::new(rt.stderr());
-    let _ = write_code_hints(rt.alloc(), shown(path), table, &mut faults);
+    let _ = write_code_hints(rt.alloc(), display_name(path), table, &mut faults);
 }
 
 /// Returns whether a run ended with a fault.

@@ -43,8 +43,8 @@ pub(crate) fn stand_ins(rt: &HostRuntime) -> [Option<File>; 3] {
     ]
 }
 
-/// Returns whether a standard stream is the plain file with this path. A terminal does not count: a stream and an output
-/// may share it.
+/// Returns whether a standard stream is the plain file with this path. A terminal does not count: a stream and an
+/// output may share it.
 fn is_stream(rt: &HostRuntime, stream: &str, path: &str) -> bool {
     is_plain(rt, stream) && is_same(rt, stream, path)
 }
@@ -92,8 +92,25 @@ fn taken_by<'a>(
     None
 }
 
+/// Returns the path of the input, or of a standard stream, that is the file `output`.
+pub(crate) fn overwritten_by<'a>(
+    rt: &HostRuntime,
+    input: &'a str,
+    output: &str,
+) -> Option<&'a str> {
+    if let Some(input) = input_of(rt, &[input], output) {
+        return Some(input);
+    }
+    for stream in [PRINTED, FAULTS] {
+        if is_stream(rt, stream, output) {
+            return Some(stream);
+        }
+    }
+    None
+}
+
 /// Reports on standard error that a file is not written, because it is the file `other`.
-fn tell_overwritten(rt: &HostRuntime, path: &str, other: &str) {
+pub(crate) fn report_overwritten(rt: &HostRuntime, path: &str, other: &str) {
     let _ = eprint!(rt;
         "error: what is said would be written over a file that is read, or twice into one: {path}"
     );
@@ -111,7 +128,7 @@ fn is_overwritten(rt: &HostRuntime, test: &Test) -> bool {
             continue;
         };
         if let Some(other) = taken_by(rt, test, &written[..number], *path) {
-            tell_overwritten(rt, *path, other);
+            report_overwritten(rt, *path, other);
             return true;
         }
     }
@@ -119,18 +136,18 @@ fn is_overwritten(rt: &HostRuntime, test: &Test) -> bool {
 }
 
 /// Puts `text` in place of what a file holds, if it was opened.
-fn begun(
+fn begin_output(
     rt: &HostRuntime,
     opened: Result<Option<Output>, Stop>,
     text: &str,
 ) -> Result<Option<Output>, Stop> {
-    Output::begun(rt, opened?, text)
+    Output::begin(rt, opened?, text)
 }
 
 impl Outputs {
     /// Opens the output files and empties all that could be opened, if each is a separate file. That of JUnit XML then
-    /// says that the run did not end. Two paths of one missing file look different, so this is checked again when all files
-    /// exist. If this fails, standard error says why.
+    /// says that the run did not end. Two paths of one missing file look different, so this is checked again when all
+    /// files exist. If this fails, standard error says why.
     pub(crate) fn open(rt: &HostRuntime, test: &Test) -> Result<Outputs, Stop> {
         if is_overwritten(rt, test) {
             return Err(Stop::Write);
@@ -141,9 +158,9 @@ impl Outputs {
         if is_overwritten(rt, test) {
             return Err(Stop::Write);
         }
-        let json = begun(rt, json, "");
-        let html = begun(rt, html, "");
-        let junit = begun(rt, junit, NOT_ENDED);
+        let json = begin_output(rt, json, "");
+        let html = begin_output(rt, html, "");
+        let junit = begin_output(rt, junit, NOT_ENDED);
         Ok(Outputs {
             json: json?,
             html: html?,

@@ -73,7 +73,7 @@ impl Source {
 }
 
 impl Read for Source {
-    ghost untold = { λ _. None };
+    ghost remaining = { λ _. None };
 
     ghost failures = { λ source. source.failures };
 

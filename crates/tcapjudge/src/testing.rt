@@ -6,64 +6,24 @@ ghost use Rattle.tcap_traces.specs.Verdict.{status_of};
 ghost use Rattle.tcap_report.specs.Counts.{HasJudged, worst_of};
 ghost use Rattle.tcapjudge.specs.TestStatus.{AreCounted, IsStatus, IsWorst};
 
-use crate::opening::{DASH, WRONG_WORDS, is_folder, is_read_twice, shown, tell_codes, tell_text};
+use crate::opening::{
+    DASH, WRONG_WORDS, display_name, hint_on_codes, hint_on_text, is_folder, is_read_twice,
+};
 use crate::outputs::{INPUT, Outputs, stand_ins};
+use crate::progress::Progress;
 use crate::source::Source;
-use crate::writing::{Output, Sink, tell_unprinted};
+use crate::writing::{Output, Sink, report_unprinted};
 use std::alloc::AllocError;
 use std::fmt::Display;
 use std::io::Read as _;
-use std::time::Instant;
 use std::{fs, io};
 use tcap_ber::Write;
 use tcap_books::{AMBIGUOUS, Book, CARRIED_BOOK, CLASH};
 use tcap_command_line::{Ids, Test, VERSION};
 use tcap_diagnostics::Role;
 use tcap_dialogues::Reuse;
-use tcap_report::{
-    Junit, Lines, Page, Sinks, Stop, Sum, TraceOptions, Watch, report_unread, run_trace,
-};
+use tcap_report::{Junit, Lines, Page, Sinks, Stop, Sum, TraceOptions, report_unread, run_trace};
 use tcap_traces::Verdict;
-
-/// A progress report on standard error, once a second.
-#[derive(Drop)]
-struct Progress<'a> {
-    rt: &'a HostRuntime,
-    is_asked: bool,
-    last: Option<Instant>,
-}
-
-impl<'a> Progress<'a> {
-    /// Creates a progress report that has written nothing yet.
-    fn new(rt: &'a HostRuntime, test: &Test) -> Progress<'a> {
-        Progress {
-            rt,
-            is_asked: test.progress,
-            last: None,
-        }
-    }
-}
-
-impl Watch for Progress<'_> {
-    fn look(&mut self, sum: &Sum) {
-        if !self.is_asked {
-            return;
-        }
-        let Ok(now) = Instant::now(self.rt) else {
-            return;
-        };
-        if let Some(last) = self.last {
-            if now.saturating_duration_since(last).as_secs() == 0 {
-                return;
-            }
-        }
-        self.last = Some(now);
-        let mut text = String::new(self.rt.alloc());
-        if sum.push(&mut text).is_ok() {
-            let _ = eprint!(self.rt; "{text}");
-        }
-    }
-}
 
 /// The tables that judge the dialogues.
 #[derive(Drop)]
@@ -142,7 +102,7 @@ impl Given {
         if let (Some(table), Some(path)) = (self.book.tables().get(number), paths.get(file)) {
             table.push_words(text, place)?;
             text.push_str(" of ")?;
-            text.push_str(shown(*path))?;
+            text.push_str(display_name(*path))?;
         }
         Ok(())
     }
@@ -179,11 +139,11 @@ fn octets_of(rt: &HostRuntime, path: &str) -> io::Result<Vec<u8>> {
 fn read_path(rt: &HostRuntime, path: &str) -> Result<Result<Book, String>, Stop> {
     let octets = match octets_of(rt, path) {
         Ok(octets) => octets,
-        Err(error) => return Ok(Err(told_fault(rt, Some(path), &error)?)),
+        Err(error) => return Ok(Err(report_fault(rt, Some(path), &error)?)),
     };
     let read = read_book(rt, path, &octets)?;
     if read.is_ok() {
-        tell_codes(rt, path, &octets);
+        hint_on_codes(rt, path, &octets);
     }
     Ok(read)
 }
@@ -215,11 +175,11 @@ fn clear_book(
     given: Given,
 ) -> Result<Result<Book, String>, Stop> {
     if given.book.is_ambiguous() {
-        return Ok(Err(told_fault(rt, None, &AMBIGUOUS)?));
+        return Ok(Err(report_fault(rt, None, &AMBIGUOUS)?));
     }
     if let Some(pair) = given.book.clash() {
         let why = given.clash_words(rt, paths, pair)?;
-        return Ok(Err(told_fault(rt, None, &why)?));
+        return Ok(Err(report_fault(rt, None, &why)?));
     }
     Ok(Ok(given.book))
 }
@@ -229,18 +189,22 @@ fn read_book(rt: &HostRuntime, name: &str, text: &[u8]) -> Result<Result<Book, S
     match Book::from_json(rt.alloc(), text) {
         Ok(book) => Ok(Ok(book)),
         Err(fault) => {
-            let why = told_fault(rt, Some(name), &fault)?;
-            tell_text(rt, Role::Book, name, text);
+            let why = report_fault(rt, Some(name), &fault)?;
+            hint_on_text(rt, Role::Book, name, text);
             Ok(Err(why))
         }
     }
 }
 
 /// Writes a fault of the table `name`, or of all tables together, on standard error. Returns the text.
-fn told_fault<E: Display>(rt: &HostRuntime, name: Option<&str>, fault: &E) -> Result<String, Stop> {
+fn report_fault<E: Display>(
+    rt: &HostRuntime,
+    name: Option<&str>,
+    fault: &E,
+) -> Result<String, Stop> {
     let mut why = String::new(rt.alloc());
     if let Some(name) = name {
-        why.push_str(shown(name))?;
+        why.push_str(display_name(name))?;
         why.push_str(": ")?;
     }
     if write!(why, "{fault}").is_err() {
@@ -250,21 +214,30 @@ fn told_fault<E: Display>(rt: &HostRuntime, name: Option<&str>, fault: &E) -> Re
     Ok(why)
 }
 
+/// Returns the number of octets of the plain file with this path, if there is one.
+fn size_of(rt: &HostRuntime, path: &str) -> Option<u64> {
+    match fs::metadata(rt, path) {
+        Ok(found) if path != DASH && found.is_file() => Some(found.len()),
+        _ => None,
+    }
+}
+
 /// The reason why a directory is no trace.
 const IS_FOLDER: &str = "it is a directory";
 
 /// Judges the trace with this path. If a table is refused, the trace is not read, and is an error for that reason.
-fn test_path<W: Write, J: Lines, P: Watch>(
+fn test_path<W: Write, J: Lines>(
     rt: &HostRuntime,
     path: &str,
     asked: TraceOptions,
     refused: &Option<String>,
-    sinks: &mut Sinks<W, J, P>,
+    sinks: &mut Sinks<W, J, Progress>,
 ) -> Result<Verdict, Stop>
     ensures judged { IfOk result (λ verdict. HasJudged (verdict ∷ []) sinks.old.sum.now sinks.new.sum.now) }
     ensures refused { is_some refused.now ≡ true → IfOk result (λ verdict. verdict ≡ verdicts.Error) }
 {
     let alloc = rt.alloc();
+    sinks.watch.begin(size_of(rt, path));
     if let Some(why) = refused {
         return report_unread(alloc, asked, why, sinks);
     }
@@ -288,11 +261,11 @@ fn test_path<W: Write, J: Lines, P: Watch>(
 }
 
 /// Judges all traces, writes the line of the sum, and returns the worst verdict on a trace.
-fn test_all<W: Write, J: Lines, P: Watch>(
+fn test_all<W: Write, J: Lines>(
     rt: &HostRuntime,
     test: &Test,
     tables: &Tables,
-    sinks: &mut Sinks<W, J, P>,
+    sinks: &mut Sinks<W, J, Progress>,
 ) -> Result<Verdict, Stop>
     ensures each { OnOk result (AreCounted (length test.now.traces.items) sinks.old.sum.now sinks.new.sum.now) }
     ensures worst { IfOk result (λ verdict. verdict ≡ worst_of sinks.new.sum.now) }
@@ -329,11 +302,11 @@ fn write_junit(output: Option<&mut Output>, junit: &Junit) -> Result<(), Stop> {
 }
 
 /// Judges all traces with these sinks, and ends the reports on them.
-fn test_over<W: Write, P: Watch>(
+fn test_over<W: Write>(
     rt: &HostRuntime,
     test: &Test,
     tables: &Tables,
-    sinks: &mut Sinks<W, Output, P>,
+    sinks: &mut Sinks<W, Output, Progress>,
 ) -> Result<Verdict, Stop>
     ensures each { OnOk result (AreCounted (length test.now.traces.items) sinks.old.sum.now sinks.new.sum.now) }
     ensures worst { IfOk result (λ verdict. verdict ≡ worst_of sinks.new.sum.now) }
@@ -344,7 +317,7 @@ fn test_over<W: Write, P: Watch>(
 }
 
 /// Begins the page, if it is asked for.
-fn begun<'a>(html: Option<&'a mut Output>) -> Result<Option<Page<'a, Output>>, Stop> {
+fn begin_page<'a>(html: Option<&'a mut Output>) -> Result<Option<Page<'a, Output>>, Stop> {
     match html {
         Some(output) => Ok(Some(Page::begin(output)?)),
         None => Ok(None),
@@ -367,7 +340,7 @@ fn tested(
     let mut counted = *sum;
     let mut text = Sink::new(io::writer(rt));
     let mut watch = Progress::new(rt, test);
-    let page = begun(html)?;
+    let page = begin_page(html)?;
     let mut sinks = Sinks {
         text: &mut text,
         json,
@@ -378,7 +351,7 @@ fn tested(
     };
     let ended = test_over(rt, test, tables, &mut sinks);
     *sum = *sinks.sum;
-    tell_unprinted(rt, &text);
+    report_unprinted(rt, &text);
     ended
 }
 

@@ -31,13 +31,13 @@ impl<W: io::Write> Sink<W> {
     /// Writes what the writer keeps back.
     fn flush(&mut self) -> Result<(), Failed> {
         let ended = self.writer.flush();
-        self.noted(ended)
+        self.note_failure(ended)
     }
 }
 
 impl<W> Sink<W> {
     /// Keeps the error of a call, if it failed, and counts the failure.
-    fn noted(&mut self, ended: io::Result<()>) -> Result<(), Failed>
+    fn note_failure(&mut self, ended: io::Result<()>) -> Result<(), Failed>
         ensures { CountsFailure self.old.failures self.new.failures result }
     {
         match ended {
@@ -58,13 +58,13 @@ impl<W: io::Write> Write for Sink<W> {
 
     fn write_all(&mut self, octets: &[u8]) -> Result<(), Failed> {
         let ended = self.writer.write_all(octets);
-        self.noted(ended)
+        self.note_failure(ended)
     }
 }
 
 /// Reports on standard error why standard output can't be written, if it can't. A pipe that its reader closed, as
 /// `head` does, is not reported.
-pub(crate) fn tell_unprinted<W>(rt: &HostRuntime, sink: &Sink<W>) {
+pub(crate) fn report_unprinted<W>(rt: &HostRuntime, sink: &Sink<W>) {
     match &sink.error {
         Some(error) if error.kind() != io::ErrorKind::BrokenPipe => {
             let _ = eprintln!(rt; "error: standard output can't be written: {error}");
@@ -97,13 +97,13 @@ impl Lines for Output {
 }
 
 /// Reports on standard error why the file with this path can't be written.
-fn unwritten(rt: &HostRuntime, path: &str, error: io::Error) -> Stop {
+fn report_write_failure(rt: &HostRuntime, path: &str, error: io::Error) -> Stop {
     let _ = eprintln!(rt; "error: {path}: {error}");
     Stop::Write
 }
 
-/// Puts `text` in place of what a plain file holds. What is written next goes over it. Other files keep nothing, and get
-/// nothing.
+/// Puts `text` in place of what a plain file holds. What is written next goes over it. Does nothing to other files,
+/// such as pipes.
 fn begin(file: &File, text: &str) -> io::Result<()> {
     if file.metadata()?.is_file() {
         file.set_len(0)?;
@@ -129,7 +129,7 @@ impl Output {
         };
         let file = match OpenOptions::new().write(true).create(true).open(rt, path) {
             Ok(file) => file,
-            Err(error) => return Err(unwritten(rt, path, error)),
+            Err(error) => return Err(report_write_failure(rt, path, error)),
         };
         let Ok(buffer) = BufWriter::new(rt.alloc(), file) else {
             return Err(Stop::Memory);
@@ -142,9 +142,9 @@ impl Output {
         }))
     }
 
-    /// Puts `text` in place of what a plain file holds, if there is one. What is written next goes over it. If this fails,
-    /// standard error says why.
-    pub(crate) fn begun(
+    /// Puts `text` in place of what a plain file holds, if there is one, and returns the file. What is written next
+    /// goes over it. If this fails, standard error says why.
+    pub(crate) fn begin(
         rt: &HostRuntime,
         output: Option<Output>,
         text: &str,
@@ -154,7 +154,7 @@ impl Output {
         };
         match begin(output.sink.writer.get_ref(), text) {
             Ok(()) => Ok(Some(output)),
-            Err(error) => Err(unwritten(rt, &output.path, error)),
+            Err(error) => Err(report_write_failure(rt, &output.path, error)),
         }
     }
 
@@ -163,7 +163,7 @@ impl Output {
         self.sink.write_all(octets)?;
         self.sink.flush()?;
         let ended = cut(self.sink.writer.get_ref(), octets.len());
-        self.sink.noted(ended)
+        self.sink.note_failure(ended)
     }
 
     /// Writes the rest of a file, if there is one. If a write failed, standard error says why.
@@ -185,7 +185,7 @@ impl Output {
         let _ = buffer.into_parts();
         match ended {
             Ok(()) => Ok(()),
-            Err(error) => Err(unwritten(rt, &path, error)),
+            Err(error) => Err(report_write_failure(rt, &path, error)),
         }
     }
 }

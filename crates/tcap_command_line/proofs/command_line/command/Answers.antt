@@ -2,13 +2,13 @@ use Rattle.std.proofs.Common.{◌≡◌, ◌∙◌, ap, ap₂, true, codes}
 use Rattle.std.proofs.lemmas.Result.{IfOk-weaker}
 use Rattle.clap.specs.Words.{App, Shape, app_of, shape_of, with_subcommand}
 use Rattle.clap.specs.Simple.{app_of_fields}
-use Rattle.tcap_command_line.specs.CommandLine.{bare_tool, blame_shape, check_shape, explain_shape, judge_shape, placeless, placeless_shape, show_shape, tool, with_path}
+use Rattle.tcap_command_line.specs.CommandLine.{bare_tool, blame_shape, check_shape, explain_shape, judge_shape, pack_shape, placeless, placeless_shape, show_shape, tool, with_path}
 use Rattle.tcap_command_line.proofs.command_line.command.Goals as goal
 
 -- the tool with these four subcommands
 abbrev with_four : Shape → Shape → Shape → Shape → App
 with_four check judge explain test = with_subcommand (with_subcommand (with_subcommand (with_subcommand (with_subcommand
-    (with_subcommand (with_subcommand (with_subcommand bare_tool show_shape) (with_path (codes "pack") (codes "LINES")))
+    (with_subcommand (with_subcommand (with_subcommand bare_tool show_shape) pack_shape)
     check)
     judge)
     explain)

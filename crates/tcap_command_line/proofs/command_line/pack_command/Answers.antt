@@ -13,7 +13,10 @@ returns c =
     let about_local =
     ap (λ (f : Command-F Command). f.has_globals) c.after_help.ensures
     ∙ ap (λ (f : Command-F Command). f.has_globals) c.about.ensures ∙ c.new.ensures.local in
-    IfOk-weaker c.arg.result _ _ (λ r h. (
-      ap (λ (a : App). a.top) (h.shape c.left_out_arg-lines.ensures.local ∙ ap₂ with_rule about_is c.left_out_arg-lines.ensures.rule),
-      h.globals ∙ ap₂ (λ a b. a || b) about_local c.left_out_arg-lines.ensures.local,
-    )) c.arg.ensures
+    let with_lines = c.in_ok-arg.ensures.shape c.left_out_arg-lines.ensures.local
+    ∙ ap₂ with_rule about_is c.left_out_arg-lines.ensures.rule in
+    let lines_local = c.in_ok-arg.ensures.globals ∙ ap₂ (λ a b. a || b) about_local c.left_out_arg-lines.ensures.local in
+    IfOk-weaker c.arg-2.result _ _ (λ r h. (
+      ap (λ (a : App). a.top) (h.shape c.output_arg.ensures.local ∙ ap₂ with_rule with_lines c.output_arg.ensures.rule),
+      h.globals ∙ ap₂ (λ a b. a || b) lines_local c.output_arg.ensures.local,
+    )) c.arg-2.ensures

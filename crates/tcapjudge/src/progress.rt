@@ -1,0 +1,143 @@
+//! Progress of `test`, on standard error.
+
+use std::alloc::AllocError;
+use std::time::Instant;
+use tcap_command_line::Test;
+use tcap_report::{Sum, Watch};
+
+/// What was read when a report was written.
+#[derive(Clone, Copy)]
+struct Reading {
+    time: Instant,
+    /// The messages of all traces so far.
+    messages: u64,
+    /// The octets of the trace so far. None if another trace has begun since.
+    octets: Option<u64>,
+}
+
+/// A progress report on standard error, at most once a second.
+#[derive(Drop)]
+pub(crate) struct Progress<'a> {
+    rt: &'a HostRuntime,
+    is_asked: bool,
+    /// The last report, if there was one.
+    last: Option<Reading>,
+    /// The number of octets of the trace that were read.
+    octets: u64,
+    /// The number of octets of the trace, if it is a plain file.
+    size: Option<u64>,
+}
+
+impl<'a> Progress<'a> {
+    /// Creates a progress report that has written nothing yet.
+    pub(crate) fn new(rt: &'a HostRuntime, test: &Test) -> Progress<'a> {
+        Progress {
+            rt,
+            is_asked: test.progress,
+            last: None,
+            octets: 0,
+            size: None,
+        }
+    }
+
+    /// Begins a trace, of this many octets if that is known.
+    pub(crate) fn begin(&mut self, size: Option<u64>) {
+        self.octets = 0;
+        self.size = size;
+        if let Some(last) = &mut self.last {
+            last.octets = None;
+        }
+    }
+
+    /// Appends the line of the sum and, if an earlier report was written, the speed since then.
+    fn push(
+        &self,
+        text: &mut String,
+        sum: &Sum,
+        waiting: usize,
+        now: Reading,
+    ) -> Result<(), AllocError> {
+        sum.push(text)?;
+        match self.last {
+            Some(last) => self.push_speed(text, waiting, now, last),
+            None => Ok(()),
+        }
+    }
+
+    /// Appends a line with the messages a second since `last`, the number of dialogues that are not judged yet and, if
+    /// the size of the trace is known, how much of it was read.
+    fn push_speed(
+        &self,
+        text: &mut String,
+        waiting: usize,
+        now: Reading,
+        last: Reading,
+    ) -> Result<(), AllocError> {
+        let passed = now.time.saturating_duration_since(last.time);
+        let millis = u64::try_from(passed.as_millis()).unwrap_or(u64::MAX);
+        let messages = now.messages.saturating_sub(last.messages);
+        let speed = messages.saturating_mul(1000) / millis.max(1);
+        write!(
+            text,
+            "  {speed} messages a second, {waiting} dialogues not judged yet"
+        )?;
+        match self.size {
+            Some(size) if self.octets <= size => self.push_rest(text, size, millis, last)?,
+            _ => {}
+        }
+        text.push_str("\n")
+    }
+
+    /// Appends how much of a trace of `size` octets was read. If octets were read in the last `millis` milliseconds,
+    /// appends how many seconds the rest takes at this speed.
+    fn push_rest(
+        &self,
+        text: &mut String,
+        size: u64,
+        millis: u64,
+        last: Reading,
+    ) -> Result<(), AllocError> {
+        let percent = self.octets.saturating_mul(100) / size.max(1);
+        write!(text, "; {percent} % of the trace is read")?;
+        let read = match last.octets {
+            Some(octets) => self.octets.saturating_sub(octets),
+            None => 0,
+        };
+        let rest = size.saturating_sub(self.octets);
+        if read > 0 && rest > 0 {
+            let left = rest.saturating_mul(millis) / read / 1000;
+            write!(text, ", {left} s to its end")?;
+        }
+        Ok(())
+    }
+}
+
+impl Watch for Progress<'_> {
+    fn read(&mut self, octets: usize) {
+        self.octets = self.octets.saturating_add(octets as u64);
+    }
+
+    fn look(&mut self, sum: &Sum, waiting: usize) {
+        if !self.is_asked {
+            return;
+        }
+        let Ok(time) = Instant::now(self.rt) else {
+            return;
+        };
+        if let Some(last) = self.last {
+            if time.saturating_duration_since(last.time).as_secs() == 0 {
+                return;
+            }
+        }
+        let now = Reading {
+            time,
+            messages: sum.messages(),
+            octets: Some(self.octets),
+        };
+        let mut text = String::new(self.rt.alloc());
+        if self.push(&mut text, sum, waiting, now).is_ok() {
+            let _ = eprint!(self.rt; "{text}");
+        }
+        self.last = Some(now);
+    }
+}
