@@ -80,9 +80,12 @@ def progress(_, folder):
             time.sleep(0.5)
         told, status = len(ran.stdout.read()), ran.wait()
         lasted, said = time.monotonic() - begin, ran.stderr.read().decode().splitlines()
-    judged = [int(found[1]) for found in (re.search("; 6000 messages, ([0-9]+) dialogues: ", it) for it in said) if found]
+    sums, speeds = ([it for it in said if it.startswith("  ") == is_speed] for is_speed in (False, True))
+    judged = [int(found[1]) for found in (re.search("; 6000 messages, ([0-9]+) dialogues: ", it) for it in sums) if found]
     checks.holds(f"it was blocked: {told} more octets", told > 1 << 16)
-    checks.holds(f"{len(said)} lines in {lasted} seconds", len(said) <= lasted + 1)
+    checks.holds(f"{len(sums)} sums in {lasted} seconds", len(sums) <= lasted + 1)
+    wanted = [f"  0 messages a second, {3000 - count} dialogues not judged yet; 100 % of the trace is read" for count in judged[-len(speeds) + 1:]]
+    checks.same("speeds after the first, each after a sum", (len(speeds), speeds[1:]), (len(sums) - 1, wanted))
     checks.holds(f"while it judges: {judged}", len(judged) >= 4 and judged == sorted(set(judged)))
     checks.same("status", status, 1)
     return checks

@@ -23,7 +23,7 @@ impl<'a> Octets<'a> {
 }
 
 impl Read for Octets<'_> {
-    ghost untold = { λ octets. Some octets.rest.now };
+    ghost remaining = { λ octets. Some octets.rest.now };
 
     ghost failures = { λ _. 0 };
 

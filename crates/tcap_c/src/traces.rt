@@ -12,7 +12,7 @@ use crate::options::Rules;
 use std::alloc::{AllocError, Global};
 use tcap_ber::{Counted, Failed, Write};
 use tcap_books::{AMBIGUOUS, Book, BookFault, CARRIED_BOOK, CLASH};
-use tcap_report::{Sinks, Stop, Sum, TraceOptions, Watch, report_unread, run_trace};
+use tcap_report::{NoWatch, Sinks, Stop, Sum, TraceOptions, report_unread, run_trace};
 use tcap_traces::Verdict;
 
 /// The name of the trace in each line.
@@ -28,11 +28,11 @@ const NO_OPERATIONS: &[u8] = b"{\"operations\":[]}";
 /// The lines of JSON so far.
 type Lines = Counted<Vec<u8>>;
 
-/// A writer that drops all octets, and an observer that does nothing.
+/// A writer that drops all octets.
 #[derive(Drop)]
-struct NoWatch;
+struct NoText;
 
-impl Write for NoWatch {
+impl Write for NoText {
     ghost taken = { λ _. None };
 
     ghost failures = { λ _. 0 };
@@ -40,10 +40,6 @@ impl Write for NoWatch {
     fn write_all(&mut self, _octets: &[u8]) -> Result<(), Failed> {
         Ok(())
     }
-}
-
-impl Watch for NoWatch {
-    fn look(&mut self, _sum: &Sum) {}
 }
 
 /// Reads a table set, or the carried set if the text is empty. Returns the fault if it has one, in words, and
@@ -81,7 +77,7 @@ fn write_lines(
 ) -> Result<Verdict, Stop>
     ensures { IsErr trace.entry → IfOk result (λ verdict. verdict ≡ Verdict.Error) }
 {
-    let (mut text, mut watch, mut sum) = (NoWatch, NoWatch, Sum::new());
+    let (mut text, mut watch, mut sum) = (NoText, NoWatch, Sum::new());
     let mut sinks = Sinks {
         text: &mut text,
         json: Some(lines),

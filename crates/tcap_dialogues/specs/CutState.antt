@@ -157,6 +157,10 @@ pub record IsCutOf (reuse : Reuse) (n : ℕ) (s : Courses) (sent : IdOf → Bool
   pub name : Course → ℕ
   pub held : IsCutState s name sent kept
 
+-- the number of live dialogues that a cut keeps
+abbrev pub live_count : Cut → ℕ
+live_count kept = length kept.live.entries
+
 -- The cut keeps what the segment with these headings requires.
 abbrev pub IsCut : Reuse → List Heading → Cut → Type 0
 IsCut reuse headings kept =

@@ -8,7 +8,7 @@ ghost use Rattle.tcap_dialogues.specs.Course.{Course, Courses, Heading, begins_n
 ghost use Rattle.tcap_dialogues.specs.DialoguesOfList.{IdOf, is_among};
 ghost use Rattle.tcap_dialogues.specs.CutDialogues.{HandsOver};
 ghost use Rattle.tcap_dialogues.specs.HeadingReading.{heading_read};
-ghost use Rattle.tcap_dialogues.specs.CutState.{AreApart, HoldsLive, HoldsOver, IsCut, IsCutState, IsTakenOut, after_done, with_name};
+ghost use Rattle.tcap_dialogues.specs.CutState.{AreApart, HoldsLive, HoldsOver, IsCut, IsCutState, IsTakenOut, after_done, live_count, with_name};
 
 use crate::complete_dialogue::CompleteDialogue;
 use crate::heading::HeadingView;
@@ -110,6 +110,13 @@ impl Cut {
         self.release(past, done)?;
         self.release(given_up, done)?;
         self.join(heading)
+    }
+
+    /// Returns the number of live dialogues.
+    pub fn live_count(&self) -> usize
+        ensures { result ≡ live_count self.now }
+    {
+        self.live.len()
     }
 
     /// Adds each transaction ID of an end from which an entry of the segment was sent.

@@ -33,4 +33,4 @@ pub use junit::{Junit, NOT_ENDED};
 pub use page::Page;
 pub use sinks::{Lines, Sinks};
 pub use sum::Sum;
-pub use trace::{TraceOptions, Watch, run_trace};
+pub use trace::{NoWatch, TraceOptions, Watch, run_trace};

@@ -16,7 +16,7 @@ use tcap_traces::{Case, JudgedDialogue, Verdict};
 
 /// A writer of lines that may keep some of them back for a while.
 pub trait Lines: Write {
-    /// Writes the lines that are kept back.
+    /// Writes the lines that are still in a buffer.
     ///
     /// # Errors
     /// `Failed` if the writer fails.
@@ -157,8 +157,8 @@ impl<W: Write, J: Lines, P> Sinks<'_, W, J, P> {
         Ok(())
     }
 
-    /// Ends the reports on all traces: writes the object of the run as JSON, and ends the page. `version` is that of the
-    /// program.
+    /// Ends the reports on all traces: writes the object of the run as JSON, and ends the page. `version` is that of
+    /// the program.
     ///
     /// # Errors
     /// `Stop::Memory` if memory runs out, `Stop::Write` if a sink fails.

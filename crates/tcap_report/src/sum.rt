@@ -130,6 +130,13 @@ impl Sum {
         self.traces.worst
     }
 
+    /// Returns the number of messages.
+    pub fn messages(&self) -> u64
+        ensures { result ≡ self.now.messages }
+    {
+        self.messages
+    }
+
     /// Appends the line with the sum over all traces.
     ///
     /// # Errors

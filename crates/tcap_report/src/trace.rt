@@ -18,7 +18,7 @@ use crate::fault::{FormFault, Halt, Stop};
 use crate::sinks::{Lines, Sinks};
 use crate::sum::{Counts, Sum};
 use crate::trace_reader::TraceReader;
-use crate::unheard::is_unheard;
+use crate::unheard::is_unheard_or_silent;
 use std::alloc::{AllocError, Global};
 use std::collections::BTreeMap;
 use std::mem;
@@ -49,8 +49,22 @@ pub struct TraceOptions<'a> {
 
 /// An observer of progress while traces are read.
 pub trait Watch {
-    /// Called when some octets were read or a dialogue was judged, with the sum so far.
-    fn look(&mut self, sum: &Sum);
+    /// Called when this many octets of a trace were read.
+    fn read(&mut self, octets: usize);
+
+    /// Called when some octets were read or a dialogue was judged, with the sum so far and the number of dialogues of
+    /// the trace that are not judged yet.
+    fn look(&mut self, sum: &Sum, waiting: usize);
+}
+
+/// An observer that ignores all progress.
+#[derive(Drop)]
+pub struct NoWatch;
+
+impl Watch for NoWatch {
+    fn read(&mut self, _octets: usize) {}
+
+    fn look(&mut self, _sum: &Sum, _waiting: usize) {}
 }
 
 /// The state of a trace that is being read.
@@ -135,7 +149,7 @@ impl<'a> Trace<'a> {
         }
     }
 
-    /// Returns the live dialogues of the segment, which has ended.
+    /// Takes the live dialogues out of the segment, and begins an empty one.
     fn finished(&mut self) -> Result<Vec<CompleteDialogue>, AllocError>
         ensures live { (reuse : Reusing) (headings : List Heading) → IsCut reuse headings self.old.cut
             → IfOk result (λ given. AreCompleteDialogues (courses_so_far reuse headings).live given.items) }
@@ -197,7 +211,7 @@ impl<'a> Trace<'a> {
 
     /// Judges the live dialogues after a fault of the trace's form. Those that are not over may lack entries, so they
     /// are reported only if they fail.
-    fn judge_over<W: Write, J: Lines, P: Watch>(
+    fn judge_after_fault<W: Write, J: Lines, P: Watch>(
         &mut self,
         sinks: &mut Sinks<W, J, P>,
     ) -> Result<(), Stop>
@@ -218,9 +232,12 @@ impl<'a> Trace<'a> {
         ensures judges { OnOk result (Judges (is_fault behind) given.items self.old self.new) }
         ensures same_sum { sinks.new.sum ≡ sinks.old.sum }
     {
+        let mut left = given.len();
         for gathered in given {
             self.judge(gathered, behind, sinks)?;
-            sinks.watch.look(&self.so_far(sinks.sum));
+            left = left.saturating_sub(1);
+            let waiting = self.cut.live_count().saturating_add(left);
+            sinks.watch.look(&self.so_far(sinks.sum), waiting);
         }
         Ok(())
     }
@@ -254,12 +271,12 @@ impl<'a> Trace<'a> {
     {
         let case = self.case_of(gathered, behind)?;
         let judged = judge(self.alloc, &case, self.options.book)?;
-        self.tell(&case, &judged, sinks)
+        self.report(&case, &judged, sinks)
     }
 
     /// Counts and reports the verdict on a dialogue. If a fault ends the trace before the dialogue is over, only a fail
     /// is counted and reported.
-    fn tell<W: Write, J: Lines, P: Watch>(
+    fn report<W: Write, J: Lines, P: Watch>(
         &mut self,
         case: &Case,
         judged: &JudgedDialogue,
@@ -288,7 +305,7 @@ impl<'a> Trace<'a> {
         self.dialogues.add(judged.verdict);
         if judged.verdict == Verdict::Pass
             && case.has_ids()
-            && is_unheard(judged, self.options.of)
+            && is_unheard_or_silent(judged, self.options.of)
         {
             self.unheard = self.unheard.saturating_add(1);
         }
@@ -350,9 +367,9 @@ impl<'a> Trace<'a> {
         sinks: &mut Sinks<W, J, P>,
     ) -> Result<(), Halt>
         ensures reads { (options : OptionsOf) → IsWithin options self.old → Reads options result self.new }
-        ensures nothing { R.untold reader.old ≡ Some [] → HasNothing octets.old
+        ensures nothing { R.remaining reader.old ≡ Some [] → HasNothing octets.old
             → OnOk result (self.new.readable ≡ self.old.readable) }
-        ensures all { OnOk result (IsAtEnd (R.untold reader.new) × (R.failures reader.new ≡ R.failures reader.old)) }
+        ensures all { OnOk result (IsAtEnd (R.remaining reader.new) × (R.failures reader.new ≡ R.failures reader.old)) }
         ensures same_sum { sinks.new.sum ≡ sinks.old.sum }
     {
         let mut piece = [0; PIECE_LEN];
@@ -361,10 +378,13 @@ impl<'a> Trace<'a> {
                 Ok(returned) => returned,
                 Err(Failed) => return Err(self.unreadable()?),
             };
+            sinks.watch.read(returned);
             octets.feed(&piece[..returned])?;
             self.read_on(octets, sinks)?;
             sinks.flush()?;
-            sinks.watch.look(&self.so_far(sinks.sum));
+            sinks
+                .watch
+                .look(&self.so_far(sinks.sum), self.cut.live_count());
             if returned == 0 {
                 return match self.end_segment(None, sinks) {
                     Ok(()) => Ok(()),
@@ -420,9 +440,9 @@ pub fn run_trace<R: Read, W: Write, J: Lines, P: Watch>(
     ensures judged { IfOk result (λ verdict.
         IsJudged options.entry verdict sinks.old.sum.now sinks.new.sum.now) }
     ensures counted { IfOk result (λ verdict. HasJudged (verdict ∷ []) sinks.old.sum.now sinks.new.sum.now) }
-    ensures nothing { R.untold reader.old ≡ Some [] → IfOk result (λ verdict. verdict ≡ verdicts.Error) }
+    ensures nothing { R.remaining reader.old ≡ Some [] → IfOk result (λ verdict. verdict ≡ verdicts.Error) }
     ensures all { IfOk result (λ verdict. (verdict ≡ verdicts.Error)
-        ⊎ IsAtEnd (R.untold reader.new) × (R.failures reader.new ≡ R.failures reader.old)) }
+        ⊎ IsAtEnd (R.remaining reader.new) × (R.failures reader.new ≡ R.failures reader.old)) }
     ensures same_sum { sinks.new.sum.ghost_name ≡ sinks.old.sum.ghost_name }
 {
     let mut trace = Trace::new(alloc, options);
@@ -430,7 +450,7 @@ pub fn run_trace<R: Read, W: Write, J: Lines, P: Watch>(
     match trace.read_all(reader, &mut octets, sinks) {
         Ok(()) => trace.end_whole(sinks),
         Err(Halt::Form(fault)) => {
-            trace.judge_over(sinks)?;
+            trace.judge_after_fault(sinks)?;
             trace.end(Some(fault), octets.hint(), sinks)
         }
         Err(Halt::Stop(stop)) => Err(stop),

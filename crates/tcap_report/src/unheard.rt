@@ -14,7 +14,7 @@ fn is_silent(judged: &JudgedDialogue, end: End, said: EndResult) -> bool {
 }
 
 /// Returns whether an end that is asked passes, but missed a message of its peer or sent nothing.
-pub(crate) fn is_unheard(judged: &JudgedDialogue, of: Option<End>) -> bool {
+pub(crate) fn is_unheard_or_silent(judged: &JudgedDialogue, of: Option<End>) -> bool {
     match judged.ends {
         Some(ends) => [End::A, End::B].iter().any(|end| is_asked(of, *end)
             && is_silent(judged, *end, ends.of(*end))),

@@ -8,7 +8,7 @@ use tcap_ber::Counted;
 use tcap_books::Book;
 use tcap_dialogues::Reuse;
 use tcap_record::{End, read_record};
-use tcap_report::{Junit, Page, Sinks, Sum, TraceOptions, Watch, run_trace};
+use tcap_report::{Junit, NoWatch, Page, Sinks, Sum, TraceOptions, run_trace};
 use tcap_traces::{Circumstances, EndResult, Ends, Verdict, judge_dialogue, trace_verdict};
 use tcap_vectors::octets_of;
 
@@ -110,14 +110,6 @@ pub(crate) fn is_trace_verdict(
         _ => return None,
     };
     is_verdict(alloc, trace_verdict(false, readable, worst), wanted)
-}
-
-/// An observer that does nothing.
-#[derive(Drop)]
-struct NoWatch;
-
-impl Watch for NoWatch {
-    fn look(&mut self, _sum: &Sum) {}
 }
 
 /// Checks a row of `traces`: lines, a book, and the verdict. The report is written in each of its formats.

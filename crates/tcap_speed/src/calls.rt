@@ -10,16 +10,8 @@ use tcap_explain::{ExplainOptions, run_explain};
 use tcap_judge::{blame_record, blame_status, run_blame, run_check, run_judge};
 use tcap_lines::{Status, WriteFailed, run_pack, run_show};
 use tcap_record::{End, read_record};
-use tcap_report::{Sinks, Stop, Sum, TraceOptions, Watch, run_trace};
+use tcap_report::{NoWatch, Sinks, Stop, Sum, TraceOptions, run_trace};
 use tcap_traces::Verdict;
-
-/// An observer that ignores all progress.
-#[derive(Drop)]
-struct NoWatch;
-
-impl Watch for NoWatch {
-    fn look(&mut self, _sum: &Sum) {}
-}
 
 /// Returns the status that corresponds to a verdict on a trace.
 fn status_of(verdict: Verdict) -> Status {
@@ -196,12 +188,12 @@ impl Answers {
     pub(crate) fn check(&mut self, alloc: Global, octets: &[u8], certificate: &str) {
         let mut writer = Counted::new(Vec::new(alloc));
         let mut table = Counted::new(TABLE.as_bytes());
-        let mut told = Counted::new(certificate.as_bytes());
+        let mut certificate_reader = Counted::new(certificate.as_bytes());
         let ended = run_check(
             alloc,
             &mut Counted::new(octets),
             &mut table,
-            &mut told,
+            &mut certificate_reader,
             None,
             &mut writer,
         );

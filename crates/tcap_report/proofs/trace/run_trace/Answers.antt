@@ -18,12 +18,12 @@ returns-in-Ok-clause-judged g c =
 pub returns-in-Err-Form-clause-judged : goal.returns-in-Err-Form-clause-judged
 returns-in-Err-Form-clause-judged g c =
     let options = c.args.options in
-    let trace = c.judge_over.new.self in
+    let trace = c.judge_after_fault.new.self in
     both_ok c.end.result _ _ _
     (λ verdict is sum.
     broken_is_judged options trace verdict c.args.sinks.now.sum.now c.end.new.sinks.sum.now
-    (c.in_ok-judge_over-in-Err-Form.ensures.stopped options
+    (c.in_ok-judge_after_fault-in-Err-Form.ensures.stopped options
     (rw c.in-Err-Form.field-0-is at (c.in-Err-Form.ensures.reads options (begins options c.new-trace.result c.new-trace.ensures.between)))) is
     (sum ∙ ap (λ s. with_verdict verdict (with_read trace.dialogues trace.messages trace.unheard s.now))
-    (c.in_ok-judge_over-in-Err-Form.ensures.same_sum ∙ c.in-Err-Form.ensures.same_sum)))
+    (c.in_ok-judge_after_fault-in-Err-Form.ensures.same_sum ∙ c.in-Err-Form.ensures.same_sum)))
     c.end.ensures.is c.end.ensures.sum

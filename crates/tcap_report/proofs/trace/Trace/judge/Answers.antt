@@ -26,14 +26,14 @@ returns-clause-judges g c =
     let verdict = verdict_of_case old.options c.case_of.new.self.options case c.args.gathered judged.verdict (ap (λ t. t.options) rest) is.0 is.2 is.3 is.4
     c.in_ok-judged.ensures.verdict in
     let returned = not (is_fault case.behind) || is_fail judged.verdict in
-    on_ok_weaker c.tell.result
+    on_ok_weaker c.report.result
     (λ counted.
-    one_judged (is_fault c.args.behind) dialogue old c.tell.new.self
-    (c.tell.ensures.options ∙ ap (λ t. t.options) rest) (c.tell.ensures.cut ∙ ap (λ t. t.cut) rest)
-    (c.tell.ensures.messages ∙ ap (λ t. t.messages) rest) (c.tell.ensures.readable ∙ ap (λ t. t.readable) rest)
+    one_judged (is_fault c.args.behind) dialogue old c.report.new.self
+    (c.report.ensures.options ∙ ap (λ t. t.options) rest) (c.report.ensures.cut ∙ ap (λ t. t.cut) rest)
+    (c.report.ensures.messages ∙ ap (λ t. t.messages) rest) (c.report.ensures.readable ∙ ap (λ t. t.readable) rest)
     (record { few = c.in_ok-case.ensures.few; over = over_is_more c.args.gathered.over c.args.behind case.behind is.1 })
     (counted ∙ ap (λ t. cond returned (with_one judged.verdict t.dialogues) t.dialogues) rest
     ∙ ap (λ v. cond returned (with_one v old.dialogues) old.dialogues) verdict
     ∙ ap (λ b. cond b (with_one (verdict_on old.options dialogue) old.dialogues) old.dialogues)
     (told_as c.args.behind case.behind old.options dialogue judged.verdict returned is.1 verdict refl)))
-    c.tell.ensures.counted
+    c.report.ensures.counted

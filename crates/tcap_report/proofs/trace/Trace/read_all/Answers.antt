@@ -12,7 +12,7 @@ loop-preserved g c = record {
   within = search rules;
   nothing = λ none fresh.
       let before = c.loop.invariant.nothing none fresh in
-      let (returned, left) = nothing_told (g.R.Read.untold c.loop.reader) (g.R.Read.untold c.read.new.self) _ before.0 c.in-Ok.ensures.tells in
+      let (returned, left) = nothing_told (g.R.Read.remaining c.loop.reader) (g.R.Read.remaining c.read.new.self) _ before.0 c.in-Ok.ensures.tells in
       let empty : pieces_left c.feed.new.self.pieces [] ≡ no_more =
       c.in_ok-feed.ensures.left [] ∙ ap (λ l. pieces_left c.loop.octets.pieces (l ++ [])) returned ∙ before.1 in
       let (after, same) = c.in_ok-read_on.ensures.nothing empty in

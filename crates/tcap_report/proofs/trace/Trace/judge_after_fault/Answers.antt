@@ -1,7 +1,7 @@
 use Rattle.std.proofs.Common.{◌≡◌}
 use Rattle.std.proofs.lemmas.Result.{on_ok_weaker}
 use Rattle.tcap_report.proofs.TraceLaws.{stops}
-use Rattle.tcap_report.proofs.trace.Trace.judge_over.Goals as goal
+use Rattle.tcap_report.proofs.trace.Trace.judge_after_fault.Goals as goal
 
 pub returns-clause-stopped : goal.returns-clause-stopped
 returns-clause-stopped g c = λ options within.
