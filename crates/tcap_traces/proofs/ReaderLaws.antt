@@ -113,7 +113,7 @@ too_long r (octet ∷ octets) lines is none long more =
 
 pub unfinished_steps : (r : PieceReader) (result : Result Step PieceFault) → r.form ≡ forms.Lines → HasNoNewline (rest r)
     → (r.ended ≡ true → rest r ≡ [])
-    → (length (rest r) ≤ line_limit + 1 → result ≡ Ok steps.Needs)
+    → (length (rest r) ≤ line_limit + 1 → result ≡ Ok steps.NeedsMore)
     → (line_limit + 1 < length (rest r) → result ≡ Err (faults.Form (InLine r.line TooLong)))
     → Steps r result r
 unfinished_steps r result lines none nothing short long = by (nat_lt (line_limit + 1) (length (rest r))) refl

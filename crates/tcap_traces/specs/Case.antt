@@ -1,8 +1,8 @@
 -- Which dialogue does a case describe, and what is asked of it?
-use Rattle.std.specs.Prelude.{ℕ, Bool, List, ◌||◌, Option, is_some, option_copied, option_map, slice_get}
+use Rattle.std.specs.Prelude.{ℕ, Bool, List, ◌||◌, Option, is_some, option_copied, option_map, slice_get, unwrap_or}
 use Rattle.std.specs.BTreeSet.{BTreeSet}
 use Rattle.tcap_dialogues.specs.declared.complete_dialogue.CompleteDialogue.{CompleteDialogue}
-use Rattle.tcap_traces.specs.Pieces.{TraceEntry}
+use Rattle.tcap_traces.specs.Pieces.{TraceEntry, further}
 use Rattle.tcap_traces.specs.declared.case.NextItem.{NextItem}
 use Rattle.tcap_traces.specs.declared.case.NextItem.TheVariants as behinds
 use Rattle.tcap_traces.specs.declared.case.Case.{Case}
@@ -40,6 +40,14 @@ gathered_as g entries after under_way in_use unread = record {
 abbrev pub dialogue_in : Case → Dialogue
 dialogue_in case =
     gathered_as case.gathered case.entries.items (after_of case.behind) case.under_way (is_some case.in_use) case.unread
+
+-- the number of the dialogue: that of its first entry in the trace
+abbrev pub number_of : Case → ℕ
+number_of case = further case.before (unwrap_or (slice_get case.gathered.numbers.items 0) 0)
+
+-- the number of the last earlier dialogue of the segment with one of its IDs, if there is one
+abbrev pub earlier_of : Case → Option ℕ
+earlier_of case = option_map (further case.before) case.gathered.earlier
 
 -- what is asked of it
 abbrev pub question_in : Case → Question

@@ -23,8 +23,8 @@ use Rattle.tcap_traces.specs.Pieces.{TraceEntry}
 use Rattle.tcap_traces.specs.TableChoice.{Choice, choice}
 use Rattle.tcap_traces.specs.Verdict.{result_of, verdict_asked}
 
--- What comes after the entries of a dialogue: it is over, so that what follows does not matter; a quiet mark; the end of
--- the trace; or a fault of the trace's form, which ends the trace.
+-- What comes after the entries of a dialogue: it is over, so that what follows does not matter; a quiet mark; the end
+-- of the trace; or a fault of the trace's form, which ends the trace.
 pub data After : Type 0 where
   More : After
   MarkAfter : After
@@ -52,8 +52,8 @@ pub record Dialogue : Type 0 where
   -- the number in the segment of the first unreadable entry that may belong to it
   pub unread : Option ℕ
 
--- The options for a dialogue: the end that is judged, or both; whether no message of an earlier dialogue is in transit when
--- one of its IDs is used again; and whether a dialogue should be complete.
+-- The options for a dialogue: the end that is judged, or both; whether no message of an earlier dialogue is in transit
+-- when one of its IDs is used again; and whether a dialogue should be complete.
 pub record Question : Type 0 where
   pub of : Option Side
   pub settled : Bool
@@ -125,8 +125,9 @@ goes_to_one (Some entry) = by entry.body
     by (Good m) = is_some (dtid_in m)
     by body = false
 
--- Whether a message of an earlier dialogue with one of its IDs may have been in transit. If IDs are settled, none was if
--- the dialogue begins with a Begin and the owner of each such ID had sent from it.
+-- Whether a message of an earlier dialogue with one of its IDs may have been in transit. If IDs are settled, no message
+-- was in transit if the dialogue begins with a Begin, and each such ID is firm: its owner had sent from it, or an
+-- earlier dialogue with it began after the directive `under way`.
 abbrev pub comes_again : Question → Dialogue → Bool
 comes_again q d = d.again && not (q.settled && not d.unsettled && is_some (begun_by (first_heading d)))
 

@@ -32,7 +32,7 @@ line_as (lines.Comment text) = Comment text.now
 line_as (lines.Directive directive) = Directive (statement_of directive)
 line_as lines.Mark = QuietMark
 line_as (lines.Message sender octets) = Message sender octets.items
-line_as lines.Nothing = Nothing
+line_as lines.Invalid = Nothing
 
 -- a piece
 abbrev pub piece_as : APiece → Piece
@@ -68,8 +68,8 @@ pieces_left r more = pieces_by r (rest r ++ more)
 abbrev pub NoMatterWhat : PieceReader → (List ℕ → Type 0) → Type 0
 NoMatterWhat r P = (more : List ℕ) → (r.ended ≡ true → more ≡ []) → P more
 
--- A piece is returned: it is the next one. None is returned: more octets are needed, or there are no more pieces. A fault
--- of the form is returned: it is there, and no piece comes before it.
+-- A piece is returned: it is the next one. None is returned: more octets are needed, or there are no more pieces. A
+-- fault of the form is returned: it is there, and no piece comes before it.
 abbrev pub Returns : PieceReader → Result (Option APiece) PieceFault → PieceReader → Type 0
 Returns old (Ok (Some piece)) new =
     NoMatterWhat old (λ more. pieces_left old more ≡ after (piece_as piece) (pieces_left new more))
@@ -110,9 +110,9 @@ Takes progress line statement (Err faults.Memory) = Unit {0}
 -- A step over a line found a piece; or it passed over a line without one; or it needs more octets.
 abbrev pub Steps : PieceReader → Result Step PieceFault → PieceReader → Type 0
 Steps old (Ok (steps.Found piece)) new = Returns old (Ok (Some piece)) new
-Steps old (Ok steps.Passed) new =
+Steps old (Ok steps.Skipped) new =
     NoMatterWhat old (λ more. pieces_left old more ≡ pieces_left new more) × (length (rest new) < length (rest old))
-Steps old (Ok steps.Needs) new = Returns old (Ok None) new
+Steps old (Ok steps.NeedsMore) new = Returns old (Ok None) new
 Steps old (Err fault) new = Returns old (Err fault) new
 
 -- the pieces of a record with these octets; the first octet has this offset

@@ -29,23 +29,23 @@ answers = Sent sides.B (answer None None)
 abbrev ends : Item
 ends = Sent sides.B (end_to 1 None)
 
-abbrev ends_there : Item
-ends_there = Sent sides.A (end_to 2 None)
+abbrev ends_elsewhere : Item
+ends_elsewhere = Sent sides.A (end_to 2 None)
 
 -- whether B sent a message to A's ID 01 in these entries, since A's last Begin
-abbrev heard : List (Result Item Reason) → Bool
-heard items = is_addressed sides.A (id 1) false items
+abbrev is_addressed_to_a : List (Result Item Reason) → Bool
+is_addressed_to_a items = is_addressed sides.A (id 1) false items
 
-pub nothing_is_heard : (heard [] ≡ false) × (heard (Ok begins ∷ []) ≡ false)
-    × (heard (Ok begins ∷ Err NoItem ∷ Ok ends_there ∷ Ok Item.Quiet ∷ []) ≡ false)
-nothing_is_heard = (refl, refl, refl)
+pub nothing_is_addressed : (is_addressed_to_a [] ≡ false) × (is_addressed_to_a (Ok begins ∷ []) ≡ false)
+    × (is_addressed_to_a (Ok begins ∷ Err NoItem ∷ Ok ends_elsewhere ∷ Ok Item.Quiet ∷ []) ≡ false)
+nothing_is_addressed = (refl, refl, refl)
 
-pub something_is_heard : (heard (Ok begins ∷ Ok answers ∷ []) ≡ true) × (heard (Ok ends ∷ Ok ends_there ∷ []) ≡ true)
-something_is_heard = (refl, refl)
+pub something_is_addressed : (is_addressed_to_a (Ok begins ∷ Ok answers ∷ []) ≡ true) × (is_addressed_to_a (Ok ends ∷ Ok ends_elsewhere ∷ []) ≡ true)
+something_is_addressed = (refl, refl)
 
 -- After another Begin of A, earlier messages do not count.
-pub begins_anew : (heard (Ok begins ∷ Ok ends ∷ Ok begins ∷ []) ≡ false)
-    × (heard (Ok begins ∷ Ok begins ∷ Ok answers ∷ []) ≡ true)
+pub begins_anew : (is_addressed_to_a (Ok begins ∷ Ok ends ∷ Ok begins ∷ []) ≡ false)
+    × (is_addressed_to_a (Ok begins ∷ Ok begins ∷ Ok answers ∷ []) ≡ true)
 begins_anew = (refl, refl)
 
 -- It depends on the ID, and on the end.

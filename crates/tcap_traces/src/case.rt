@@ -1,9 +1,10 @@
 //! A dialogue, and how it is judged.
 
-ghost use Rattle.std.specs.Prelude.{◌≡◌, ◌≤◌, ◌&&◌, List, None, IfOk, OnOk, is_some, length, map, nat_lt, not, option_copied, option_map, slice_get};
+ghost use Rattle.std.specs.Prelude.{◌≡◌, ◌≤◌, ◌&&◌, List, None, IfOk, OnOk, is_some, filter, length, map, nat_lt, not, option_and_then, option_copied, option_map, slice_get};
 ghost use Rattle.std.specs.List.{list_any};
 ghost use Rattle.tcap_dialogues.specs.HeadingReading.{heading_read};
-ghost use Rattle.tcap_traces.specs.Case.{after_of, chosen_as, dialogue_in, question_in};
+ghost use Rattle.tcap_record.specs.Ends.{is_entry_of};
+ghost use Rattle.tcap_traces.specs.Case.{after_of, chosen_as, dialogue_in, earlier_of, number_of, question_in};
 ghost use Rattle.tcap_traces.specs.Segments.{may_go_on, sends_one};
 ghost use Rattle.tcap_traces.specs.TableChoice.{choice};
 ghost use Rattle.tcap_traces.specs.Dialogue.{began, begun_by, body_of, circumstances, comes_again, ends_by, ends_on, entry_of, first_after, first_heading, goes_to_one, heading_in, is_after_directive, is_long, is_marked, is_open, judged_entries, most, verdict_by, verdict_on};
@@ -153,15 +154,17 @@ impl NextItem {
 
 impl Case {
     /// Returns its number, which is that of its first entry in the trace.
-    pub fn number(&self) -> u64 {
-        match self.gathered.numbers.first() {
-            Some(first) => self.before.saturating_add(*first),
-            None => self.before,
-        }
+    pub fn number(&self) -> u64
+        ensures { result ≡ number_of self.now }
+    {
+        let first = self.gathered.numbers.first().copied().unwrap_or(0);
+        self.before.saturating_add(first)
     }
 
     /// Returns the number of the last earlier dialogue of the segment with one of its IDs, if there is one.
-    pub fn earlier(&self) -> Option<u64> {
+    pub fn earlier(&self) -> Option<u64>
+        ensures { result ≡ earlier_of self.now }
+    {
         match self.gathered.earlier {
             Some(earlier) => Some(self.before.saturating_add(earlier)),
             None => None,
@@ -205,7 +208,8 @@ impl Case {
         }
     }
 
-    /// Returns whether the quiet mark after its entries is judged: there is one, and it has fewer entries than are judged.
+    /// Returns whether the quiet mark after its entries is judged: there is one, and it has fewer entries than are
+    /// judged.
     fn has_judged_mark(&self) -> bool
         ensures { result ≡ is_marked (dialogue_in self.now).after && nat_lt (length (dialogue_in self.now).entries) most }
     {
@@ -269,8 +273,8 @@ impl Case {
     }
 
     /// Returns whether one of its IDs was used before, and a message of the earlier use may have been in transit. With
-    /// the option `settled` none was if the dialogue begins with a Begin and the owner of each such ID had sent from
-    /// it.
+    /// the option `settled`, no message was in transit if the dialogue begins with a Begin, and each such ID is firm:
+    /// its owner had sent from it, or an earlier dialogue with it began after the directive `under way`.
     fn comes_again(&self) -> bool
         ensures { result ≡ comes_again (question_in self.now) (dialogue_in self.now) }
     {
@@ -381,7 +385,9 @@ pub fn begins(entries: &[TraceEntry]) -> Option<End>
 
 impl JudgedDialogue<'_> {
     /// Returns the name of the table, if it has one.
-    pub fn table_name(&self) -> Option<&str> {
+    pub fn table_name(&self) -> Option<&str>
+        ensures { option_map (λ s. s.now) result ≡ option_and_then (λ t. t.now.name) self.now.table }
+    {
         match self.table {
             Some(table) => table.name(),
             None => None,
@@ -390,7 +396,9 @@ impl JudgedDialogue<'_> {
 }
 
 /// Returns how many entries of a record an end sent.
-pub fn sent_by(record: &Record, end: End) -> usize {
+pub fn sent_by(record: &Record, end: End) -> usize
+    ensures { result ≡ length (filter (λ entry. is_entry_of «end» entry.side) «record».now.entries.items) }
+{
     record
         .entries
         .iter()

@@ -62,7 +62,8 @@ fn faulty_component<'a>(
     }
 }
 
-/// Returns the ID of an Invoke of the peer that a component answers, rejects or wrongly links to.
+/// Returns the invoke ID of the peer's Invoke that a component answers or, with an invoke problem, rejects. For
+/// `BadLink`, returns the linked ID of the Invoke.
 fn peer_invoke_id(kind: Kind, component: ComponentView) -> Option<i8>
     ensures { result ≡ peer_invoke_id kind (component_of component.entry) }
 {
@@ -176,7 +177,7 @@ fn depends_on_lack(
 }
 
 /// Returns whether there is an ID and it equals the other.
-fn is_that(found: Option<TransactionIdView>, id: TransactionIdView) -> bool
+fn is_same_id(found: Option<TransactionIdView>, id: TransactionIdView) -> bool
     ensures { result ≡ is_id id.entry.octets.now (id_of found.entry) }
 {
     match found {
@@ -200,9 +201,9 @@ fn is_addressed_with(end: End, id: TransactionIdView, so: bool, entry: &Entry) -
     match (entry.side, &entry.body) {
         (Some(sender), Body::Good(message)) => {
             if end.is(sender) {
-                so && !(is_begin(message) && is_that(message.otid(), id))
+                so && !(is_begin(message) && is_same_id(message.otid(), id))
             } else {
-                so || is_that(message.dtid(), id)
+                so || is_same_id(message.dtid(), id)
             }
         }
         _ => so,
@@ -221,7 +222,7 @@ fn is_addressed(end: End, id: TransactionIdView, before: &[Entry]) -> bool
     so
 }
 
-/// Returns whether there is an ID to which the peer sent no message.
+/// Returns whether there is an ID to which the peer sent no message since the end's last Begin from it.
 fn is_silent(end: End, id: Option<TransactionIdView>, before: &[Entry]) -> bool
     ensures { result ≡ is_silent end (id_of id.entry) (map item_of before.now) }
 {

@@ -239,7 +239,7 @@ pub fn judge_dialogue(
     requires few { length read.old.entries.items ≤ 100000 }
     ensures a { IfOk result (λ ends. ends.a ≡ result_of table.now circumstances read.old.entries.items sides.A) }
     ensures b { IfOk result (λ ends. ends.b ≡ result_of table.now circumstances read.old.entries.items sides.B) }
-    ensures so { IfOk result (λ ends. IsTrueResult sides.A table.now read.old.entries.items ends.a
+    ensures sound { IfOk result (λ ends. IsTrueResult sides.A table.now read.old.entries.items ends.a
         × IsTrueResult sides.B table.now read.old.entries.items ends.b) }
     ensures stays { OnOk result (read.new.entries.items ≡ read.old.entries.items) }
 {

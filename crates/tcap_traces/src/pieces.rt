@@ -144,7 +144,8 @@ impl Progress {
         }
     }
 
-    /// Takes an entry or a quiet mark in this line, and returns what was read after it. Fails if the trace was broken off.
+    /// Takes an entry or a quiet mark in this line, and returns what was read after it. Fails if the trace was broken
+    /// off.
     fn begin(self, line: u64) -> Result<Progress, PieceFault>
         ensures { Begins (entry_fault self) self line result }
     {
@@ -157,8 +158,8 @@ impl Progress {
         })
     }
 
-    /// Takes the octets of a message in this line, and returns what was read after it. `ended`: the line ends with a line
-    /// feed.
+    /// Takes the octets of a message in this line, and returns what was read after it. `ended`: the line ends with a
+    /// line feed.
     ///
     /// # Errors
     ///
@@ -388,9 +389,9 @@ pub(crate) enum Step {
     /// A piece.
     Found(Piece),
     /// Nothing: the line was an empty one or a comment.
-    Passed,
+    Skipped,
     /// Nothing: more octets are needed, or there are none.
-    Needs,
+    NeedsMore,
 }
 
 impl PieceReader {
@@ -482,7 +483,8 @@ impl PieceReader {
     }
 
     /// Passes over the line at the front, which has this many octets. `comment`: its text, if it is a comment.
-    fn pass(&mut self, count: usize, comment: Vec<u8>)
+    fn pass(&mut self, count: usize, comment: Vec<u8>) -> Step
+        ensures skipped { result ≡ Step.Skipped }
         ensures rest { rest self.new ≡ drop count (rest self.old) }
         ensures line { self.new.line ≡ further self.old.line 1 }
         ensures same { self.new ≡ record self.old { from = self.new.from; line = self.new.line; comment = comment } }
@@ -490,6 +492,21 @@ impl PieceReader {
         self.from = self.from.saturating_add(count);
         self.line = self.line.saturating_add(1);
         self.comment = comment;
+        Step::Skipped
+    }
+
+    /// Returns the piece of the line at the front, which has this many octets, and passes over the line. `progress`:
+    /// what was read after it.
+    fn take_line(&mut self, count: usize, progress: Progress, piece: Piece) -> Step
+        ensures found { result ≡ Step.Found piece }
+        ensures rest { rest self.new ≡ drop count (rest self.old) }
+        ensures line { self.new.line ≡ further self.old.line 1 }
+        ensures same { self.new ≡ record self.old { from = self.new.from; line = self.new.line; comment = self.new.comment; progress = progress } }
+        ensures comment { self.new.comment.items ≡ [] }
+    {
+        self.progress = progress;
+        self.pass(count, Vec::new(self.alloc));
+        Step::Found(piece)
     }
 
     /// Returns the next piece of a trace of lines.
@@ -501,8 +518,8 @@ impl PieceReader {
         for _ in 0..self.rest().len() {
             match self.step()? {
                 Step::Found(piece) => return Ok(Some(piece)),
-                Step::Passed => {}
-                Step::Needs => return Ok(None),
+                Step::Skipped => {}
+                Step::NeedsMore => return Ok(None),
             }
         }
         Ok(None)
@@ -523,51 +540,31 @@ impl PieceReader {
             return Err(in_line(number, LineRule::TooLong));
         }
         match read_trace_line(self.alloc, line.content)? {
-            TraceLine::Empty => {
-                self.pass(count, Vec::new(self.alloc));
-                Ok(Step::Passed)
-            }
+            TraceLine::Empty => Ok(self.pass(count, Vec::new(self.alloc))),
             TraceLine::Comment(text) => {
                 let comment = copied(self.alloc, text)?;
-                self.pass(count, comment);
-                Ok(Step::Passed)
+                Ok(self.pass(count, comment))
             }
-            TraceLine::Directive(directive) => match self
-                .progress
-                .take(self.alloc, number, directive)
-            {
-                Ok((piece, progress)) => {
-                    self.progress = progress;
-                    self.pass(count, Vec::new(self.alloc));
-                    Ok(Step::Found(piece))
-                }
-                Err(fault) => Err(fault),
-            },
-            TraceLine::Mark => match self.progress.begin(number) {
-                Ok(progress) => {
-                    self.progress = progress;
-                    self.pass(count, Vec::new(self.alloc));
-                    Ok(Step::Found(Piece::Mark(number)))
-                }
-                Err(fault) => Err(fault),
-            },
+            TraceLine::Directive(stated) => {
+                let (piece, progress) = self.progress.take(self.alloc, number, stated)?;
+                Ok(self.take_line(count, progress, piece))
+            }
+            TraceLine::Mark => {
+                let progress = self.progress.begin(number)?;
+                Ok(self.take_line(count, progress, Piece::Mark(number)))
+            }
             TraceLine::Message(sender, octets) => {
-                match self.progress.begin_message(number, line.ended, &octets) {
-                    Ok(progress) => {
-                        self.progress = progress;
-                        let comment = mem::replace(&mut self.comment, Vec::new(self.alloc));
-                        self.pass(count, Vec::new(self.alloc));
-                        Ok(Step::Found(Piece::Entry(TraceEntry {
-                            sender,
-                            octets,
-                            line: number,
-                            comment,
-                        })))
-                    }
-                    Err(fault) => Err(fault),
-                }
+                let progress = self.progress.begin_message(number, line.ended, &octets)?;
+                let comment = mem::replace(&mut self.comment, Vec::new(self.alloc));
+                let entry = TraceEntry {
+                    sender,
+                    octets,
+                    line: number,
+                    comment,
+                };
+                Ok(self.take_line(count, progress, Piece::Entry(entry)))
             }
-            TraceLine::Nothing => Err(in_line(number, LineRule::NoLine)),
+            TraceLine::Invalid => Err(in_line(number, LineRule::NoLine)),
         }
     }
 
@@ -578,18 +575,18 @@ impl PieceReader {
         front_line(self.rest(), self.ended)
     }
 
-    /// Returns that the line at the front needs more octets. The last octet may be a carriage return, which belongs to the
-    /// line's end.
+    /// Returns that the line at the front needs more octets. The last octet may be a carriage return, which belongs to
+    /// the line's end.
     ///
     /// # Errors
     ///
     /// The fault of a line that is too long, no matter how it ends.
     fn unfinished(&self) -> Result<Step, PieceFault>
-        ensures short { length (rest self.now) ≤ line_limit + 1 → result ≡ Ok Step.Needs }
+        ensures short { length (rest self.now) ≤ line_limit + 1 → result ≡ Ok Step.NeedsMore }
         ensures long { line_limit + 1 < length (rest self.now) → result ≡ Err (PieceFault.Form (FormRule.InLine self.now.line LineRule.TooLong)) }
     {
         if self.rest().len() <= LINE_LIMIT + 1 {
-            Ok(Step::Needs)
+            Ok(Step::NeedsMore)
         } else {
             Err(in_line(self.line, LineRule::TooLong))
         }

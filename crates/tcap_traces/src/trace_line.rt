@@ -13,7 +13,7 @@ use tcap_record::End;
 /// The meaning of a line of a trace.
 #[derive(Drop)]
 pub(crate) enum TraceLine<'a> {
-    /// Nothing.
+    /// An empty line.
     Empty,
     /// A comment, with its text.
     Comment(&'a [u8]),
@@ -23,8 +23,8 @@ pub(crate) enum TraceLine<'a> {
     Mark,
     /// The octets that an end sent.
     Message(End, Vec<u8>),
-    /// No line of a trace.
-    Nothing,
+    /// A line that breaks the rules of a trace.
+    Invalid,
 }
 
 /// Returns the text of a comment, given what comes after its `#`, without a space at its front.
@@ -57,15 +57,15 @@ fn message_of(
     ensures { IfOk result (λ line. line_as line ≡ message_of sender digits.now) }
 {
     let Some(sender) = sender else {
-        return Ok(TraceLine::Nothing);
+        return Ok(TraceLine::Invalid);
     };
     if digits.is_empty() {
-        return Ok(TraceLine::Nothing);
+        return Ok(TraceLine::Invalid);
     }
     match hex::decode(alloc, digits) {
         Ok(octets) => Ok(TraceLine::Message(sender, octets)),
         Err(FromHexError::OutOfMemory) => Err(AllocError),
-        Err(_) => Ok(TraceLine::Nothing),
+        Err(_) => Ok(TraceLine::Invalid),
     }
 }
 
@@ -81,6 +81,6 @@ pub(crate) fn read_trace_line(alloc: Global, line: &[u8]) -> Result<TraceLine<'_
         [b'#', text @ ..] => Ok(TraceLine::Comment(text_of(text))),
         [b'Q'] => Ok(TraceLine::Mark),
         [letter, b' ', digits @ ..] => message_of(alloc, end_in(*letter), digits),
-        _ => Ok(TraceLine::Nothing),
+        _ => Ok(TraceLine::Invalid),
     }
 }

@@ -22,8 +22,8 @@ returns-clause-b c =
     ∙ says_of_b c.args.table.now c.args.circumstances c.args.read.now.entries.items _ _ _ _ earlier.stays found.0 found.1
     (rw all at c.no_message_of-number.ensures) _ earlier.found.1
 
-pub returns-clause-so : goal.returns-clause-so
-returns-clause-so c =
+pub returns-clause-sound : goal.returns-clause-sound
+returns-clause-sound c =
     let found = c.in_ok-found.ensures in
     let earlier = c.in_ok-a.ensures in
     let all : c.len.result ≡ length c.args.read.now.entries.items = search rules in
