@@ -15,7 +15,7 @@ LOOKS = {
     ),
     "cert": (
         b'{"close":[],"expire":[],"fates":[1],"version":1}',
-        "a certificate, which `tcapjudge check` takes behind the table",
+        "a certificate, which `tcapjudge check` takes after the table",
         "cert",
     ),
     "other": (b'{"x":1}', "JSON, as an operation table or a certificate is", "table book cert"),
@@ -25,12 +25,12 @@ LOOKS = {
     "gzip": (bytes.fromhex("1f8b080000000000"), "a compressed file, which `gunzip` unpacks", ""),
     "marked": (
         b"\xef\xbb\xbfA 6203480101\n",
-        "a text behind a byte order mark, EF BB BF, which may not stand there",
+        "a text after a byte order mark, EF BB BF, which is not allowed",
         "",
     ),
     "marked_table": (
         b'\xef\xbb\xbf{"operations":[]}',
-        "a text behind a byte order mark, EF BB BF, which may not stand there",
+        "a text after a byte order mark, EF BB BF, which is not allowed",
         "",
     ),
     "ansi": (bytes.fromhex("e206c70401020304"), "TCAP of ANSI (T1.114), and a record holds that of ITU-T (Q.773)", ""),

@@ -200,7 +200,7 @@ class Scene:
 
     def whole(self, sort):
         messages = [*self.sending.told, self.message]
-        return self.counted(self.end, sort, messages, "in its messages to there and in this one")
+        return self.counted(self.end, sort, messages, "in its messages to its destination ID and in this one")
 
 
 # ---- the evidence for each kind

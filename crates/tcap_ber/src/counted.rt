@@ -73,14 +73,14 @@ impl<T: io::Write> Counted<T> {
 }
 
 impl<T: io::Read> Read for Counted<T> {
-    ghost untold = { λ device. T.remaining (counted_inner device) };
+    ghost remaining = { λ device. T.remaining (counted_inner device) };
 
     ghost failures = { counted_failures };
 
     fn read(&mut self, buffer: &mut [u8]) -> Result<usize, Failed> {
         for _ in 0..u64::MAX {
             match self.inner.read(buffer) {
-                Ok(told) => return Ok(told),
+                Ok(count) => return Ok(count),
                 Err(error) if error.kind() == ErrorKind::Interrupted => {}
                 Err(_) => break,
             }

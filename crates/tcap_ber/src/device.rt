@@ -11,7 +11,7 @@ pub struct Failed;
 /// A source of octets.
 pub trait Read {
     // The octets that are still to be read, if they are known.
-    ghost untold: { Self → Option (List ℕ) };
+    ghost remaining: { Self → Option (List ℕ) };
 
     // The number of failures, at most 2 ^ 64 - 1.
     ghost failures: { Self → ℕ };
@@ -23,8 +23,8 @@ pub trait Read {
     /// `Failed` if the device fails; no octet is read then.
     fn read(&mut self, buffer: &mut [u8]) -> Result<usize, Failed>
         ensures within { IfOk result (λ n. n ≤ length buffer.new) }
-        ensures tells { Tells (untold self.old) (untold self.new) result buffer.new }
-        ensures end { IfOk result (λ n. n ≡ 0 → 0 < length buffer.new → IsAtEnd (untold self.new)) }
+        ensures tells { Tells (remaining self.old) (remaining self.new) result buffer.new }
+        ensures end { IfOk result (λ n. n ≡ 0 → 0 < length buffer.new → IsAtEnd (remaining self.new)) }
         ensures counts { CountsFailure (failures self.old) (failures self.new) result };
 }
 

@@ -143,7 +143,7 @@ fn is_constructed(tag: &[u8]) -> bool
 ///
 /// `TooLong` at the tag if the length is over the limit, else the faults of [`length`] after the tag.
 fn behind_tag(window: Window, tag_len: usize) -> Result<Option<Header>, Fault>
-    requires there { tag_len ≤ length window.octets.now }
+    requires within { tag_len ≤ length window.octets.now }
     requires few { tag_len ≤ 5 }
     ensures exact { Gives (λ x. x) result (definite_behind (span window.entry) tag_len) }
     ensures within { IfOk result (λ found. IfSome found (λ h. h.len ≤ length window.entry.octets.now)) }

@@ -9,7 +9,7 @@ use crate::progress::Progress;
 /// Returns the octets left when a walk that is at the front of `octets` goes on to `next`.
 fn left(octets: &[u8], progress: Progress, next: Progress) -> &[u8]
     requires order { progress.at ≤ next.at }
-    requires there { next.at - progress.at ≤ length octets.now }
+    requires within { next.at - progress.at ≤ length octets.now }
     ensures { result.now ≡ drop (next.at - progress.at) octets.now }
 {
     &octets[next.at - progress.at..]

@@ -42,18 +42,18 @@ impl From<AllocError> for ReadError {
 /// `Failed` if the reader fails, `Memory` if memory runs out. All octets read before the error are in `octets`: memory
 /// is reserved before each read, so none is lost.
 pub fn read_to_end<R: Read>(reader: &mut R, octets: &mut Vec<u8>) -> Result<(), ReadError>
-    ensures appends { (told : List ℕ) × (octets.new.items ≡ octets.old.items ++ told)
-        × Consumes (R.untold reader.old) (R.untold reader.new) told }
-    ensures end { OnOk result (IsAtEnd (R.untold reader.new)) }
+    ensures appends { (more : List ℕ) × (octets.new.items ≡ octets.old.items ++ more)
+        × Consumes (R.remaining reader.old) (R.remaining reader.new) more }
+    ensures end { OnOk result (IsAtEnd (R.remaining reader.new)) }
     ensures counts { CountsReadFailure (R.failures reader.old) (R.failures reader.new) result }
 {
     let mut buffer = [0; BUFFER_LEN];
     loop {
         octets.reserve(BUFFER_LEN)?;
-        let told = reader.read(&mut buffer)?;
-        if told == 0 {
+        let count = reader.read(&mut buffer)?;
+        if count == 0 {
             return Ok(());
         }
-        octets.extend_from_slice(&buffer[..told])?;
+        octets.extend_from_slice(&buffer[..count])?;
     }
 }

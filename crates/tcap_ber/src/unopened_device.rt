@@ -22,7 +22,7 @@ impl Unopened {
 }
 
 impl Read for Unopened {
-    ghost untold = { λ _. None };
+    ghost remaining = { λ _. None };
 
     ghost failures = { unopened_failures };
 

@@ -52,7 +52,7 @@ pub fn outer(octets: &[u8]) -> Result<Outer, Fault>
 #[inline(always)]
 fn read_definite<'a>(window: Window<'a>, header: Header) -> Result<(Tlv<'a>, Window<'a>), Fault>
     requires tag { header.tag_len ≤ header.len }
-    requires there { header.len ≤ length window.octets.now }
+    requires within { header.len ≤ length window.octets.now }
     requires few { header.len + header.content_len ≤ content_limit + header_limit }
     ensures exact { Gives (λ x. (element x.0, span x.1)) result (definite_at (span window.entry) header) }
 {

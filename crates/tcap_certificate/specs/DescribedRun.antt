@@ -6,13 +6,12 @@ use Rattle.tcap_parts.specs.declared.component.Component.TheVariants.{Invoke}
 use Rattle.tcap_msg.specs.declared.message.AbortReason.TheVariants.{Cause}
 use Rattle.tcap_msg.specs.declared.message.Message.{Message}
 use Rattle.tcap_msg.specs.declared.message.Message.TheVariants.{Begin, Continue, End as EndMessage, Abort}
-use Rattle.tcap_msg.specs.Parts.{components_in}
+use Rattle.tcap_msg.specs.Parts.{components_in, otid_in}
 use Rattle.tcap_record.specs.declared.entry.End.{End as Side}
 use Rattle.tcap_end.specs.declared.half.HalfName.{HalfName}
 use Rattle.tcap_end.specs.declared.half.HalfName.TheVariants as names
 use Rattle.tcap_record.specs.Ends.{other}
 use Rattle.tcap_model.specs.World.{Item, Sent, has_quiet, is_side}
-use Rattle.tcap_model.specs.SinceMark.{originating}
 use Rattle.tcap_model.specs.Run.{Event, Sends, Receives, Replies, Loses, Expires, Closes, Quiet, Tells, option_then, only_if}
 use Rattle.tcap_certificate.specs.declared.certificate.Closing.{Closing}
 use Rattle.tcap_certificate.specs.declared.certificate.Expiry.{Expiry}
@@ -53,7 +52,7 @@ invoke_id _ = None
 abbrev pub expiry_by : Expiry → Item → Option Event
 expiry_by x (Sent sender message) =
     only_if (is_side x.side sender)
-    (option_then (originating message)
+    (option_then (otid_in message)
     (λ otid. option_then (option_then (slice_get (components_in message) x.component) invoke_id)
     (λ id. Some (Expires x.side (names.Own otid) id))))
 expiry_by x Item.Quiet = None

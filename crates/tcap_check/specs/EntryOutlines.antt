@@ -4,7 +4,7 @@ use Rattle.std.specs.Prelude.{ℕ, ◌+◌, ℤ, Bool, true, false, List, [], �
 use Rattle.std.specs.List.{list_any}
 use Rattle.tcap_msg.specs.declared.message.Message.{Message}
 use Rattle.tcap_msg.specs.declared.message.Message.TheVariants.{Begin}
-use Rattle.tcap_msg.specs.Parts.{components_in}
+use Rattle.tcap_msg.specs.Parts.{components_in, otid_in}
 use Rattle.tcap_end.specs.declared.half.HalfName.{HalfName}
 use Rattle.tcap_end.specs.declared.half.HalfName.TheVariants as names
 use Rattle.tcap_model.specs.World.{Item, Sent, is_side}
@@ -15,7 +15,6 @@ use Rattle.tcap_certificate.specs.declared.certificate.Expiry.{Expiry}
 use Rattle.tcap_check.specs.declared.outline.Outline.{Outline}
 use Rattle.tcap_check.specs.declared.outline.Outline.TheVariants as outlines
 use Rattle.tcap_certificate.specs.Certificate.{Certificate}
-use Rattle.tcap_model.specs.SinceMark.{originating}
 use Rattle.tcap_certificate.specs.DescribedRun.{half_begun, invoke_id}
 
 -- whether a message is a Begin
@@ -27,7 +26,7 @@ begins _ = false
 abbrev pub note_of : Message → Option MessageNote
 note_of message = option_map
     (λ otid. record { begins = begins message; otid = otid; invokes = map invoke_id (components_in message) })
-    (originating message)
+    (otid_in message)
 
 -- what is kept of an entry; its IDs are kept only if a listed event names the entry
 abbrev pub outline_of : Bool → Item → Outline

@@ -81,7 +81,7 @@ empty_seat = record { end = nothing; waiting = []; latest = 0 }
 
 -- two ends before the first step, with this report of their steps
 abbrev pub nothing_kept : Option ListedRun → Progress
-nothing_kept told = record { a = empty_seat; b = empty_seat; moves = 0; unheard = 0; steps = told }
+nothing_kept report = record { a = empty_seat; b = empty_seat; moves = 0; unheard = 0; steps = report }
 
 -- the progress with these further steps, if steps are listed
 abbrev pub with_steps : List Event → Progress → Progress
@@ -113,8 +113,8 @@ loss_listed judged side number p = lost_counted judged side (with_steps (Loses s
 abbrev pub discard_listed : Side → ℕ → EndFault → Progress → Progress
 discard_listed side number reason p =
     record p {
-      steps = option_map (λ told. with_one_discard number reason
-          (with_events (Loses side number ∷ []) told)) p.steps;
+      steps = option_map (λ report. with_one_discard number reason
+          (with_events (Loses side number ∷ []) report)) p.steps;
     }
 
 -- whether no message is kept, which means that the message will be lost

@@ -53,11 +53,11 @@ listed_run_of list = record { events = events_of list; discards = discards_of li
 
 -- the report with more events; none is a discard
 abbrev pub with_events : List Event → ListedRun → ListedRun
-with_events events told = record told { events = told.events ++ events }
+with_events events report = record report { events = report.events ++ events }
 
 -- the report with its last event marked as the discard of this message, for this reason
 abbrev pub with_one_discard : ℕ → EndFault → ListedRun → ListedRun
-with_one_discard number reason told = record told { discards = told.discards ++ (number, reason) ∷ [] }
+with_one_discard number reason report = record report { discards = report.discards ++ (number, reason) ∷ [] }
 
 -- the report, if steps are listed
 abbrev pub listed_run_if : Bool → List Event → List (ℕ × EndFault) → Option ListedRun

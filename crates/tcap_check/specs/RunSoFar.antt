@@ -144,7 +144,7 @@ pub record IsSoFar (judged : Option Side) (table : Table) (c : Certificate) (ent
   pub goes : TakesFirst judged table c entries count
   pub left : Replay
   pub left_is : left ≡ stopped_at judged table c entries count goes.front
-  pub told : listed_run_of steps ≡ record { events = left.events; discards = left.discards }
+  pub listed : listed_run_of steps ≡ record { events = left.events; discards = left.discards }
   pub more : List Event
   pub begins : left.events ≡ goes.front.events ++ more
   pub leads : Runs table left.events left.world

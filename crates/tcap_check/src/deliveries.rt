@@ -34,7 +34,7 @@ fn received_sender(entries: &[Outline], judged: Option<End>, number: u32) -> Opt
 }
 
 /// Returns whether this end sent the entry with this number.
-fn is_told(entries: &[Outline], side: End, number: u32) -> bool
+fn is_sent_by(entries: &[Outline], side: End, number: u32) -> bool
     ensures { result ≡ is_sent_by_end side (slice_get entries.now number) }
 {
     match entries.get(number as usize) {
@@ -50,15 +50,15 @@ pub(crate) fn sent_among(
     side: End,
     numbers: &[u32],
 ) -> Result<Vec<u32>, AllocError>
-    ensures { IfOk result (λ told. told.items ≡ sent_among side entries.now numbers.now) }
+    ensures { IfOk result (λ sent. sent.items ≡ sent_among side entries.now numbers.now) }
 {
-    let mut told = Vec::new(alloc);
+    let mut sent = Vec::new(alloc);
     for number in numbers {
-        if is_told(entries, side, *number) {
-            told.push(*number)?;
+        if is_sent_by(entries, side, *number) {
+            sent.push(*number)?;
         }
     }
-    Ok(told)
+    Ok(sent)
 }
 
 /// Receives the first of these messages at an end. Returns the reason why the end cannot receive it, or `None`. Fails

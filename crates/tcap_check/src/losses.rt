@@ -39,7 +39,8 @@ impl Progress<'_> {
         };
     }
 
-    /// Loses the first message on its way from an end, which has this number. Fails if memory runs out.
+    /// Loses the oldest message in transit from an end. `number` is the number of that message. Fails if memory runs
+    /// out.
     fn lose_first(&mut self, judged: Option<End>, side: End, number: u64) -> Result<(), CheckFault>
         requires room { self.old.moves + 1 < 2 ^ 128 }
         requires count { self.old.unheard + 1 < 2 ^ 64 }

@@ -54,7 +54,7 @@ pub fn discards_have_reasons()
 {}
 
 /// States that each message of the peer that the run loses has a loss as its fate, or is among the discards.
-pub fn losses_are_told()
+pub fn losses_are_reported()
     ensures { (side : Side) (table : Table) (c : Certificate) (entries : List Entry) (events : List Event) (discards : List (ℕ × EndFault))
         → replayed_by (Some side) table c entries ≡ Ok events → discards_by (Some side) table c (map item_of entries) ≡ Ok discards
         → (number : ℕ) → Contains events (Loses (other side) number) → IsReportedLoss c discards number }

@@ -144,7 +144,7 @@ impl<'r> Progress<'r> {
     #[inline(always)]
     pub(crate) fn tell(&mut self, step: Step) -> Result<(), CheckFault>
         requires plain { discard_of step ≡ None }
-        ensures told { OnOk result (self.new ≡ with_steps (event_of step ∷ []) self.old) }
+        ensures steps { OnOk result (self.new ≡ with_steps (event_of step ∷ []) self.old) }
         ensures memory { IsMemory result }
     {
         if let Some(steps) = &mut self.steps {
@@ -163,7 +163,7 @@ impl<'r> Progress<'r> {
         number: u64,
         reason: EndFault,
     ) -> Result<(), CheckFault>
-        ensures told { OnOk result (self.new ≡ discard_listed sender number reason self.old) }
+        ensures steps { OnOk result (self.new ≡ discard_listed sender number reason self.old) }
         ensures memory { IsMemory result }
     {
         if let Some(steps) = &mut self.steps {

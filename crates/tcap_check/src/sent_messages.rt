@@ -128,7 +128,7 @@ impl<'r> Progress<'r> {
         side: End,
         message: &M,
     ) -> Result<(), CheckFault>
-        ensures told { OnOk result (self.new ≡ with_steps (sending way side (M.meaning message.now) ∷ []) self.old) }
+        ensures steps { OnOk result (self.new ≡ with_steps (sending way side (M.meaning message.now) ∷ []) self.old) }
         ensures memory { IsMemory result }
     {
         if self.steps.is_none() {

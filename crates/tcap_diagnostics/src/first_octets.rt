@@ -37,7 +37,7 @@ impl<R> FirstOctets<R> {
 }
 
 impl<R: Read> Read for FirstOctets<R> {
-    ghost untold = { λ device. R.untold (first_octets_inner device) };
+    ghost remaining = { λ device. R.remaining (first_octets_inner device) };
 
     ghost failures = { λ device. R.failures (first_octets_inner device) };
 

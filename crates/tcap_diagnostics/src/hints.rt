@@ -125,7 +125,7 @@ fn message_in(octets: &[u8]) -> &[u8] {
 }
 
 /// Returns the octets after white space (RFC 8259 2).
-fn behind_space(octets: &[u8]) -> &[u8] {
+fn after_space(octets: &[u8]) -> &[u8] {
     let mut rest = octets;
     while let [b' ' | b'\t' | b'\n' | b'\r', more @ ..] = rest {
         rest = more;
@@ -133,12 +133,13 @@ fn behind_space(octets: &[u8]) -> &[u8] {
     rest
 }
 
-/// Returns the first key of a JSON object, or no octets if it has none. None if the octets do not begin like an object.
+/// Returns the first key of a JSON object, or no octets if it has none or the end of the key is not among these octets.
+/// None if the octets do not begin like an object.
 fn first_key(octets: &[u8]) -> Option<&[u8]> {
-    let [b'{', behind @ ..] = behind_space(octets) else {
+    let [b'{', behind @ ..] = after_space(octets) else {
         return None;
     };
-    let [b'"', key @ ..] = behind_space(behind) else {
+    let [b'"', key @ ..] = after_space(behind) else {
         return Some(&[]);
     };
     let end = key.iter().position(|octet| *octet == b'"');
@@ -251,21 +252,22 @@ fn words_of(role: Role, look: FileFormat) -> &'static str {
             "this looks like a capture, of which tools/lines_of_capture.py makes lines",
         FileFormat::Gzip => "this looks like a compressed file, which `gunzip` unpacks",
         FileFormat::Marked => {
-            "this looks like a text behind a byte order mark, EF BB BF, which may not stand there"
+            "this looks like a text after a byte order mark, EF BB BF, which is not allowed"
         }
         FileFormat::Table => "this looks like an operation table, which `tcapjudge table` prints",
         FileFormat::Book => {
             "this looks like a book of operation tables, which `tcapjudge test --table` takes"
         }
         FileFormat::Certificate => {
-            "this looks like a certificate, which `tcapjudge check` takes behind the table"
+            "this looks like a certificate, which `tcapjudge check` takes after the table"
         }
         FileFormat::Json => "this looks like JSON, as an operation table or a certificate is",
     }
 }
 
-/// Returns the appearance to report. If a record or a trace is expected, all JSON objects are reported as JSON.
-fn told_of(role: Role, look: FileFormat) -> FileFormat {
+/// Returns the appearance to report. If a record to show, or a trace, is expected, all JSON objects are
+/// reported as JSON.
+fn reported_format(role: Role, look: FileFormat) -> FileFormat {
     match (role, look) {
         (
             Role::Shown | Role::Trace,
@@ -278,7 +280,7 @@ fn told_of(role: Role, look: FileFormat) -> FileFormat {
 /// Returns the hint for a file that begins with these octets, if it cannot be used in this role.
 fn words_on(role: Role, first: &[u8]) -> Option<&'static str> {
     match format_of(first) {
-        Some(look) if !is_right(role, look) => Some(words_of(role, told_of(role, look))),
+        Some(look) if !is_right(role, look) => Some(words_of(role, reported_format(role, look))),
         _ => None,
     }
 }

@@ -20,7 +20,7 @@ pub(crate) struct Tail {
 }
 
 impl Tail {
-    /// Drops the finished lines. Their user has asked for more octets, so they have no fault.
+    /// Drops the finished lines. The caller asks for more octets only after lines without a fault.
     fn drop_whole(&mut self) {
         let Some(last) = self.octets.iter().rposition(|octet| *octet == b'\n') else {
             return;
@@ -78,7 +78,7 @@ impl<R> LineReader<R> {
 }
 
 impl<R: Read> Read for LineReader<R> {
-    ghost untold = { λ device. R.untold (line_reader_inner device) };
+    ghost remaining = { λ device. R.remaining (line_reader_inner device) };
 
     ghost failures = { λ device. R.failures (line_reader_inner device) };
 

@@ -14,7 +14,8 @@ use tcap_record::{FeedFault, FeedReason, LINE_LIMIT, LINES_LIMIT, PIECE_LEN, Pac
 /// The most octets of a line, with its end.
 const HELD_LIMIT: usize = LINE_LIMIT + 2;
 
-/// The state of showing lines: the octets of the unfinished line, and the numbers of lines and octets before.
+/// The state of showing lines: the octets of the unfinished line, the number of lines before it, and the number of
+/// octets that were read.
 #[derive(Debug, Drop)]
 struct Lines {
     alloc: Global,

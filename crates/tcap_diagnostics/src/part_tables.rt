@@ -5,11 +5,11 @@ use crate::parts::Holder::{
     DialoguePdu, DialoguePortion, DialogueRequest, DialogueResponse, End, Invoke, Nothing, Opaque,
     Reject, ResultBody, ResultNumber, ReturnError, ReturnResult, Unidirectional, UserInformation,
 };
-use crate::parts::Holds::{Any, Each, Needed, Once, Only, Others};
-use crate::parts::{Holder, Holds};
+use crate::parts::PartRule::{Any, Each, Needed, Once, Only, Others};
+use crate::parts::{Holder, PartRule};
 
 /// A row of a part table: the position of the part, the elements allowed there, its name, and what it holds.
-pub(crate) type Part = (u8, Holds, &'static str, Holder);
+pub(crate) type Part = (u8, PartRule, &'static str, Holder);
 
 static WHOLE_PARTS: [Part; 6] = [
     (0, Once(0x61), "Unidirectional", Unidirectional),

@@ -39,7 +39,7 @@ pub(crate) enum Holder {
 
 /// The elements that are allowed at a position of a holder.
 #[derive(Clone, Copy)]
-pub(crate) enum Holds {
+pub(crate) enum PartRule {
     /// One element with this tag.
     Once(u8),
     /// Any number of elements with this tag.
@@ -56,40 +56,40 @@ pub(crate) enum Holds {
 
 /// An element of a holder: its name, the position of the next part, and what it holds.
 #[derive(Clone, Copy)]
-pub(crate) struct Named {
+pub(crate) struct PartInfo {
     pub(crate) name: &'static str,
     pub(crate) next: u8,
     pub(crate) inside: Holder,
 }
 
 /// Returns whether more elements may follow at this position, if the tag is allowed there.
-fn takes(holds: Holds, tag: u8) -> Option<bool> {
+fn takes(holds: PartRule, tag: u8) -> Option<bool> {
     match holds {
-        Holds::Once(own) if own == tag => Some(false),
-        Holds::Each(own) if own == tag => Some(true),
-        Holds::Any => Some(false),
-        Holds::Others => Some(true),
+        PartRule::Once(own) if own == tag => Some(false),
+        PartRule::Each(own) if own == tag => Some(true),
+        PartRule::Any => Some(false),
+        PartRule::Others => Some(true),
         _ => None,
     }
 }
 
 /// Returns the part for an element in a holder, from position `place` on, by the first octet of its tag. If the element
 /// is not allowed, this is the part required instead. None if no further element is allowed.
-pub(crate) fn part_at(holder: Holder, place: u8, tag: u8) -> Option<Named> {
+pub(crate) fn part_at(holder: Holder, place: u8, tag: u8) -> Option<PartInfo> {
     for (at, holds, name, inside) in parts_of(holder) {
         if *at < place {
             continue;
         }
         if let Some(again) = takes(*holds, tag) {
             let next = if again { *at } else { at.saturating_add(1) };
-            return Some(Named {
+            return Some(PartInfo {
                 name: *name,
                 next,
                 inside: *inside,
             });
         }
-        if matches!(*holds, Holds::Needed | Holds::Only) {
-            return Some(Named {
+        if matches!(*holds, PartRule::Needed | PartRule::Only) {
+            return Some(PartInfo {
                 name: *name,
                 next: *at,
                 inside: Holder::Nothing,
@@ -102,7 +102,7 @@ pub(crate) fn part_at(holder: Holder, place: u8, tag: u8) -> Option<Named> {
 /// Returns the name of the part that a holder requires from position `place` on.
 pub(crate) fn needed_at(holder: Holder, place: u8) -> Option<&'static str> {
     for (at, holds, name, _) in parts_of(holder) {
-        if *at >= place && matches!(*holds, Holds::Needed) {
+        if *at >= place && matches!(*holds, PartRule::Needed) {
             return Some(*name);
         }
     }

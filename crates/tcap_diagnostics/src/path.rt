@@ -1,6 +1,6 @@
 //! The path of parts to an offset in a message.
 
-use crate::parts::{Holder, Named, needed_at, part_at};
+use crate::parts::{Holder, PartInfo, needed_at, part_at};
 use std::alloc::{AllocError, Global};
 use tcap_ber::{Window, next_tlv};
 
@@ -88,7 +88,7 @@ fn element_at(window: Window) -> Option<Element> {
 /// Returns the name of an element and, if the offset is in its content, the level in it. `part` is its part in its
 /// level.
 fn named_in<'a>(
-    part: Option<Named>,
+    part: Option<PartInfo>,
     element: Element<'a>,
     place: u64,
 ) -> Option<(&'static str, Option<Level<'a>>)> {

@@ -39,8 +39,8 @@ impl From<AllocError> for TextFault {
 
 /// Reads all octets of `reader`, at most `TABLE_LIMIT`.
 fn read_text<R: Read>(alloc: Global, reader: &mut R) -> Result<Vec<u8>, TextFault>
-    ensures returned { IfOk result (λ text. Consumes (R.untold reader.old) (R.untold reader.new) text.items
-        × IsAtEnd (R.untold reader.new)) }
+    ensures returned { IfOk result (λ text. Consumes (R.remaining reader.old) (R.remaining reader.new) text.items
+        × IsAtEnd (R.remaining reader.new)) }
 {
     let mut piece = [0; PIECE_LEN];
     let mut text = Vec::new(alloc);
@@ -151,7 +151,7 @@ pub fn run_table<R: Read, W: Write, F: Write>(
 ) -> Result<Status, WriteFailed>
     // If the status is fine, all octets of the reader are the text of an operation table or of a table set.
     ensures table { result ≡ Ok Status.Fine → (returned : List ℕ)
-        × Consumes (R.untold reader.old) (R.untold reader.new) returned × IsAtEnd (R.untold reader.new)
+        × Consumes (R.remaining reader.old) (R.remaining reader.new) returned × IsAtEnd (R.remaining reader.new)
         × IsTableText returned }
     ensures counts { OnOk result (W.failures writer.new ≡ W.failures writer.old) }
     ensures failed { OnErr result (W.failures writer.new ≡ one_more (W.failures writer.old)) }

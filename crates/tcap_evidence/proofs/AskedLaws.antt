@@ -11,7 +11,7 @@ use Rattle.tcap_faults.specs.declared.dialogue.half_origin.HalfOrigin.TheVariant
 use Rattle.tcap_faults.specs.Components.{is_of_link}
 use Rattle.tcap_faults.specs.declared.component.component_sort.Class.TheVariants.{Any}
 use Rattle.tcap_faults.specs.declared.component.component_sort.Sort.TheVariants as sorts
-use Rattle.tcap_evidence.specs.declared.shown_things.ShownFact.TheVariants as facts
+use Rattle.tcap_evidence.specs.declared.shown_facts.ShownFact.TheVariants as facts
 use Rattle.tcap_evidence.specs.Evidence.{allowed_by, answered_by, dialogue_of, problem_of_invoke, rejected_by, facts_without_id, facts_with_id}
 
 -- If no item of a list passes a test, the item at an index does not.

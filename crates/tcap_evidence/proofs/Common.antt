@@ -39,7 +39,7 @@ pub use Rattle.tcap_evidence.specs.OpenAtMark.{is_of_mark, ended_to, first_to, m
 pub use Rattle.tcap_evidence.specs.Operations.{invocations_of}
 pub use Rattle.tcap_evidence.specs.Partners.{paired_before}
 pub use Rattle.tcap_evidence.specs.PassingEntries.{passes}
-pub use Rattle.tcap_evidence.specs.Scene.{since_first, Scene, is_open_continue, is_that}
+pub use Rattle.tcap_evidence.specs.Scene.{since_first, Scene, is_open_continue, is_same_id}
 pub use Rattle.tcap_evidence.specs.StoredScene.{IsScene, AreMessagesByEnd}
 pub use Rattle.tcap_evidence.specs.declared.sent.Sent.{Sent as SentEntry}
 pub use Rattle.tcap_evidence.specs.declared.sent.MessagesByEnd.{MessagesByEnd}

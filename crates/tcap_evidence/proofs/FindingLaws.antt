@@ -6,8 +6,8 @@ use Rattle.tcap_model.specs.declared.reason.Reason.TheVariants.{BadMessage, NoIt
 use Rattle.tcap_faults.specs.declared.verdict.fault_subject.Subject.{Subject}
 use Rattle.tcap_faults.specs.FaultSubject.{subject_by, subject_of}
 use Rattle.tcap_evidence.specs.declared.scene.Scene.{Scene as SceneKept}
-use Rattle.tcap_evidence.specs.declared.shown_things.ShownFact.{ShownFact}
-use Rattle.tcap_evidence.specs.declared.shown_things.ShownFact.TheVariants as facts
+use Rattle.tcap_evidence.specs.declared.shown_facts.ShownFact.{ShownFact}
+use Rattle.tcap_evidence.specs.declared.shown_facts.ShownFact.TheVariants as facts
 use Rattle.tcap_evidence.specs.declared.operations.Invocation.{Invocation}
 use Rattle.tcap_evidence.specs.Operations.{invocations_at}
 use Rattle.tcap_evidence.specs.Evidence.{components_before, grounds_of, invoke_id_at}

@@ -1,5 +1,5 @@
 -- The parts of a scene, from the stored scene.
-use Rattle.tcap_evidence.proofs.Common.{◌≡◌, ℕ, Bool, true, false, ◌&&◌, List, [], ◌∷◌, Option, Some, None, filter, refl, ap, Message, dtid_in, is_a, Numbered, entries_where, Scene, is_that}
+use Rattle.tcap_evidence.proofs.Common.{◌≡◌, ℕ, Bool, true, false, ◌&&◌, List, [], ◌∷◌, Option, Some, None, filter, refl, ap, Message, dtid_in, is_a, Numbered, entries_where, Scene, is_same_id}
 use Rattle.tcap_msg.specs.declared.kind.Kind.TheVariants as forms
 use Rattle.tcap_refute.proofs.TestLaws.{and_false}
 use Rattle.tcap_evidence.specs.Scene.{peer_from_dtid, to_half, went_elsewhere}
@@ -18,7 +18,7 @@ none_kept p none (x ∷ xs) = rw (none x) (none_kept p none xs)
 
 -- The Continues to the half's own ID.
 pub to_half_is : (s : Scene) (half : Option (List ℕ)) → half ≡ s.half → (sent : List Numbered) → sent ≡ peer_from_dtid s
-    → filter (λ n. is_a forms.Continue n.1 && is_that half (dtid_in n.1)) sent ≡ to_half s
+    → filter (λ n. is_a forms.Continue n.1 && is_same_id half (dtid_in n.1)) sent ≡ to_half s
 to_half_is s None is sent are = rw (← is) (none_kept _ (λ n. and_false _) sent)
 to_half_is s (Some own) is sent are = rw (← is, are) refl
 

@@ -25,8 +25,8 @@ use Rattle.tcap_faults.specs.declared.component.component_sort.Sort.TheVariants 
 use Rattle.tcap_faults.specs.declared.verdict.fault_subject.Subject.{Subject}
 use Rattle.tcap_faults.specs.Components.{is_of_link}
 use Rattle.tcap_faults.specs.FaultSubject.{items_among, no_subject, subject_of}
-use Rattle.tcap_evidence.specs.declared.shown_things.ShownFact.{ShownFact}
-use Rattle.tcap_evidence.specs.declared.shown_things.ShownFact.TheVariants as facts
+use Rattle.tcap_evidence.specs.declared.shown_facts.ShownFact.{ShownFact}
+use Rattle.tcap_evidence.specs.declared.shown_facts.ShownFact.TheVariants as facts
 use Rattle.tcap_evidence.specs.NumberedMessages.{sent_before}
 use Rattle.tcap_evidence.specs.Scene.{Scene, shown}
 
@@ -60,7 +60,7 @@ allowed_by c = []
 -- F9: the Begins and Continues that determine the dialogue state
 abbrev pub dialogue_of : HalfOrigin → List ShownFact
 dialogue_of origins.Begun = facts.Begun ∷ facts.OwnRequests ∷ []
-dialogue_of origin = facts.BeginsThere ∷ facts.RequestsThere ∷ facts.OutgoingContinues ∷ []
+dialogue_of origin = facts.PeerBegins ∷ facts.PeerRequests ∷ facts.OutgoingContinues ∷ []
 
 -- F10: the own invocations of the ID, and the components that may have ended them
 abbrev pub in_use : List ShownFact
@@ -92,14 +92,14 @@ rejected_by c = []
 -- the things that show a kind, for a message with a destination ID
 abbrev pub facts_with_id : HalfOrigin → Option Component → Kind → List ShownFact
 facts_with_id origin c kinds.BadMessage = []
-facts_with_id origin c kinds.UnknownTransaction = facts.BeginsThere ∷ facts.ContinuesThere ∷ []
+facts_with_id origin c kinds.UnknownTransaction = facts.PeerBegins ∷ facts.PeerContinues ∷ []
 facts_with_id origin c kinds.ReusedId = facts.WentElsewhere ∷ []
 facts_with_id origin c kinds.AfterEnd = facts.Ended ∷ []
 facts_with_id origin c kinds.AnswersNothing = answered_by c
 facts_with_id origin c kinds.WrongOperation = allowed_by c
-facts_with_id origin c kinds.MisplacedDialogue = facts.BeginsThere ∷ facts.RequestsThere ∷ []
+facts_with_id origin c kinds.MisplacedDialogue = facts.PeerBegins ∷ facts.PeerRequests ∷ []
 facts_with_id origin c kinds.WrongHalf =
-    facts.BeginsThere ∷ facts.Refused ∷ facts.ContinuesThere ∷ facts.Begun ∷ facts.OutgoingContinues ∷ facts.Unknown
+    facts.PeerBegins ∷ facts.Refused ∷ facts.PeerContinues ∷ facts.Begun ∷ facts.OutgoingContinues ∷ facts.Unknown
     ∷ []
 facts_with_id origin c kinds.WrongDialogue = dialogue_of origin
 facts_with_id origin c kinds.InvokeIdBusy = in_use
@@ -107,7 +107,7 @@ facts_with_id origin c kinds.BadLink = facts.IncomingComponents (sorts.Invokes A
 facts_with_id origin c kinds.AnsweredAlready = by_class facts.IncomingComponents ++ takings facts.Before
 facts_with_id origin c kinds.RejectNotAllowed = rejected_by c
 facts_with_id origin c kinds.WrongReply =
-    facts.BeginsThere ∷ facts.ContinuesThere ∷ facts.Refused ∷ facts.Unknown ∷ facts.OutgoingComponents ∷ []
+    facts.PeerBegins ∷ facts.PeerContinues ∷ facts.Refused ∷ facts.Unknown ∷ facts.OutgoingComponents ∷ []
 facts_with_id origin c kinds.OpenAtMark = []
 
 -- the things that show a kind, for a message without a destination ID

@@ -26,8 +26,8 @@ use Rattle.tcap_faults.specs.declared.component.component_sort.Sort.{Sort}
 use Rattle.tcap_faults.specs.declared.component.component_sort.Sort.TheVariants as sorts
 use Rattle.tcap_faults.specs.declared.verdict.fault_subject.Subject.{Subject}
 use Rattle.tcap_evidence.specs.declared.operations.Invocation.{Invocation}
-use Rattle.tcap_evidence.specs.declared.shown_things.ShownFact.{ShownFact}
-use Rattle.tcap_evidence.specs.declared.shown_things.ShownFact.TheVariants as facts
+use Rattle.tcap_evidence.specs.declared.shown_facts.ShownFact.{ShownFact}
+use Rattle.tcap_evidence.specs.declared.shown_facts.ShownFact.TheVariants as facts
 use Rattle.tcap_faults.specs.Counts.{is_nothing}
 use Rattle.tcap_faults.specs.FaultSubject.{subject_of}
 use Rattle.tcap_evidence.specs.Evidence.{component_at, grounds_of, invoke_id_at}
@@ -163,18 +163,18 @@ sorted sort id = sort_words sort ++ id_words id ++ class_words (class_of_sort so
 
 -- the end that sent the entries
 abbrev pub sender_of : Side → ShownFact → Side
-sender_of side facts.BeginsThere = other side
-sender_of side facts.RequestsThere = other side
-sender_of side facts.ContinuesThere = other side
+sender_of side facts.PeerBegins = other side
+sender_of side facts.PeerRequests = other side
+sender_of side facts.PeerContinues = other side
 sender_of side (facts.PeerComponents sort) = other side
 sender_of side (facts.IncomingComponents sort) = other side
 sender_of side fact = side
 
 -- the words for messages and their IDs, or for the place of components
 unfoldable pub place_words : ShownFact → List ℕ
-place_words facts.BeginsThere = codes "Begins from its destination ID"
-place_words facts.RequestsThere = codes "Begins with AARQ from its destination ID"
-place_words facts.ContinuesThere = codes "Continues from its destination ID"
+place_words facts.PeerBegins = codes "Begins from its destination ID"
+place_words facts.PeerRequests = codes "Begins with AARQ from its destination ID"
+place_words facts.PeerContinues = codes "Continues from its destination ID"
 place_words facts.Used = codes "messages from its originating ID before it"
 place_words facts.WentElsewhere = codes "Continues from its originating ID to another ID before it"
 place_words facts.Begun = codes "Begins from the own ID"
@@ -187,7 +187,7 @@ place_words facts.Refused = codes "Aborts with cause 4 to its destination ID bef
 place_words (facts.PeerComponents sort) = codes " from its destination ID"
 place_words (facts.IncomingComponents sort) = codes " in this transaction"
 place_words (facts.Before sort) = codes " before it"
-place_words (facts.Whole sort) = codes " in its messages to there and in this one"
+place_words (facts.Whole sort) = codes " in its messages to its destination ID and in this one"
 place_words (facts.Invoked sort) = codes " in this transaction"
 place_words facts.Open = codes "Continues of transactions that are open"
 
@@ -227,9 +227,9 @@ entries_words (n ∷ more) =
 
 -- whether a line is printed even if there are no entries
 abbrev pub is_listed_if_empty : ShownFact → Bool
-is_listed_if_empty facts.BeginsThere = true
-is_listed_if_empty facts.RequestsThere = true
-is_listed_if_empty facts.ContinuesThere = true
+is_listed_if_empty facts.PeerBegins = true
+is_listed_if_empty facts.PeerRequests = true
+is_listed_if_empty facts.PeerContinues = true
 is_listed_if_empty facts.Begun = true
 is_listed_if_empty facts.OwnRequests = true
 is_listed_if_empty (facts.PeerComponents (sorts.Invokes Any)) = true

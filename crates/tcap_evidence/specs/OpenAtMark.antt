@@ -16,8 +16,8 @@ use Rattle.tcap_model.specs.Run.{only_if}
 use Rattle.tcap_refute.specs.EarlierMessages.{is_a, sent_by}
 use Rattle.tcap_evidence.specs.declared.mark.Halves.{Halves}
 use Rattle.tcap_evidence.specs.declared.sent.Sent.{Sent as SentEntry}
-use Rattle.tcap_evidence.specs.declared.shown_things.ShownFact.{ShownFact}
-use Rattle.tcap_evidence.specs.declared.shown_things.ShownFact.TheVariants as facts
+use Rattle.tcap_evidence.specs.declared.shown_facts.ShownFact.{ShownFact}
+use Rattle.tcap_evidence.specs.declared.shown_facts.ShownFact.TheVariants as facts
 use Rattle.tcap_evidence.specs.Scene.{Scene}
 
 -- the stored messages

@@ -10,7 +10,7 @@ use Rattle.tcap_model.specs.World.{Item, Sent, is_side}
 use Rattle.tcap_model.specs.Entries.{item_of}
 use Rattle.tcap_model.specs.Run.{only_if}
 use Rattle.tcap_faults.specs.SentToId.{is_begin_from, is_continue_from, is_continue_to}
-use Rattle.tcap_evidence.specs.Scene.{is_that}
+use Rattle.tcap_evidence.specs.Scene.{is_same_id}
 
 -- the entries so far; and, since the ID was begun, its partner in the last Continue from it and in the last Continue
 -- to it
@@ -29,7 +29,7 @@ partner_in of id sender m =
 
 -- the entry, unless its partner is the same as the last one
 abbrev pub anew : ℕ → List ℕ → Option (List ℕ) → List ℕ
-anew number partner last = cond (is_that last (Some partner)) [] (number ∷ [])
+anew number partner last = cond (is_same_id last (Some partner)) [] (number ∷ [])
 
 -- the pairing after a Continue from the ID (`true`) or to it, with this partner
 abbrev pub with_partner : ℕ → Bool → Option (List ℕ) → Pairing → Pairing

@@ -27,8 +27,8 @@ use Rattle.tcap_faults.specs.declared.dialogue.half_origin.HalfOrigin.{HalfOrigi
 use Rattle.tcap_faults.specs.declared.dialogue.half_origin.HalfOrigin.TheVariants.{Accepted, Refused, Begun, Unanswered, Nowhere}
 use Rattle.tcap_faults.specs.declared.component.component_sort.Sort.{Sort}
 use Rattle.tcap_faults.specs.InvokeCounts.{is_sort}
-use Rattle.tcap_evidence.specs.declared.shown_things.ShownFact.{ShownFact}
-use Rattle.tcap_evidence.specs.declared.shown_things.ShownFact.TheVariants as facts
+use Rattle.tcap_evidence.specs.declared.shown_facts.ShownFact.{ShownFact}
+use Rattle.tcap_evidence.specs.declared.shown_facts.ShownFact.TheVariants as facts
 use Rattle.tcap_evidence.specs.NumberedMessages.{Numbered, entries_where, entries_with, in_order}
 
 -- What is known of a message at fault.
@@ -52,19 +52,19 @@ pub record Scene : Type 0 where
   pub id : Option ℤ
 
 -- whether there is an ID, and it is the same as the message's
-abbrev pub is_that : Option (List ℕ) → Option (List ℕ) → Bool
-is_that None other = false
-is_that (Some id) other = is_id id other
+abbrev pub is_same_id : Option (List ℕ) → Option (List ℕ) → Bool
+is_same_id None other = false
+is_same_id (Some id) other = is_id id other
 
 -- ---- messages that were sent
 
 -- the peer's messages from the destination ID
 abbrev pub peer_from_dtid : Scene → List Numbered
-peer_from_dtid s = filter (λ n. is_that s.to (otid_in n.1)) s.peer
+peer_from_dtid s = filter (λ n. is_same_id s.to (otid_in n.1)) s.peer
 
 -- the end's messages to the destination ID, without its provider's Aborts
 abbrev pub sent_to_dtid : Scene → List Numbered
-sent_to_dtid s = filter (λ n. is_that s.to (dtid_in n.1) && is_none (cause_in n.1)) s.own
+sent_to_dtid s = filter (λ n. is_same_id s.to (dtid_in n.1) && is_none (cause_in n.1)) s.own
 
 -- the own ID in question: that of the half or, if it is unknown, the message's originating ID
 abbrev pub own_id : Scene → Option (List ℕ)
@@ -85,7 +85,7 @@ to_half s = by s.half
 
 -- the half's own Begin
 abbrev pub own_begin : Scene → Option Numbered
-own_begin s = find (λ n. is_a forms.Begin n.1 && is_that s.half (otid_in n.1)) s.own
+own_begin s = find (λ n. is_a forms.Begin n.1 && is_same_id s.half (otid_in n.1)) s.own
 
 -- whether there is a message, and it is a Begin with a dialogue request
 abbrev pub has_request : Option Numbered → Bool
@@ -146,18 +146,18 @@ is_open_continue s m = is_a forms.Continue m && by (otid_in m)
 
 -- the entries that show one thing about a message at fault
 abbrev pub shown : Scene → ShownFact → List ℕ
-shown s facts.BeginsThere = entries_where (is_a forms.Begin) (peer_from_dtid s)
-shown s facts.RequestsThere = entries_where is_begin_with_request (peer_from_dtid s)
-shown s facts.ContinuesThere = entries_where (is_a forms.Continue) (peer_from_dtid s)
-shown s facts.Used = entries_where (λ m. is_that s.from (otid_in m)) s.own
+shown s facts.PeerBegins = entries_where (is_a forms.Begin) (peer_from_dtid s)
+shown s facts.PeerRequests = entries_where is_begin_with_request (peer_from_dtid s)
+shown s facts.PeerContinues = entries_where (is_a forms.Continue) (peer_from_dtid s)
+shown s facts.Used = entries_where (λ m. is_same_id s.from (otid_in m)) s.own
 shown s facts.WentElsewhere = entries_where (went_elsewhere s) s.own
-shown s facts.Begun = entries_where (λ m. is_a forms.Begin m && is_that (own_id s) (otid_in m)) s.own
-shown s facts.OwnRequests = entries_where (λ m. is_begin_with_request m && is_that (own_id s) (otid_in m)) s.own
+shown s facts.Begun = entries_where (λ m. is_a forms.Begin m && is_same_id (own_id s) (otid_in m)) s.own
+shown s facts.OwnRequests = entries_where (λ m. is_begin_with_request m && is_same_id (own_id s) (otid_in m)) s.own
 shown s facts.OutgoingComponents = entries_where (λ m. true) (sent_to_dtid s)
 shown s facts.OutgoingContinues = entries_where (is_a forms.Continue) (sent_to_dtid s)
-shown s facts.Ended = entries_where (λ m. is_that s.to (ended_by m)) s.own
-shown s facts.Unknown = entries_where (λ m. is_that s.to (dtid_in m) && is_cause 1 (cause_in m)) s.own
-shown s facts.Refused = entries_where (λ m. is_that s.to (dtid_in m) && is_cause 4 (cause_in m)) s.own
+shown s facts.Ended = entries_where (λ m. is_same_id s.to (ended_by m)) s.own
+shown s facts.Unknown = entries_where (λ m. is_same_id s.to (dtid_in m) && is_cause 1 (cause_in m)) s.own
+shown s facts.Refused = entries_where (λ m. is_same_id s.to (dtid_in m) && is_cause 4 (cause_in m)) s.own
 shown s (facts.PeerComponents sort) = with_sort s sort (peer_from_dtid s)
 shown s (facts.IncomingComponents sort) = with_sort s sort (in_order (incoming_by s s.origin))
 shown s (facts.Before sort) = with_sort s sort (sent_to_dtid s) ++ with_sort_in s sort s.earlier

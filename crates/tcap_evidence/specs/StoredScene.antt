@@ -27,7 +27,7 @@ pub record IsScene (s : Scene) (kept : SceneKept) : Type 0 where
   pub earlier : map component_of kept.earlier.items ≡ s.earlier
   pub id : kept.id ≡ s.id
   pub own : numbered_of kept.own.items ≡ s.own
-  pub peer_from_dtid : numbered_of kept.there.items ≡ peer_from_dtid s
+  pub peer_from_dtid : numbered_of kept.from_peer.items ≡ peer_from_dtid s
   pub outgoing : numbered_of kept.outgoing.items ≡ sent_to_dtid s
 
 -- the scene of a message, from the subject of its fault, the stored messages of each end before it, and the given

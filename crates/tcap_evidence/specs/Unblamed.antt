@@ -18,8 +18,8 @@ use Rattle.tcap_faults.specs.declared.verdict.unblamed_reason.Unblamed.{Unblamed
 use Rattle.tcap_faults.specs.declared.verdict.unblamed_reason.Unblamed.TheVariants.{UsedAgain, Tangled}
 use Rattle.tcap_faults.specs.Fault.{blamed}
 use Rattle.tcap_faults.specs.Unblamed.{unblamed_at}
-use Rattle.tcap_evidence.specs.declared.shown_things.ShownFact.{ShownFact}
-use Rattle.tcap_evidence.specs.declared.shown_things.ShownFact.TheVariants as facts
+use Rattle.tcap_evidence.specs.declared.shown_facts.ShownFact.{ShownFact}
+use Rattle.tcap_evidence.specs.declared.shown_facts.ShownFact.TheVariants as facts
 use Rattle.tcap_evidence.specs.Evidence.{grounds_at}
 use Rattle.tcap_evidence.specs.Partners.{paired_before}
 use Rattle.tcap_evidence.specs.EvidenceWords.{entries_words, ground_line, is_for}
@@ -32,7 +32,7 @@ pub record IsUnblamed (table : Table) (side : Side) (entries : List Entry) (numb
 
 -- the things that show earlier uses of a message's IDs
 abbrev pub id_uses : List ShownFact
-id_uses = facts.BeginsThere ∷ facts.ContinuesThere ∷ facts.OutgoingContinues ∷ facts.Used ∷ []
+id_uses = facts.PeerBegins ∷ facts.PeerContinues ∷ facts.OutgoingContinues ∷ facts.Used ∷ []
 
 -- the lines that show earlier uses of the IDs of the message in that entry
 abbrev pub id_lines : Table → Side → List Entry → ℕ → List ℕ

@@ -11,7 +11,7 @@ ghost use Rattle.tcap_evidence.specs.EvidenceWords.{component_shown, component_w
 
 use crate::finding::{Evidence, Ground, component_at, find_evidence};
 use crate::operation_lines::push_invocations;
-use crate::shown_things::ShownFact;
+use crate::shown_facts::ShownFact;
 use crate::words::{
     class_of_sort, class_words, doubt_words, is_listed_if_empty, is_of_half, kind_words,
     lacks_words, origin_words, place_words, sender_of, sort_in, sort_words,

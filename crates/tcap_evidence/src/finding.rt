@@ -8,7 +8,7 @@ ghost use Rattle.tcap_record.specs.declared.entry.End.{End as Side};
 ghost use Rattle.tcap_record.specs.declared.entry.Entry.{Entry as AnEntry};
 ghost use Rattle.tcap_record.specs.Ends.{other};
 ghost use Rattle.tcap_faults.specs.FaultSubject.{subject_of};
-ghost use Rattle.tcap_evidence.specs.declared.shown_things.ShownFact.TheVariants as facts;
+ghost use Rattle.tcap_evidence.specs.declared.shown_facts.ShownFact.TheVariants as facts;
 ghost use Rattle.tcap_evidence.specs.Evidence.{component_at, components_before, grounds_at, grounds_in, grounds_of, invoke_id_at, invoke_id_in, mark_scene, scene_of, shows};
 ghost use Rattle.tcap_evidence.specs.StoredScene.{IsScene};
 ghost use Rattle.tcap_evidence.specs.OpenAtMark.{is_of_mark};
@@ -21,7 +21,7 @@ use crate::operations::Invocation;
 use crate::scene::Scene;
 use crate::sent::{MessagesByEnd, messages_before};
 use crate::shown_by_kind::facts_of;
-use crate::shown_things::ShownFact;
+use crate::shown_facts::ShownFact;
 use std::alloc::{AllocError, Global};
 use tcap_end::Table;
 use tcap_faults::{HalfOrigin, Subject, subject_of};
@@ -46,10 +46,10 @@ pub struct Evidence {
     pub about: Subject,
     /// The invoke ID whose components are counted.
     pub id: Option<i8>,
-    /// The things that show the fault.
+    /// The facts that show the fault.
     pub grounds: Vec<Ground>,
-    /// The Invokes of this ID in earlier messages whose operations and links the kind compares. F6 of an answer, F10,
-    /// F11 and F12 compare them; F13 does for some problems.
+    /// The Invokes of this ID in earlier messages whose operations and links count for the fault: for F6 of an answer
+    /// and F10 to F13. Empty for other kinds.
     pub invocations: Vec<Invocation>,
 }
 
@@ -128,7 +128,8 @@ fn scene_for<'a>(
     )
 }
 
-/// Returns each of these things with the entries that show it. None of them may be for quiet marks only.
+/// Returns each of these facts about a message with the entries that show it. Facts about quiet marks alone must not be
+/// among them.
 fn grounds_in(alloc: Global, scene: &Scene, facts: &[ShownFact]) -> Result<Vec<Ground>, AllocError>
     ensures { (s : Known) → IsScene s scene.now → list_any is_of_mark facts.now ≡ false
         → IfOk result (λ v. map (λ g. (g.fact, g.entries.items)) v.items ≡ grounds_in s facts.now) }
@@ -182,7 +183,7 @@ fn of_message(
     })
 }
 
-/// Returns each of these things about the message of an entry, with the entries that show it. The list is empty if the
+/// Returns each of these facts about the message of an entry, with the entries that show it. The list is empty if the
 /// entry is not a message.
 pub(crate) fn grounds_for(
     alloc: Global,

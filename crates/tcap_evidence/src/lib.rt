@@ -12,12 +12,12 @@ mod pairing;
 mod scene;
 mod sent;
 mod shown_by_kind;
-mod shown_things;
+mod shown_facts;
 mod unblamed;
 mod words;
 
 pub use evidence_lines::{push_evidence, push_fact, push_fault, push_sentence, push_why};
 pub use finding::{Evidence, Ground, component_at, find_evidence};
 pub use operations::Invocation;
-pub use shown_things::ShownFact;
+pub use shown_facts::ShownFact;
 pub use unblamed::push_unblamed;

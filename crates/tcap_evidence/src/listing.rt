@@ -15,7 +15,7 @@ ghost use Rattle.tcap_faults.specs.InvokeCounts.{is_of_class, is_sort};
 ghost use Rattle.tcap_evidence.specs.PassingEntries.{passes};
 ghost use Rattle.tcap_evidence.specs.OpenAtMark.{ended_to};
 ghost use Rattle.tcap_evidence.specs.NumberedMessages.{entries_where, entries_with, in_order, numbered_of};
-ghost use Rattle.tcap_evidence.specs.Scene.{is_that, since_first};
+ghost use Rattle.tcap_evidence.specs.Scene.{is_same_id, since_first};
 
 use crate::sent::Sent;
 use std::alloc::{AllocError, Global};
@@ -45,7 +45,7 @@ pub(crate) enum Test<'a> {
     /// A Continue from the first ID to an ID other than the second.
     Elsewhere(Option<&'a TransactionId>, Option<&'a TransactionId>),
     /// A message to this destination ID other than an Abort of the provider.
-    Told(Option<&'a TransactionId>),
+    UserMessageTo(Option<&'a TransactionId>),
     /// A Continue to this ID.
     ContinueTo(Option<&'a TransactionId>),
     /// An End, or an Abort of the user, to this ID.
@@ -55,8 +55,8 @@ pub(crate) enum Test<'a> {
 }
 
 /// Returns whether there is an ID, and it is the other one.
-pub(crate) fn is_that(id: Option<&TransactionId>, other: Option<TransactionIdView>) -> bool
-    ensures { result ≡ is_that (option_map (λ t. t.now) id.entry) (id_of other.entry) }
+pub(crate) fn is_same_id(id: Option<&TransactionId>, other: Option<TransactionIdView>) -> bool
+    ensures { result ≡ is_same_id (option_map (λ t. t.now) id.entry) (id_of other.entry) }
 {
     match (id, other) {
         (Some(id), Some(other)) => id.octets() == other.octets,
@@ -124,19 +124,19 @@ impl Test<'_> {
             Test::Begin => is_begin(message),
             Test::Request => is_request(message),
             Test::Continue => is_continue(message),
-            Test::From(id) => is_that(id, message.otid()),
-            Test::BeginFrom(id) => is_begin(message) && is_that(id, message.otid()),
-            Test::RequestFrom(id) => is_request(message) && is_that(id, message.otid()),
+            Test::From(id) => is_same_id(id, message.otid()),
+            Test::BeginFrom(id) => is_begin(message) && is_same_id(id, message.otid()),
+            Test::RequestFrom(id) => is_request(message) && is_same_id(id, message.otid()),
             Test::Elsewhere(from, to) => {
                 is_continue(message)
-                    && is_that(from, message.otid())
-                    && !is_that(to, message.dtid())
+                    && is_same_id(from, message.otid())
+                    && !is_same_id(to, message.dtid())
             }
-            Test::Told(id) => is_that(id, message.dtid()) && message.cause().is_none(),
-            Test::ContinueTo(id) => is_continue(message) && is_that(id, message.dtid()),
-            Test::EndTo(id) => is_that(id, ended_to(message, false)),
+            Test::UserMessageTo(id) => is_same_id(id, message.dtid()) && message.cause().is_none(),
+            Test::ContinueTo(id) => is_continue(message) && is_same_id(id, message.dtid()),
+            Test::EndTo(id) => is_same_id(id, ended_to(message, false)),
             Test::AbortTo(id, number) => {
-                is_that(id, message.dtid()) && is_cause(number, message.cause())
+                is_same_id(id, message.dtid()) && is_cause(number, message.cause())
             }
         }
     }

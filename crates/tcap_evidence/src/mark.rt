@@ -11,7 +11,7 @@ ghost use Rattle.tcap_end.specs.Table.{octets_cmp};
 ghost use Rattle.tcap_evidence.specs.StoredScene.{AreMessagesByEnd};
 ghost use Rattle.tcap_evidence.specs.OpenAtMark.{AreHalves, ended_to, first_to, goes_first, messages_of};
 ghost use Rattle.tcap_evidence.specs.Scene.{Scene, is_open_continue, shown};
-ghost use Rattle.tcap_evidence.specs.declared.shown_things.ShownFact.TheVariants as facts;
+ghost use Rattle.tcap_evidence.specs.declared.shown_facts.ShownFact.TheVariants as facts;
 
 use crate::listing::ended_to;
 use crate::sent::{MessagesByEnd, Sent};

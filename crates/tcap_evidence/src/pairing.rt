@@ -5,7 +5,7 @@ ghost use Rattle.tcap_msg.specs.Meaning.{id_of};
 ghost use Rattle.tcap_model.specs.Entries.{item_of};
 ghost use Rattle.tcap_evidence.specs.Partners.{anew, paired_before, partner_in, with_message, with_pair, with_partner};
 
-use crate::listing::{Test, is_that};
+use crate::listing::{Test, is_same_id};
 use std::alloc::{AllocError, Global};
 use tcap_msg::{Message, TransactionId, TransactionIdView};
 use tcap_record::{Body, End, Entry, Record};
@@ -33,13 +33,13 @@ fn partner_in<'a>(
     let Message::Continue { otid, dtid, .. } = message else {
         return None;
     };
-    let (here, there) = if of.is(sender) {
+    let (own, partner) = if of.is(sender) {
         (otid, dtid)
     } else {
         (dtid, otid)
     };
-    if id.octets() == here.octets() {
-        Some(there.view())
+    if id.octets() == own.octets() {
+        Some(partner.view())
     } else {
         None
     }
@@ -55,7 +55,7 @@ fn push_anew(
     ensures noted { OnOk result (entries.new.items ≡ entries.old.items ++ anew number partner.entry.octets.now last.old) }
     ensures last { OnOk result (last.new ≡ Some partner.entry.octets.now) }
 {
-    if !is_that(last.as_ref(), Some(partner)) {
+    if !is_same_id(last.as_ref(), Some(partner)) {
         entries.push(number)?;
     }
     *last = Some(partner.to_transaction_id());

@@ -12,7 +12,7 @@ ghost use Rattle.tcap_evidence.specs.NumberedMessages.{in_order, numbered_of};
 ghost use Rattle.tcap_evidence.specs.Operations.{invocations_in, invocations_of};
 ghost use Rattle.tcap_evidence.specs.Scene.{Scene as Known, incoming_by, invoked_by, own_begin, own_id, shown, to_half, sent_to_dtid, with_sort, with_sort_in};
 ghost use Rattle.tcap_faults.specs.declared.dialogue.half_origin.HalfOrigin.TheVariants as origins;
-ghost use Rattle.tcap_evidence.specs.declared.shown_things.ShownFact.TheVariants as facts;
+ghost use Rattle.tcap_evidence.specs.declared.shown_facts.ShownFact.TheVariants as facts;
 
 use crate::listing::{
     Test, entries_where, entries_with, first_where, in_order, push_sorted, push_where, sent_where,
@@ -20,7 +20,7 @@ use crate::listing::{
 };
 use crate::operations::{Invocation, invocations_in, is_answer, rejects_answer};
 use crate::sent::{MessagesByEnd, Sent};
-use crate::shown_things::ShownFact;
+use crate::shown_facts::ShownFact;
 use std::alloc::{AllocError, Global};
 use tcap_end::Table;
 use tcap_faults::{HalfOrigin, Sort, Subject};
@@ -46,7 +46,7 @@ pub(crate) struct Scene<'a> {
     /// The messages of the message's end.
     pub(crate) own: Vec<Sent<'a>>,
     /// The peer's messages from the destination ID.
-    pub(crate) there: Vec<Sent<'a>>,
+    pub(crate) from_peer: Vec<Sent<'a>>,
     /// The end's messages to the destination ID, without its provider's Aborts.
     pub(crate) outgoing: Vec<Sent<'a>>,
 }
@@ -94,8 +94,12 @@ impl<'a> Scene<'a> {
             number about.now (map component_of all.entry.items) (map component_of earlier.entry.items) id)) }
     {
         let to = owned(message.dtid());
-        let there = sent_where(alloc, &messages_by_end.peer, Test::From(to.as_ref()))?;
-        let outgoing = sent_where(alloc, &messages_by_end.own, Test::Told(to.as_ref()))?;
+        let from_peer = sent_where(alloc, &messages_by_end.peer, Test::From(to.as_ref()))?;
+        let outgoing = sent_where(
+            alloc,
+            &messages_by_end.own,
+            Test::UserMessageTo(to.as_ref()),
+        )?;
         let half = match &about.own {
             Some(own) => Some(own.view().to_transaction_id()),
             None => None,
@@ -111,7 +115,7 @@ impl<'a> Scene<'a> {
             earlier,
             id,
             own: messages_by_end.own,
-            there,
+            from_peer,
             outgoing,
         })
     }
@@ -126,7 +130,7 @@ impl<'a> Scene<'a> {
         }
     }
 
-    /// Returns the half's own Begin.
+    /// Returns the end's first Begin from the half's own ID, no matter how the half began.
     fn own_begin(&self) -> Option<Sent<'a>>
         ensures { (s : Known) → IsScene s self.now → option_map (λ b. (b.number, b.message.now)) result ≡ own_begin s }
     {
@@ -137,7 +141,7 @@ impl<'a> Scene<'a> {
     fn to_half(&self, alloc: Global) -> Result<Vec<Sent<'a>>, AllocError>
         ensures { (s : Known) → IsScene s self.now → IfOk result (λ v. numbered_of v.items ≡ to_half s) }
     {
-        sent_where(alloc, &self.there, Test::ContinueTo(self.half.as_ref()))
+        sent_where(alloc, &self.from_peer, Test::ContinueTo(self.half.as_ref()))
     }
 
     /// Returns the messages that an accepted half heard: the peer's first Begin, and the Continues to the half's own
@@ -146,10 +150,10 @@ impl<'a> Scene<'a> {
         ensures { (s : Known) → IsScene s self.now
             → IfOk result (λ v. numbered_of v.items ≡ incoming_by s origins.Accepted) }
     {
-        let mut incoming = list_of(alloc, first_where(&self.there, Test::Begin))?;
+        let mut incoming = list_of(alloc, first_where(&self.from_peer, Test::Begin))?;
         push_where(
             &mut incoming,
-            &self.there,
+            &self.from_peer,
             Test::ContinueTo(self.half.as_ref()),
         )?;
         Ok(incoming)
@@ -272,9 +276,9 @@ impl<'a> Scene<'a> {
     {
         let to = self.to.as_ref();
         match fact {
-            ShownFact::BeginsThere => entries_where(alloc, &self.there, Test::Begin),
-            ShownFact::RequestsThere => entries_where(alloc, &self.there, Test::Request),
-            ShownFact::ContinuesThere => entries_where(alloc, &self.there, Test::Continue),
+            ShownFact::PeerBegins => entries_where(alloc, &self.from_peer, Test::Begin),
+            ShownFact::PeerRequests => entries_where(alloc, &self.from_peer, Test::Request),
+            ShownFact::PeerContinues => entries_where(alloc, &self.from_peer, Test::Continue),
             ShownFact::Used => entries_where(alloc, &self.own, Test::From(self.from.as_ref())),
             ShownFact::WentElsewhere => self.elsewhere(alloc),
             ShownFact::Begun => entries_where(alloc, &self.own, Test::BeginFrom(self.own_id())),
@@ -288,7 +292,7 @@ impl<'a> Scene<'a> {
             ShownFact::Ended => entries_where(alloc, &self.own, Test::EndTo(to)),
             ShownFact::Unknown => entries_where(alloc, &self.own, Test::AbortTo(to, 1)),
             ShownFact::Refused => entries_where(alloc, &self.own, Test::AbortTo(to, 4)),
-            ShownFact::PeerComponents(sort) => self.with_sort(alloc, &self.there, sort),
+            ShownFact::PeerComponents(sort) => self.with_sort(alloc, &self.from_peer, sort),
             ShownFact::IncomingComponents(sort) => self.with_sort(
                 alloc,
                 &self.incoming(alloc)?,
@@ -323,7 +327,10 @@ impl<'a> Scene<'a> {
             ≡ invocations_of s kind (option_map component_of component.entry)) }
     {
         match kind {
-            Kind::WrongOperation if is_answer(component) => self.invocations_in(alloc, &self.there),
+            Kind::WrongOperation if is_answer(component) => self.invocations_in(
+                alloc,
+                &self.from_peer,
+            ),
             Kind::InvokeIdBusy => self.invocations_in(alloc, &self.invoked(alloc)?),
             Kind::RejectNotAllowed if rejects_answer(component) => {
                 self.invocations_in(alloc, &self.invoked(alloc)?)

@@ -1,11 +1,11 @@
-//! The things that show each kind of fault (Q.771, Q.773, Q.774).
+//! The facts that show each kind of fault (Q.771, Q.773, Q.774).
 
 ghost use Rattle.std.specs.Prelude.{◌≡◌, option_map};
 ghost use Rattle.tcap_parts.specs.Meaning.{component_of};
 ghost use Rattle.tcap_msg.specs.Parts.{dtid_in};
 ghost use Rattle.tcap_evidence.specs.Evidence.{allowed_by, answered_by, dialogue_of, problem_of_invoke, rejected_by, shows, facts_without_id, facts_with_id};
 
-use crate::shown_things::ShownFact;
+use crate::shown_facts::ShownFact;
 use tcap_faults::{Class, HalfOrigin, Sort};
 use tcap_msg::{Message, MessageParts};
 use tcap_parts::{ComponentView, ProblemView};
@@ -50,15 +50,16 @@ fn allowed_by(component: Option<ComponentView>) -> &'static [ShownFact]
     }
 }
 
-/// F9: returns the Begins and Continues that determine the dialogue state.
+/// Returns the evidence for F9, a wrong dialogue portion: the Begins and Continues from which the state of the half's
+/// dialogue follows.
 fn dialogue_of(origin: HalfOrigin) -> &'static [ShownFact]
     ensures { result.now ≡ dialogue_of origin }
 {
     match origin {
         HalfOrigin::Begun => &[ShownFact::Begun, ShownFact::OwnRequests],
         _ => &[
-            ShownFact::BeginsThere,
-            ShownFact::RequestsThere,
+            ShownFact::PeerBegins,
+            ShownFact::PeerRequests,
             ShownFact::OutgoingContinues,
         ],
     }
@@ -115,9 +116,9 @@ fn rejected_by(component: Option<ComponentView>) -> &'static [ShownFact]
 
 /// F8: the Begin and the Continues of the half.
 const HALF: [ShownFact; 6] = [
-    ShownFact::BeginsThere,
+    ShownFact::PeerBegins,
     ShownFact::Refused,
-    ShownFact::ContinuesThere,
+    ShownFact::PeerContinues,
     ShownFact::Begun,
     ShownFact::OutgoingContinues,
     ShownFact::Unknown,
@@ -159,14 +160,14 @@ const ANSWERED: [ShownFact; 7] = [
 
 /// F14: the half to which the reply goes.
 const REPLIED: [ShownFact; 5] = [
-    ShownFact::BeginsThere,
-    ShownFact::ContinuesThere,
+    ShownFact::PeerBegins,
+    ShownFact::PeerContinues,
     ShownFact::Refused,
     ShownFact::Unknown,
     ShownFact::OutgoingComponents,
 ];
 
-/// Returns the things that show a kind of a message with a destination ID, by how its half began and the component at
+/// Returns the facts that show a kind of a message with a destination ID, by how its half began and the component at
 /// fault.
 fn facts_with_id(
     origin: HalfOrigin,
@@ -177,12 +178,12 @@ fn facts_with_id(
 {
     match kind {
         Kind::BadMessage | Kind::OpenAtMark => &[],
-        Kind::UnknownTransaction => &[ShownFact::BeginsThere, ShownFact::ContinuesThere],
+        Kind::UnknownTransaction => &[ShownFact::PeerBegins, ShownFact::PeerContinues],
         Kind::ReusedId => &[ShownFact::WentElsewhere],
         Kind::AfterEnd => &[ShownFact::Ended],
         Kind::AnswersNothing => answered_by(component),
         Kind::WrongOperation => allowed_by(component),
-        Kind::MisplacedDialogue => &[ShownFact::BeginsThere, ShownFact::RequestsThere],
+        Kind::MisplacedDialogue => &[ShownFact::PeerBegins, ShownFact::PeerRequests],
         Kind::WrongHalf => &HALF,
         Kind::WrongDialogue => dialogue_of(origin),
         Kind::InvokeIdBusy => &INVOCATIONS,
@@ -193,7 +194,7 @@ fn facts_with_id(
     }
 }
 
-/// Returns the things that show a kind of a message without a destination ID.
+/// Returns the facts that show a kind of a message without a destination ID.
 fn facts_without_id(kind: Kind) -> &'static [ShownFact]
     ensures { result.now ≡ facts_without_id kind }
 {
@@ -204,7 +205,7 @@ fn facts_without_id(kind: Kind) -> &'static [ShownFact]
     }
 }
 
-/// Returns the things that show a kind of a message.
+/// Returns the facts that show a kind of a message.
 pub(crate) fn facts_of(
     message: &Message,
     origin: HalfOrigin,

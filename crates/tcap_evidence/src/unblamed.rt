@@ -8,16 +8,16 @@ ghost use Rattle.tcap_evidence.specs.Unblamed.{IsUnblamed, again_text, id_lines,
 use crate::evidence_lines::{push_entries, push_grounds};
 use crate::finding::grounds_for;
 use crate::pairing::paired_before;
-use crate::shown_things::ShownFact;
+use crate::shown_facts::ShownFact;
 use std::alloc::{AllocError, Global};
 use tcap_end::Table;
 use tcap_faults::{Tangle, TangledId, Unblamed, unblamed};
 use tcap_record::{End, Record, push_hex};
 
-/// The things that show earlier uses of a message's IDs.
+/// The facts that show earlier uses of a message's IDs.
 const ID_USES: [ShownFact; 4] = [
-    ShownFact::BeginsThere,
-    ShownFact::ContinuesThere,
+    ShownFact::PeerBegins,
+    ShownFact::PeerContinues,
     ShownFact::OutgoingContinues,
     ShownFact::Used,
 ];

@@ -3,7 +3,7 @@
 ghost use Rattle.std.specs.Prelude.{◌≡◌};
 ghost use Rattle.tcap_evidence.specs.EvidenceWords.{class_of_sort, class_words, doubt_words, origin_words, is_of_half, is_listed_if_empty, kind_words, lacks_words, place_words, sender_of, sort_in, sort_words};
 
-use crate::shown_things::ShownFact;
+use crate::shown_facts::ShownFact;
 use tcap_faults::{Class, HalfOrigin, Sort};
 use tcap_record::End;
 use tcap_refute::Kind;
@@ -113,9 +113,9 @@ pub(crate) fn sender_of(end: End, fact: ShownFact) -> End
     ensures { result ≡ sender_of end fact }
 {
     match fact {
-        ShownFact::BeginsThere
-        | ShownFact::RequestsThere
-        | ShownFact::ContinuesThere
+        ShownFact::PeerBegins
+        | ShownFact::PeerRequests
+        | ShownFact::PeerContinues
         | ShownFact::PeerComponents(_)
         | ShownFact::IncomingComponents(_) => end.other(),
         _ => end,
@@ -142,9 +142,9 @@ pub(crate) fn place_words(fact: ShownFact) -> &'static str
     ensures { result.now ≡ place_words fact }
 {
     match fact {
-        ShownFact::BeginsThere => "Begins from its destination ID",
-        ShownFact::RequestsThere => "Begins with AARQ from its destination ID",
-        ShownFact::ContinuesThere => "Continues from its destination ID",
+        ShownFact::PeerBegins => "Begins from its destination ID",
+        ShownFact::PeerRequests => "Begins with AARQ from its destination ID",
+        ShownFact::PeerContinues => "Continues from its destination ID",
         ShownFact::Used => "messages from its originating ID before it",
         ShownFact::WentElsewhere => "Continues from its originating ID to another ID before it",
         ShownFact::Begun => "Begins from the own ID",
@@ -157,7 +157,7 @@ pub(crate) fn place_words(fact: ShownFact) -> &'static str
         ShownFact::PeerComponents(_) => " from its destination ID",
         ShownFact::IncomingComponents(_) => " in this transaction",
         ShownFact::Before(_) => " before it",
-        ShownFact::Whole(_) => " in its messages to there and in this one",
+        ShownFact::Whole(_) => " in its messages to its destination ID and in this one",
         ShownFact::Invoked(_) => " in this transaction",
         ShownFact::Open => "Continues of transactions that are open",
     }
@@ -168,9 +168,9 @@ pub(crate) fn is_listed_if_empty(fact: ShownFact) -> bool
     ensures { result ≡ is_listed_if_empty fact }
 {
     match fact {
-        ShownFact::BeginsThere
-        | ShownFact::RequestsThere
-        | ShownFact::ContinuesThere
+        ShownFact::PeerBegins
+        | ShownFact::PeerRequests
+        | ShownFact::PeerContinues
         | ShownFact::Begun
         | ShownFact::OwnRequests => true,
         ShownFact::PeerComponents(sort) => {

@@ -1,7 +1,7 @@
 -- Each given list of entries is in ascending order.
-use Rattle.tcap_evidence_laws.proofs.Common.{◌≡◌, ℕ, ℤ, ◌≤◌, arith, Bool, true, false, cond, ◌&&◌, List, [], ◌∷◌, ◌++◌, map, Option, Some, None, Result, Ok, Err, is_none, refl, sym, subst, Contains, filter, slice_get, find, Component, Message, cause_in, dialogue_in, dtid_in, otid_in, Side, Entry, other, is_response, Table, Reason, Item, Sent, ended_by, item_of, Refutation, is_a, is_begin_with_request, has_not, is_continue_to, is_cause, is_sort, HalfOrigin, Accepted, Begun, Nowhere, Refused, Unanswered, Sort, ShownFact, grounds_of, mark_scene, Numbered, in_order, sent_before, invocations_at, Scene, has_request, incoming_by, invoked_by, is_open_continue, is_that, own_begin, own_id, shown, since_first, peer_from_dtid, to_half, sent_to_dtid, went_elsewhere, with_sort, with_sort_in, IsAscending, invokes_listed, component_with, scene_at}
+use Rattle.tcap_evidence_laws.proofs.Common.{◌≡◌, ℕ, ℤ, ◌≤◌, arith, Bool, true, false, cond, ◌&&◌, List, [], ◌∷◌, ◌++◌, map, Option, Some, None, Result, Ok, Err, is_none, refl, sym, subst, Contains, filter, slice_get, find, Component, Message, cause_in, dialogue_in, dtid_in, otid_in, Side, Entry, other, is_response, Table, Reason, Item, Sent, ended_by, item_of, Refutation, is_a, is_begin_with_request, has_not, is_continue_to, is_cause, is_sort, HalfOrigin, Accepted, Begun, Nowhere, Refused, Unanswered, Sort, ShownFact, grounds_of, mark_scene, Numbered, in_order, sent_before, invocations_at, Scene, has_request, incoming_by, invoked_by, is_open_continue, is_same_id, own_begin, own_id, shown, since_first, peer_from_dtid, to_half, sent_to_dtid, went_elsewhere, with_sort, with_sort_in, IsAscending, invokes_listed, component_with, scene_at}
 use Rattle.tcap_msg.specs.declared.kind.Kind.TheVariants as forms
-use Rattle.tcap_evidence.specs.declared.shown_things.ShownFact.TheVariants as facts
+use Rattle.tcap_evidence.specs.declared.shown_facts.ShownFact.TheVariants as facts
 use Rattle.tcap_evidence_laws.proofs.GroundLaws.{of_mark, of_message}
 use Rattle.tcap_evidence_laws.proofs.InvocationLaws.{are_listed, none_given}
 use Rattle.tcap_evidence_laws.proofs.OrderLaws.{Ascend, append_ascends, first_ascend, kept_ascend, repeated_ascends, sent_ascend, since_ascend, where_ascends, with_ascends}
@@ -18,11 +18,11 @@ module _ (entries : List Entry) (s : Scene) (own : s.own ≡ sent_before s.side 
 
   there_ascend : Ascend (peer_from_dtid s)
   there_ascend =
-      kept_ascend (λ (n : Numbered). is_that s.to (otid_in n.1)) s.peer
+      kept_ascend (λ (n : Numbered). is_same_id s.to (otid_in n.1)) s.peer
       (subst Ascend (sym peer) (sent_ascend (other s.side) entries s.number))
 
   outgoing_ascend : Ascend (sent_to_dtid s)
-  outgoing_ascend = kept_ascend (λ (n : Numbered). is_that s.to (dtid_in n.1) && is_none (cause_in n.1)) s.own own_ascend
+  outgoing_ascend = kept_ascend (λ (n : Numbered). is_same_id s.to (dtid_in n.1) && is_none (cause_in n.1)) s.own own_ascend
 
   half_ascend : Ascend (to_half s)
   half_ascend = by s.half refl
@@ -82,21 +82,21 @@ module _ (entries : List Entry) (s : Scene) (own : s.own ≡ sent_before s.side 
   -- ---- all lists
 
   pub shown_ascends : (fact : ShownFact) → IsAscending (shown s fact)
-  shown_ascends facts.BeginsThere = where_ascends (is_a forms.Begin) (peer_from_dtid s) there_ascend
-  shown_ascends facts.RequestsThere = where_ascends is_begin_with_request (peer_from_dtid s) there_ascend
-  shown_ascends facts.ContinuesThere = where_ascends (is_a forms.Continue) (peer_from_dtid s) there_ascend
-  shown_ascends facts.Used = where_ascends (λ m. is_that s.from (otid_in m)) s.own own_ascend
+  shown_ascends facts.PeerBegins = where_ascends (is_a forms.Begin) (peer_from_dtid s) there_ascend
+  shown_ascends facts.PeerRequests = where_ascends is_begin_with_request (peer_from_dtid s) there_ascend
+  shown_ascends facts.PeerContinues = where_ascends (is_a forms.Continue) (peer_from_dtid s) there_ascend
+  shown_ascends facts.Used = where_ascends (λ m. is_same_id s.from (otid_in m)) s.own own_ascend
   shown_ascends facts.WentElsewhere = where_ascends (went_elsewhere s) s.own own_ascend
-  shown_ascends facts.Begun = where_ascends (λ m. is_a forms.Begin m && is_that (own_id s) (otid_in m)) s.own own_ascend
+  shown_ascends facts.Begun = where_ascends (λ m. is_a forms.Begin m && is_same_id (own_id s) (otid_in m)) s.own own_ascend
   shown_ascends facts.OwnRequests =
-      where_ascends (λ m. is_begin_with_request m && is_that (own_id s) (otid_in m)) s.own own_ascend
+      where_ascends (λ m. is_begin_with_request m && is_same_id (own_id s) (otid_in m)) s.own own_ascend
   shown_ascends facts.OutgoingComponents = where_ascends (λ m. true) (sent_to_dtid s) outgoing_ascend
   shown_ascends facts.OutgoingContinues = where_ascends (is_a forms.Continue) (sent_to_dtid s) outgoing_ascend
-  shown_ascends facts.Ended = where_ascends (λ m. is_that s.to (ended_by m)) s.own own_ascend
+  shown_ascends facts.Ended = where_ascends (λ m. is_same_id s.to (ended_by m)) s.own own_ascend
   shown_ascends facts.Unknown =
-      where_ascends (λ m. is_that s.to (dtid_in m) && is_cause 1 (cause_in m)) s.own own_ascend
+      where_ascends (λ m. is_same_id s.to (dtid_in m) && is_cause 1 (cause_in m)) s.own own_ascend
   shown_ascends facts.Refused =
-      where_ascends (λ m. is_that s.to (dtid_in m) && is_cause 4 (cause_in m)) s.own own_ascend
+      where_ascends (λ m. is_same_id s.to (dtid_in m) && is_cause 4 (cause_in m)) s.own own_ascend
   shown_ascends (facts.PeerComponents sort) = sort_ascends sort (peer_from_dtid s) there_ascend
   shown_ascends (facts.IncomingComponents sort) = sort_ascends sort (in_order (incoming_by s s.origin)) (incoming_ascend s.origin)
   shown_ascends (facts.Before sort) = outgoing_ascends sort s.earlier

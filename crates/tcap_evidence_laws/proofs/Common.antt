@@ -63,8 +63,8 @@ pub use Rattle.tcap_evidence.specs.Evidence.{invoke_id_of, grounds_of, mark_scen
 pub use Rattle.tcap_evidence.specs.NumberedMessages.{Numbered, in_order, sent_before, entries_where, entries_with, with_entries, with_entry}
 pub use Rattle.tcap_evidence.specs.Operations.{invocations_at}
 pub use Rattle.tcap_evidence.specs.Partners.{Pairing, anew, no_pairing, paired_before, partner_in, with_message, with_pair, with_pairs, with_partner}
-pub use Rattle.tcap_evidence.specs.Scene.{Scene, has_request, incoming_by, invoked_by, is_open_continue, is_that, own_begin, own_id, shown, since_first, peer_from_dtid, to_half, sent_to_dtid, went_elsewhere, with_sort, with_sort_in}
-pub use Rattle.tcap_evidence.specs.declared.shown_things.ShownFact.{ShownFact}
+pub use Rattle.tcap_evidence.specs.Scene.{Scene, has_request, incoming_by, invoked_by, is_open_continue, is_same_id, own_begin, own_id, shown, since_first, peer_from_dtid, to_half, sent_to_dtid, went_elsewhere, with_sort, with_sort_in}
+pub use Rattle.tcap_evidence.specs.declared.shown_facts.ShownFact.{ShownFact}
 pub use Rattle.tcap_evidence_laws.specs.ComponentEvidence.{earlier_passing, incoming_passing, invokes_passing, entries_passing, invoked_components}
 pub use Rattle.tcap_evidence_laws.specs.GivenLists.{IsAscending, invokes_listed}
 pub use Rattle.tcap_evidence_laws.specs.ListedEntries.{HasKind, component_with, items_before, count_shown, scene_at, ListsNone, HasSort, AreListsComplete, AreCounted, ListsOne, AreSame, IsEntryOf, IsEntryItself, IsSentBefore, IsShown, AreDifferent, IsOpen, IsOutgoingTo}

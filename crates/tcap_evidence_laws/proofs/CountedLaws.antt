@@ -1,5 +1,5 @@
 -- The lists have as many entries as the kinds count components and messages.
-use Rattle.tcap_evidence_laws.proofs.Common.{◌≡◌, ◌≢◌, ℕ, ℤ, arith, Bool, true, ◌&&◌, List, [], ◌∷◌, ◌++◌, length, Option, Some, refl, ap, ◌∙◌, filter, length-append, length-map, Component, Message, cause_in, components_in, dtid_in, Side, Entry, other, Table, Item, Kind, peer_sent_from, components_of, is_a, sent_by, is_abort_with, is_cause, outgoing, count, is_begin_with_request, count_takes_all, count_both, Nowhere, Sort, Subject, half_of, subject, is_sort, count_invokes, scene_of, Numbered, entries_where, in_order, Scene, incoming_by, invoked_by, is_that, peer_from_dtid, sent_to_dtid, with_sort, with_sort_in, AreListsComplete, AreCounted, items_before, scene_at}
+use Rattle.tcap_evidence_laws.proofs.Common.{◌≡◌, ◌≢◌, ℕ, ℤ, arith, Bool, true, ◌&&◌, List, [], ◌∷◌, ◌++◌, length, Option, Some, refl, ap, ◌∙◌, filter, length-append, length-map, Component, Message, cause_in, components_in, dtid_in, Side, Entry, other, Table, Item, Kind, peer_sent_from, components_of, is_a, sent_by, is_abort_with, is_cause, outgoing, count, is_begin_with_request, count_takes_all, count_both, Nowhere, Sort, Subject, half_of, subject, is_sort, count_invokes, scene_of, Numbered, entries_where, in_order, Scene, incoming_by, invoked_by, is_same_id, peer_from_dtid, sent_to_dtid, with_sort, with_sort_in, AreListsComplete, AreCounted, items_before, scene_at}
 use Rattle.tcap_msg.specs.declared.kind.Kind.TheVariants as forms
 use Rattle.tcap_faults.proofs.story_laws.AnsweredLaws.{count_takes}
 use Rattle.tcap_evidence_laws.specs.ListedEntries.{SortsAre}
@@ -82,12 +82,12 @@ module _ (side : Side) (items : List Item) (id : List ℕ) (s : Scene) (of : IsT
   outgoing_so p = where_counted p (sent_to_dtid s) ∙ ap (count p) (outgoing_are side items id s of)
 
   aborts : (cause : ℕ)
-      → length (entries_where (λ m. is_that s.to (dtid_in m) && is_cause cause (cause_in m)) s.own)
+      → length (entries_where (λ m. is_same_id s.to (dtid_in m) && is_cause cause (cause_in m)) s.own)
       ≡ count (is_abort_with cause id) (sent_by side items)
   aborts cause =
-      where_counted (λ m. is_that s.to (dtid_in m) && is_cause cause (cause_in m)) s.own
-      ∙ ap (count (λ (m : Message). is_that s.to (dtid_in m) && is_cause cause (cause_in m))) of.own
-      ∙ ap (λ (o : Option (List ℕ)). count (λ (m : Message). is_that o (dtid_in m) && is_cause cause (cause_in m))
+      where_counted (λ m. is_same_id s.to (dtid_in m) && is_cause cause (cause_in m)) s.own
+      ∙ ap (count (λ (m : Message). is_same_id s.to (dtid_in m) && is_cause cause (cause_in m))) of.own
+      ∙ ap (λ (o : Option (List ℕ)). count (λ (m : Message). is_same_id o (dtid_in m) && is_cause cause (cause_in m))
       (sent_by side items)) of.to
 
   pub all_there : AreListsComplete side items id s

@@ -1,5 +1,5 @@
 -- The lists show F9: a dialogue portion that does not fit the dialogue.
-use Rattle.tcap_evidence_laws.proofs.Common.{◌≡◌, ◌⊎◌, inl, inr, ℕ, ◌<◌, arith, Bool, true, false, cond, not, ◌&&◌, ◌||◌, List, [], ◌∷◌, Option, Some, None, is_some, refl, sym, ap, subst, ◌∙◌, ◌==◌, find, and_from, and_parts, not-true, or_cases, or_parts, eqb-true, Dialogue, Message, Begin, Continue, Abort, dialogue_in, otid_in, Side, Entry, is_response, Table, Item, peer_sent_from, has_a, is_a, sent_by, is_begin_with_request, option_or, HalfOrigin, Accepted, Refused, Begun, Unanswered, count, is_nothing, goes_from_other, is_wrong_half, may_not_send, HalfMessages, begun_from, continued_to, half_by, half_of, incoming_continues, began, begin_from, is_request_of, outgoing, was_refused, count_more, one, Scene, is_that, own_id, HasKind, ListsNone, ListsOne, items_before, count_shown, scene_at, subject}
+use Rattle.tcap_evidence_laws.proofs.Common.{◌≡◌, ◌⊎◌, inl, inr, ℕ, ◌<◌, arith, Bool, true, false, cond, not, ◌&&◌, ◌||◌, List, [], ◌∷◌, Option, Some, None, is_some, refl, sym, ap, subst, ◌∙◌, ◌==◌, find, and_from, and_parts, not-true, or_cases, or_parts, eqb-true, Dialogue, Message, Begin, Continue, Abort, dialogue_in, otid_in, Side, Entry, is_response, Table, Item, peer_sent_from, has_a, is_a, sent_by, is_begin_with_request, option_or, HalfOrigin, Accepted, Refused, Begun, Unanswered, count, is_nothing, goes_from_other, is_wrong_half, may_not_send, HalfMessages, begun_from, continued_to, half_by, half_of, incoming_continues, began, begin_from, is_request_of, outgoing, was_refused, count_more, one, Scene, is_same_id, own_id, HasKind, ListsNone, ListsOne, items_before, count_shown, scene_at, subject}
 use Rattle.std.proofs.lemmas.Bool.{not-false}
 use Rattle.tcap_end.specs.Dialogue.{is_user_abort}
 use Rattle.tcap_faults.specs.HalfKinds.{is_provider_abort, is_wrong_in_abort, is_wrong_dialogue, is_wrong_in_continue}
@@ -15,7 +15,7 @@ use Rattle.tcap_evidence_laws.proofs.HalfScene.{begun_one, goes_on, requests_are
 use Rattle.tcap_parts.specs.declared.dialogue.Dialogue.TheVariants as dialogues
 use Rattle.tcap_msg.specs.declared.kind.Kind.TheVariants as forms
 use Rattle.tcap_refute.specs.declared.kind.Kind.TheVariants as kinds
-use Rattle.tcap_evidence.specs.declared.shown_things.ShownFact.TheVariants as facts
+use Rattle.tcap_evidence.specs.declared.shown_facts.ShownFact.TheVariants as facts
 
 -- A stricter test counts fewer messages, if the first one that passes the other test fails it.
 count_fewer : (p q : Message → Bool) (ms : List Message) (m : Message) → ((x : Message) → q x ≡ true → p x ≡ true)
@@ -47,18 +47,18 @@ module _ (side : Side) (items : List Item) (s : Scene) (id : List ℕ) (of : IsT
   abbrev has_continue : Bool
   has_continue = has_a forms.Continue (outgoing side id items)
 
-  request_there : is_request_of first ≡ true → ListsOne s facts.RequestsThere
+  request_there : is_request_of first ≡ true → ListsOne s facts.PeerRequests
   request_there asks =
       one_there side items s id of is_begin_with_request (requests_are side items s id of few first refl ∙ asks)
 
-  no_request_there : is_request_of first ≡ false → ListsNone s facts.RequestsThere
+  no_request_there : is_request_of first ≡ false → ListsNone s facts.PeerRequests
   no_request_there asks =
       none_there side items s id of is_begin_with_request (requests_are side items s id of few first refl ∙ asks)
 
   -- A Continue or an End of a half whose Begin the peer sent.
   accepted_going : (d : Option Dialogue) → is_wrong_in_continue (not has_continue) (is_request_of first) d ≡ true
       → ((is_some d ≡ true) × ListsOne s facts.OutgoingContinues)
-      ⊎ ((is_response d ≡ false) × ListsNone s facts.OutgoingContinues × ListsOne s facts.RequestsThere)
+      ⊎ ((is_response d ≡ false) × ListsNone s facts.OutgoingContinues × ListsOne s facts.PeerRequests)
   accepted_going d is =
       by has_continue refl (or_cases (not (not has_continue) && is_some d) (not has_continue && is_request_of first && not (is_response d)) is)
     where
@@ -66,7 +66,7 @@ module _ (side : Side) (items : List Item) (s : Scene) (id : List ℕ) (of : IsT
           → ((not (not outgoing_some) && is_some d) ≡ true)
           ⊎ ((not outgoing_some && is_request_of first && not (is_response d)) ≡ true)
           → ((is_some d ≡ true) × ListsOne s facts.OutgoingContinues)
-          ⊎ ((is_response d ≡ false) × ListsNone s facts.OutgoingContinues × ListsOne s facts.RequestsThere)
+          ⊎ ((is_response d ≡ false) × ListsNone s facts.OutgoingContinues × ListsOne s facts.PeerRequests)
       by true some (inl so) = inl (so, one_outgoing side items s id of (is_a forms.Continue) some)
       by true some (inr so) = cc
       by false none (inl so) = cc
@@ -81,14 +81,14 @@ module _ (side : Side) (items : List Item) (s : Scene) (id : List ℕ) (of : IsT
   -- An Abort of a half whose Begin the peer sent.
   accepted_aborting : (d : Option Dialogue) → is_wrong_in_abort (not has_continue) (is_request_of first) d ≡ true
       → ((is_response d ≡ true) × ListsOne s facts.OutgoingContinues)
-      ⊎ ((is_user_abort d ≡ true) × ListsNone s facts.RequestsThere)
+      ⊎ ((is_user_abort d ≡ true) × ListsNone s facts.PeerRequests)
   accepted_aborting d is =
       by has_continue refl (or_cases (not (not has_continue) && is_response d) (is_user_abort d && not (is_request_of first)) is)
     where
       by : (outgoing_some : Bool) → has_continue ≡ outgoing_some
           → ((not (not outgoing_some) && is_response d) ≡ true) ⊎ ((is_user_abort d && not (is_request_of first)) ≡ true)
           → ((is_response d ≡ true) × ListsOne s facts.OutgoingContinues)
-          ⊎ ((is_user_abort d ≡ true) × ListsNone s facts.RequestsThere)
+          ⊎ ((is_user_abort d ≡ true) × ListsNone s facts.PeerRequests)
       by true some (inl so) = inl (so, one_outgoing side items s id of (is_a forms.Continue) some)
       by false none (inl so) = cc
       by outgoing_some is_so (inr so) =
@@ -107,19 +107,19 @@ module _ (side : Side) (items : List Item) (s : Scene) (id : List ℕ) (of : IsT
     fewer_requests none = by (begin_from side own items) refl begun none
       where
         begins : Message → Bool
-        begins x = is_a forms.Begin x && is_that (own_id s) (otid_in x)
+        begins x = is_a forms.Begin x && is_same_id (own_id s) (otid_in x)
 
         asks : Message → Bool
-        asks x = is_begin_with_request x && is_that (own_id s) (otid_in x)
+        asks x = is_begin_with_request x && is_same_id (own_id s) (otid_in x)
 
         weaker : (x : Message) → asks x ≡ true → begins x ≡ true
         weaker x so =
-            let (requests, from) = and_parts (is_begin_with_request x) (is_that (own_id s) (otid_in x)) so in
-            and_from (is_a forms.Begin x) (is_that (own_id s) (otid_in x)) (request_begins x requests) from
+            let (requests, from) = and_parts (is_begin_with_request x) (is_same_id (own_id s) (otid_in x)) so in
+            and_from (is_a forms.Begin x) (is_same_id (own_id s) (otid_in x)) (request_begins x requests) from
 
         found_so : (b : Message) → begin_from side own items ≡ Some b → find begins (sent_by side items) ≡ Some b
         found_so b found =
-            ap (λ (o : Option (List ℕ)). find (λ (x : Message). is_a forms.Begin x && is_that o (otid_in x)) (sent_by side items)) own_is
+            ap (λ (o : Option (List ℕ)). find (λ (x : Message). is_a forms.Begin x && is_same_id o (otid_in x)) (sent_by side items)) own_is
             ∙ found
 
         by : (o : Option Message) → begin_from side own items ≡ o → is_some o ≡ true → is_request_of o ≡ false

@@ -1,7 +1,7 @@
 -- Each listed entry is in the record, before the message at fault, and matches its list.
-use Rattle.tcap_evidence_laws.proofs.Common.{◌≡◌, ◌⊎◌, inl, inr, ℕ, Bool, true, ◌&&◌, List, ◌++◌, Option, Some, subst, Contains, and_parts, Contains-append_cases, Component, Message, cause_in, dtid_in, kind_in, otid_in, Entry, other, ended_by, is_a, is_begin_with_request, is_cause, Sort, ShownFact, Numbered, entries_where, in_order, sent_before, Scene, incoming_by, invoked_by, is_open_continue, is_that, own_id, shown, peer_from_dtid, sent_to_dtid, went_elsewhere, with_sort, with_sort_in, AreSame, IsEntryOf, IsEntryItself, IsSentBefore, IsShown}
+use Rattle.tcap_evidence_laws.proofs.Common.{◌≡◌, ◌⊎◌, inl, inr, ℕ, Bool, true, ◌&&◌, List, ◌++◌, Option, Some, subst, Contains, and_parts, Contains-append_cases, Component, Message, cause_in, dtid_in, kind_in, otid_in, Entry, other, ended_by, is_a, is_begin_with_request, is_cause, Sort, ShownFact, Numbered, entries_where, in_order, sent_before, Scene, incoming_by, invoked_by, is_open_continue, is_same_id, own_id, shown, peer_from_dtid, sent_to_dtid, went_elsewhere, with_sort, with_sort_in, AreSame, IsEntryOf, IsEntryItself, IsSentBefore, IsShown}
 use Rattle.tcap_msg.specs.declared.kind.Kind.TheVariants as forms
-use Rattle.tcap_evidence.specs.declared.shown_things.ShownFact.TheVariants as facts
+use Rattle.tcap_evidence.specs.declared.shown_facts.ShownFact.TheVariants as facts
 use Rattle.tcap_evidence_laws.proofs.NumberedLists.{where_is}
 use Rattle.tcap_evidence_laws.proofs.MessageTests.{cause_is, end_is, form_is, one_is}
 use Rattle.tcap_evidence_laws.proofs.OrderLaws.{in_order_is}
@@ -35,20 +35,20 @@ module _ (entries : List Entry) (s : Scene) (own : s.own ≡ sent_before s.side 
 
   -- a message of the end from this own ID
   of_own_id : (p : Message → Bool) (id : Option (List ℕ)) (n : ℕ)
-      → Contains (entries_where (λ m. p m && is_that id (otid_in m)) s.own) n
+      → Contains (entries_where (λ m. p m && is_same_id id (otid_in m)) s.own) n
       → (m : Message) × IsSentBefore entries s.number s.side n m × (p m ≡ true) × AreSame id (otid_in m)
   of_own_id p id n has =
-      let (m, sent, both) = of_own (λ (m : Message). p m && is_that id (otid_in m)) n has in
-      let (passes, that) = and_parts (p m) (is_that id (otid_in m)) both in
+      let (m, sent, both) = of_own (λ (m : Message). p m && is_same_id id (otid_in m)) n has in
+      let (passes, that) = and_parts (p m) (is_same_id id (otid_in m)) both in
       (m, sent, passes, one_is id (otid_in m) that)
 
   -- an Abort of the end's provider with this cause
   aborted : (cause : ℕ) (n : ℕ)
-      → Contains (entries_where (λ m. is_that s.to (dtid_in m) && is_cause cause (cause_in m)) s.own) n
+      → Contains (entries_where (λ m. is_same_id s.to (dtid_in m) && is_cause cause (cause_in m)) s.own) n
       → (m : Message) × IsSentBefore entries s.number s.side n m × AreSame s.to (dtid_in m) × (cause_in m ≡ Some cause)
   aborted cause n has =
-      let (m, sent, both) = of_own (λ (m : Message). is_that s.to (dtid_in m) && is_cause cause (cause_in m)) n has in
-      let (that, caused) = and_parts (is_that s.to (dtid_in m)) (is_cause cause (cause_in m)) both in
+      let (m, sent, both) = of_own (λ (m : Message). is_same_id s.to (dtid_in m) && is_cause cause (cause_in m)) n has in
+      let (that, caused) = and_parts (is_same_id s.to (dtid_in m)) (is_cause cause (cause_in m)) both in
       (m, sent, one_is s.to (dtid_in m) that, cause_is cause (cause_in m) caused)
 
   -- ---- components
@@ -75,16 +75,16 @@ module _ (entries : List Entry) (s : Scene) (own : s.own ≡ sent_before s.side 
   -- ---- all lists
 
   pub is_shown : (fact : ShownFact) (n : ℕ) → Contains (shown s fact) n → IsShown entries s fact n
-  is_shown facts.BeginsThere n has =
+  is_shown facts.PeerBegins n has =
       let (m, sent, begins, from) = from_there (is_a forms.Begin) n has in
       (m, sent, (form_is forms.Begin (kind_in m) begins, from))
-  is_shown facts.RequestsThere n has =
+  is_shown facts.PeerRequests n has =
       let (m, sent, asks, from) = from_there is_begin_with_request n has in (m, sent, (asks, from))
-  is_shown facts.ContinuesThere n has =
+  is_shown facts.PeerContinues n has =
       let (m, sent, goes, from) = from_there (is_a forms.Continue) n has in
       (m, sent, (form_is forms.Continue (kind_in m) goes, from))
   is_shown facts.Used n has =
-      let (m, sent, that) = of_own (λ (m : Message). is_that s.from (otid_in m)) n has in
+      let (m, sent, that) = of_own (λ (m : Message). is_same_id s.from (otid_in m)) n has in
       (m, sent, one_is s.from (otid_in m) that)
   is_shown facts.WentElsewhere n has =
       let (m, sent, went) = of_own (went_elsewhere s) n has in (m, sent, went_is s m went)
@@ -101,7 +101,7 @@ module _ (entries : List Entry) (s : Scene) (own : s.own ≡ sent_before s.side 
       let (sent, outgoing) = outgoing_is s n m among in
       (m, own_at n m sent, (form_is forms.Continue (kind_in m) goes, outgoing.0))
   is_shown facts.Ended n has =
-      let (m, sent, ends) = of_own (λ (m : Message). is_that s.to (ended_by m)) n has in (m, sent, end_is s.to m ends)
+      let (m, sent, ends) = of_own (λ (m : Message). is_same_id s.to (ended_by m)) n has in (m, sent, end_is s.to m ends)
   is_shown facts.Unknown n has = let (m, sent, that, caused) = aborted 1 n has in (m, sent, (that, caused))
   is_shown facts.Refused n has = let (m, sent, that, caused) = aborted 4 n has in (m, sent, (that, caused))
   is_shown (facts.PeerComponents sort) n has =

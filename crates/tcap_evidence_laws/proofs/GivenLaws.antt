@@ -3,7 +3,7 @@ use Rattle.tcap_evidence_laws.proofs.Common.{◌≡◌, ℕ, zero, suc, ◌==◌
 use Rattle.tcap_parts.specs.declared.problem.Problem.TheVariants as problems
 use Rattle.tcap_refute.specs.declared.kind.Kind.TheVariants as kinds
 use Rattle.tcap_faults.specs.declared.component.component_sort.Sort.TheVariants as sorts
-use Rattle.tcap_evidence.specs.declared.shown_things.ShownFact.TheVariants as facts
+use Rattle.tcap_evidence.specs.declared.shown_facts.ShownFact.TheVariants as facts
 use Rattle.tcap_evidence.specs.Evidence.{dialogue_of, rejected_by, facts_with_id}
 use Rattle.tcap_evidence_laws.specs.GivenLists.{AreAllGiven, listed_facts, listed_for_dialogue, listed_for_rejected, listed_with_id}
 use Rattle.tcap_evidence_laws.proofs.NumberedLists.{map_has}

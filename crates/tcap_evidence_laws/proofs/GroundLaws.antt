@@ -1,7 +1,7 @@
 -- The given entries are the listed ones; and a component at fault belongs to a message over a half.
 use Rattle.tcap_evidence_laws.proofs.Common.{◌≡◌, ◌≢◌, inr, ℕ, Bool, true, false, not, ◌&&◌, List, ◌∷◌, [], map, Option, Some, Result, Ok, refl, sym, ap, ◌∙◌, Contains, slice_get, and_parts, Message, components_in, dtid_in, Side, Entry, Table, Reason, Item, Sent, item_of, Kind, Refutation, Nowhere, Subject, is_fault, is_of_half_kind, is_wrong_half, HalfMessages, half_of, subject, subject_by, subject_of, ShownFact, component_at, grounds_in, grounds_of, mark_scene, scene_of, shows, Scene, shown, items_before, scene_at}
 use Rattle.tcap_refute.specs.declared.kind.Kind.TheVariants as kinds
-use Rattle.tcap_evidence.specs.declared.shown_things.ShownFact.TheVariants as facts
+use Rattle.tcap_evidence.specs.declared.shown_facts.ShownFact.TheVariants as facts
 use Rattle.tcap_evidence.specs.EvidenceWords.{is_of_half}
 use Rattle.tcap_evidence_laws.specs.ListedEntries.{is_of_component}
 use Rattle.tcap_evidence_laws.proofs.HasKindLaws.{half_so}

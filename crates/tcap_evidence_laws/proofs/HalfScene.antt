@@ -1,5 +1,5 @@
 -- The lists of a half: its Begin, the Continues to it and from it, and whether it was closed.
-use Rattle.tcap_evidence_laws.proofs.Common.{false_from_ne_true, ◌≡◌, ◌⊎◌, inl, inr, ℕ, ◌<◌, Bool, true, false, cond, ◌&&◌, ◌||◌, List, [], ◌∷◌, Option, Some, None, is_some, option_to_list, refl, sym, ap, subst, ◌∙◌, is_none, Contains, filter, find, list_any, and_from, and_parts, Contains-append_left, Contains-append_right, Message, Begin, Continue, cause_in, dtid_in, otid_in, Side, is_id, Item, id_is, peer_sent_from, has_a, is_a, sent_by, is_begin_with_request, option_or, any_has, filter_has, filter_map_has, has_not, Begun, was_closed, count, is_nothing, answered_from, begun_from, continued_to, from_first, incoming_continues, responds, goes_to_begun, is_own_tangled, owns_of, peers_of, began, begin_from, is_begin_from, is_continue_from, is_continue_to, is_request_of, outgoing, filter_is, find_has, none_passes, entries_where, Scene, is_that, own_id, to_half, ListsOne, contains_first, is_that_id, other}
+use Rattle.tcap_evidence_laws.proofs.Common.{false_from_ne_true, ◌≡◌, ◌⊎◌, inl, inr, ℕ, ◌<◌, Bool, true, false, cond, ◌&&◌, ◌||◌, List, [], ◌∷◌, Option, Some, None, is_some, option_to_list, refl, sym, ap, subst, ◌∙◌, is_none, Contains, filter, find, list_any, and_from, and_parts, Contains-append_left, Contains-append_right, Message, Begin, Continue, cause_in, dtid_in, otid_in, Side, is_id, Item, id_is, peer_sent_from, has_a, is_a, sent_by, is_begin_with_request, option_or, any_has, filter_has, filter_map_has, has_not, Begun, was_closed, count, is_nothing, answered_from, begun_from, continued_to, from_first, incoming_continues, responds, goes_to_begun, is_own_tangled, owns_of, peers_of, began, begin_from, is_begin_from, is_continue_from, is_continue_to, is_request_of, outgoing, filter_is, find_has, none_passes, entries_where, Scene, is_same_id, own_id, to_half, ListsOne, contains_first, is_that_id, other}
 use Rattle.tcap_model.specs.Run.{option_then}
 use Rattle.tcap_faults.proofs.kind_laws.HalfFacts.{not_nothing}
 use Rattle.tcap_faults.proofs.list_laws.FindLaws.{find_none}
@@ -11,7 +11,7 @@ use Rattle.tcap_evidence_laws.proofs.ClosedShows.{closed_by}
 use Rattle.tcap_evidence_laws.proofs.ListsLaws.{none_pass, none_there, one_aborts, one_sent, one_there, one_outgoing}
 use Rattle.tcap_evidence_laws.proofs.SceneLists.{IsTo, half_are}
 use Rattle.tcap_msg.specs.declared.kind.Kind.TheVariants as forms
-use Rattle.tcap_evidence.specs.declared.shown_things.ShownFact.TheVariants as facts
+use Rattle.tcap_evidence.specs.declared.shown_facts.ShownFact.TheVariants as facts
 
 -- ---- lists
 
@@ -41,8 +41,8 @@ module _ (side : Side) (items : List Item) (s : Scene) (id : List ℕ) (of : IsT
 
   pub begun_one : (own : List ℕ) → own_id s ≡ Some own → began side own items ≡ true → ListsOne s facts.Begun
   begun_one own is begun =
-      one_sent side items s id of (λ x. is_a forms.Begin x && is_that (own_id s) (otid_in x))
-      (ap (λ (o : Option (List ℕ)). list_any (λ (x : Message). is_a forms.Begin x && is_that o (otid_in x)) (sent_by side items)) is
+      one_sent side items s id of (λ x. is_a forms.Begin x && is_same_id (own_id s) (otid_in x))
+      (ap (λ (o : Option (List ℕ)). list_any (λ (x : Message). is_a forms.Begin x && is_same_id o (otid_in x)) (sent_by side items)) is
       ∙ any_found (is_begin_from own) (sent_by side items) ∙ begun)
 
   pub own_request : (own : List ℕ) → own_id s ≡ Some own → is_request_of (begin_from side own items) ≡ true
@@ -53,10 +53,10 @@ module _ (side : Side) (items : List Item) (s : Scene) (id : List ℕ) (of : IsT
       by None found so = cc
       by (Some b) found so =
           let (has, from) = find_has (is_begin_from own) (sent_by side items) b found in
-          let of_own : is_that (own_id s) (otid_in b) ≡ true = rw is (and_parts (is_a forms.Begin b) _ from).1 in
-          one_sent side items s id of (λ x. is_begin_with_request x && is_that (own_id s) (otid_in x))
-          (any_has (λ x. is_begin_with_request x && is_that (own_id s) (otid_in x)) (sent_by side items) b has
-          (and_from (is_begin_with_request b) (is_that (own_id s) (otid_in b)) so of_own))
+          let of_own : is_same_id (own_id s) (otid_in b) ≡ true = rw is (and_parts (is_a forms.Begin b) _ from).1 in
+          one_sent side items s id of (λ x. is_begin_with_request x && is_same_id (own_id s) (otid_in x))
+          (any_has (λ x. is_begin_with_request x && is_same_id (own_id s) (otid_in x)) (sent_by side items) b has
+          (and_from (is_begin_with_request b) (is_same_id (own_id s) (otid_in b)) so of_own))
 
   -- If the peer sent at most one Begin, the first one has a request exactly if any has.
   pub requests_are : count (is_a forms.Begin) (peer_sent_from side id items) < 2 → (o : Option Message) → find (is_a forms.Begin) (peer_sent_from side id items) ≡ o

@@ -10,7 +10,7 @@ use Rattle.tcap_evidence_laws.proofs.SceneLists.{IsOver, IsTo}
 use Rattle.tcap_evidence_laws.proofs.HalfScene.{begun_one, none_begun, starts, unanswered, outgoing_one, begun_closed, accepted_closed, ArePlain}
 use Rattle.tcap_msg.specs.declared.kind.Kind.TheVariants as forms
 use Rattle.tcap_refute.specs.declared.kind.Kind.TheVariants as kinds
-use Rattle.tcap_evidence.specs.declared.shown_things.ShownFact.TheVariants as facts
+use Rattle.tcap_evidence.specs.declared.shown_facts.ShownFact.TheVariants as facts
 
 -- The scene is that of a message which this end sends after these items.
 pub record IsFrom (side : Side) (items : List Item) (m : Message) (s : Scene) : Type 0 where
@@ -76,7 +76,7 @@ module _ (side : Side) (items : List Item) (s : Scene) (id : List ℕ) (of : IsT
       by (inl so) = first (or_cases (may_not_send origin m) (goes_from_other side items origin own m) so)
       by (inr so) = inr (inr (closed so))
 
-  begin_there : has_a forms.Begin (peer_sent_from side id items) ≡ true → ListsOne s facts.BeginsThere
+  begin_there : has_a forms.Begin (peer_sent_from side id items) ≡ true → ListsOne s facts.PeerBegins
   begin_there begun = one_there side items s id of (is_a forms.Begin) begun
 
   accepted_wrong : has_a forms.Begin (peer_sent_from side id items) ≡ true → s.half ≡ answered_from side items id

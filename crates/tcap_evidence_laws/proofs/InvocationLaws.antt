@@ -5,7 +5,7 @@ use Rattle.tcap_refute.specs.declared.kind.Kind.TheVariants as kinds
 use Rattle.tcap_faults.specs.declared.component.component_sort.Sort.TheVariants as sorts
 use Rattle.tcap_faults.proofs.story_laws.InvokeListLaws.{id_same}
 use Rattle.tcap_evidence.specs.declared.operations.Invocation.{Invocation}
-use Rattle.tcap_evidence.specs.declared.shown_things.ShownFact.TheVariants as facts
+use Rattle.tcap_evidence.specs.declared.shown_facts.ShownFact.TheVariants as facts
 use Rattle.tcap_evidence_laws.specs.GivenLists.{IsInvoke}
 use Rattle.tcap_evidence.specs.Operations.{answers, compared, invocation_in, invocations_in, invocations_of, rejects_answer}
 use Rattle.tcap_evidence.specs.EvidenceWords.{sender_of}

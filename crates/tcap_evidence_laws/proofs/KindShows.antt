@@ -4,7 +4,7 @@ use Rattle.tcap_msg.specs.declared.kind.Kind.TheVariants as forms
 use Rattle.tcap_refute.specs.declared.kind.Kind.TheVariants as kinds
 use Rattle.tcap_refute.specs.Kind.{is_after_end, is_reused, is_unasked, is_unknown_transaction}
 use Rattle.tcap_faults.specs.Fault.{is_left_open, is_open_at_mark}
-use Rattle.tcap_evidence.specs.declared.shown_things.ShownFact.TheVariants as facts
+use Rattle.tcap_evidence.specs.declared.shown_facts.ShownFact.TheVariants as facts
 use Rattle.tcap_evidence_laws.specs.ListedEntries.{ShowsReused, ShowsUnknown}
 use Rattle.tcap_evidence_laws.proofs.CountedLaws.{scene_to}
 use Rattle.tcap_evidence_laws.proofs.HasKindLaws.{kind_so}
@@ -29,12 +29,12 @@ module _ (side : Side) (items : List Item) (s : Scene) (id : List ℕ) (of : IsT
   unasked_shows (Some cause) [] are is = (λ one. nothing (is_a forms.Continue) are, λ four. nothing (is_a forms.Begin) are)
   unasked_shows (Some cause) (m ∷ ms) are is = (by_one, by_four)
     where
-      by_one : cause ≡ 1 → ListsNone s facts.ContinuesThere
+      by_one : cause ≡ 1 → ListsNone s facts.PeerContinues
       by_one one =
           let none : not (has_a forms.Continue (m ∷ ms)) ≡ true = rw one at is in
           no_such (is_a forms.Continue) (ap (has_a forms.Continue) are ∙ not-true (has_a forms.Continue (m ∷ ms)) none)
 
-      by_four : cause ≡ 4 → ListsNone s facts.BeginsThere
+      by_four : cause ≡ 4 → ListsNone s facts.PeerBegins
       by_four four =
           let none : not (has_a forms.Begin (m ∷ ms)) ≡ true = rw four at is in
           no_such (is_a forms.Begin) (ap (has_a forms.Begin) are ∙ not-true (has_a forms.Begin (m ∷ ms)) none)

@@ -1,7 +1,7 @@
 -- Each entry before the message at fault that matches a list is listed.
-use Rattle.tcap_evidence_laws.proofs.Common.{◌≡◌, ◌⊎◌, inl, inr, ℕ, Bool, true, false, ◌&&◌, List, ◌++◌, Option, Some, None, is_none, refl, sym, subst, Contains, filter, and_from, Contains-append_left, Contains-append_right, Component, Message, Begin, Continue, cause_in, components_in, dtid_in, kind_in, otid_in, Entry, other, ended_by, is_a, is_begin_with_request, is_cause, is_surely_open, filter_has, Sort, is_sort, ShownFact, Numbered, entries_where, sent_before, Scene, is_open_continue, is_that, own_id, shown, peer_from_dtid, sent_to_dtid, went_elsewhere, with_sort, with_sort_in, AreSame, AreDifferent, HasSort, IsEntryOf, IsEntryItself, IsOpen, IsSentBefore, IsShown, IsOutgoingTo}
+use Rattle.tcap_evidence_laws.proofs.Common.{◌≡◌, ◌⊎◌, inl, inr, ℕ, Bool, true, false, ◌&&◌, List, ◌++◌, Option, Some, None, is_none, refl, sym, subst, Contains, filter, and_from, Contains-append_left, Contains-append_right, Component, Message, Begin, Continue, cause_in, components_in, dtid_in, kind_in, otid_in, Entry, other, ended_by, is_a, is_begin_with_request, is_cause, is_surely_open, filter_has, Sort, is_sort, ShownFact, Numbered, entries_where, sent_before, Scene, is_open_continue, is_same_id, own_id, shown, peer_from_dtid, sent_to_dtid, went_elsewhere, with_sort, with_sort_in, AreSame, AreDifferent, HasSort, IsEntryOf, IsEntryItself, IsOpen, IsSentBefore, IsShown, IsOutgoingTo}
 use Rattle.tcap_msg.specs.declared.kind.Kind.TheVariants as forms
-use Rattle.tcap_evidence.specs.declared.shown_things.ShownFact.TheVariants as facts
+use Rattle.tcap_evidence.specs.declared.shown_facts.ShownFact.TheVariants as facts
 use Rattle.tcap_evidence_laws.specs.ListedEntries.{is_incoming_or_invoked}
 use Rattle.tcap_evidence_laws.proofs.NumberedLists.{map_has, where_has, with_has}
 use Rattle.tcap_evidence_laws.proofs.MessageTests.{cause_so, elsewhere_so, end_so, form_so, one_so}
@@ -10,12 +10,12 @@ use Rattle.tcap_evidence_laws.proofs.SentBefore.{is_sent}
 module _ (s : Scene) where
   there_has : (n : ℕ) (m : Message) → Contains s.peer (n, m) → AreSame s.to (otid_in m) → Contains (peer_from_dtid s) (n, m)
   there_has n m sent from =
-      filter_has (λ (k : Numbered). is_that s.to (otid_in k.1)) s.peer (n, m) sent (one_so s.to (otid_in m) from)
+      filter_has (λ (k : Numbered). is_same_id s.to (otid_in k.1)) s.peer (n, m) sent (one_so s.to (otid_in m) from)
 
   outgoing_has : (n : ℕ) (m : Message) → Contains s.own (n, m) → IsOutgoingTo s.to m → Contains (sent_to_dtid s) (n, m)
   outgoing_has n m sent (to, none) =
-      filter_has (λ (k : Numbered). is_that s.to (dtid_in k.1) && is_none (cause_in k.1)) s.own (n, m) sent
-      (and_from (is_that s.to (dtid_in m)) (is_none (cause_in m)) (one_so s.to (dtid_in m) to) (rw none refl))
+      filter_has (λ (k : Numbered). is_same_id s.to (dtid_in k.1) && is_none (cause_in k.1)) s.own (n, m) sent
+      (and_from (is_same_id s.to (dtid_in m)) (is_none (cause_in m)) (one_so s.to (dtid_in m) to) (rw none refl))
 
   sorted_has : (sort : Sort) (sent : List Numbered) (n : ℕ) (m : Message) → Contains sent (n, m)
       → HasSort s sort (components_in m) → Contains (with_sort s sort sent) n
@@ -66,17 +66,17 @@ module _ (entries : List Entry) (s : Scene) (own : s.own ≡ sent_before s.side 
 
   of_own_id : (p : Message → Bool) (id : Option (List ℕ)) (n : ℕ) (m : Message)
       → IsSentBefore entries s.number s.side n m → p m ≡ true → AreSame id (otid_in m)
-      → Contains (entries_where (λ m. p m && is_that id (otid_in m)) s.own) n
+      → Contains (entries_where (λ m. p m && is_same_id id (otid_in m)) s.own) n
   of_own_id p id n m sent passes from =
-      of_own (λ (k : Message). p k && is_that id (otid_in k)) n m sent
-      (and_from (p m) (is_that id (otid_in m)) passes (one_so id (otid_in m) from))
+      of_own (λ (k : Message). p k && is_same_id id (otid_in k)) n m sent
+      (and_from (p m) (is_same_id id (otid_in m)) passes (one_so id (otid_in m) from))
 
   aborted : (cause : ℕ) (n : ℕ) (m : Message) → IsSentBefore entries s.number s.side n m → AreSame s.to (dtid_in m)
       → cause_in m ≡ Some cause
-      → Contains (entries_where (λ m. is_that s.to (dtid_in m) && is_cause cause (cause_in m)) s.own) n
+      → Contains (entries_where (λ m. is_same_id s.to (dtid_in m) && is_cause cause (cause_in m)) s.own) n
   aborted cause n m sent to is =
-      of_own (λ (k : Message). is_that s.to (dtid_in k) && is_cause cause (cause_in k)) n m sent
-      (and_from (is_that s.to (dtid_in m)) (is_cause cause (cause_in m)) (one_so s.to (dtid_in m) to)
+      of_own (λ (k : Message). is_same_id s.to (dtid_in k) && is_cause cause (cause_in k)) n m sent
+      (and_from (is_same_id s.to (dtid_in m)) (is_cause cause (cause_in m)) (one_so s.to (dtid_in m) to)
       (cause_so cause (cause_in m) is))
 
   -- a component in the end's messages to the destination ID, or one of these components of the message itself
@@ -91,13 +91,13 @@ module _ (entries : List Entry) (s : Scene) (own : s.own ≡ sent_before s.side 
       (rw it (itself_has s sort cs sorted))
 
   pub is_listed : (fact : ShownFact) (n : ℕ) → is_incoming_or_invoked fact ≡ false → IsShown entries s fact n → Contains (shown s fact) n
-  is_listed facts.BeginsThere n of (m, sent, (begins, from)) =
+  is_listed facts.PeerBegins n of (m, sent, (begins, from)) =
       from_there (is_a forms.Begin) n m sent (form_so forms.Begin m begins) from
-  is_listed facts.RequestsThere n of (m, sent, (asks, from)) = from_there is_begin_with_request n m sent asks from
-  is_listed facts.ContinuesThere n of (m, sent, (goes, from)) =
+  is_listed facts.PeerRequests n of (m, sent, (asks, from)) = from_there is_begin_with_request n m sent asks from
+  is_listed facts.PeerContinues n of (m, sent, (goes, from)) =
       from_there (is_a forms.Continue) n m sent (form_so forms.Continue m goes) from
   is_listed facts.Used n of (m, sent, from) =
-      of_own (λ (k : Message). is_that s.from (otid_in k)) n m sent (one_so s.from (otid_in m) from)
+      of_own (λ (k : Message). is_same_id s.from (otid_in k)) n m sent (one_so s.from (otid_in m) from)
   is_listed facts.WentElsewhere n of (m, sent, (goes, from, two)) =
       of_own (went_elsewhere s) n m sent (went_so s m goes from two)
   is_listed facts.Begun n of (m, sent, (begins, from)) =
@@ -108,7 +108,7 @@ module _ (entries : List Entry) (s : Scene) (own : s.own ≡ sent_before s.side 
   is_listed facts.OutgoingContinues n of (m, sent, (goes, to)) =
       to_there (is_a forms.Continue) n m sent (form_so forms.Continue m goes) (to, no_cause m goes)
   is_listed facts.Ended n of (m, sent, ends) =
-      of_own (λ (k : Message). is_that s.to (ended_by k)) n m sent (end_so s.to m ends)
+      of_own (λ (k : Message). is_same_id s.to (ended_by k)) n m sent (end_so s.to m ends)
   is_listed facts.Unknown n of (m, sent, (to, caused)) = aborted 1 n m sent to caused
   is_listed facts.Refused n of (m, sent, (to, caused)) = aborted 4 n m sent to caused
   is_listed (facts.PeerComponents sort) n of (m, sent, (from, sorted)) =

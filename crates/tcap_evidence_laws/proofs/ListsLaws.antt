@@ -1,10 +1,10 @@
 -- When is a list of the entries of messages empty, and when not?
-use Rattle.tcap_evidence_laws.proofs.Common.{◌≡◌, ℕ, Bool, true, false, cond, ◌&&◌, ◌||◌, List, [], ◌∷◌, length, map, Option, None, refl, ap, ◌∙◌, Contains, filter, list_any, Message, cause_in, dtid_in, otid_in, Side, Entry, Item, peer_sent_from, sent_by, is_nothing, is_abort_with, is_cause, outgoing, any_is, Numbered, entries_where, sent_before, Scene, is_that, peer_from_dtid, sent_to_dtid, ListsOne, items_before, other}
+use Rattle.tcap_evidence_laws.proofs.Common.{◌≡◌, ℕ, Bool, true, false, cond, ◌&&◌, ◌||◌, List, [], ◌∷◌, length, map, Option, None, refl, ap, ◌∙◌, Contains, filter, list_any, Message, cause_in, dtid_in, otid_in, Side, Entry, Item, peer_sent_from, sent_by, is_nothing, is_abort_with, is_cause, outgoing, any_is, Numbered, entries_where, sent_before, Scene, is_same_id, peer_from_dtid, sent_to_dtid, ListsOne, items_before, other}
 use Rattle.tcap_evidence_laws.proofs.NumberedLists.{map_is, where_has}
 use Rattle.tcap_evidence.proofs.SceneLaws.{none_kept}
 use Rattle.tcap_evidence_laws.proofs.SceneLists.{IsTo, there_are, outgoing_are}
 use Rattle.tcap_evidence_laws.proofs.SentBefore.{messages, sent_are}
-use Rattle.tcap_evidence.specs.declared.shown_things.ShownFact.TheVariants as facts
+use Rattle.tcap_evidence.specs.declared.shown_facts.ShownFact.TheVariants as facts
 
 -- A list of length 0 is empty.
 pub empty_is : {A : Type 0} (xs : List A) → length xs ≡ 0 → xs ≡ []
@@ -44,8 +44,8 @@ sent_one side entries number s p own some =
 -- Without a destination ID, the peer's messages from it are none.
 pub nothing_there : (s : Scene) → s.to ≡ None → peer_from_dtid s ≡ []
 nothing_there s to =
-    ap (λ (o : Option (List ℕ)). filter (λ (n : Numbered). is_that o (otid_in n.1)) s.peer) to
-    ∙ none_kept (λ (n : Numbered). is_that None (otid_in n.1)) (λ n. refl) s.peer
+    ap (λ (o : Option (List ℕ)). filter (λ (n : Numbered). is_same_id o (otid_in n.1)) s.peer) to
+    ∙ none_kept (λ (n : Numbered). is_same_id None (otid_in n.1)) (λ n. refl) s.peer
 
 -- The scene of a message to this ID.
 module _ (side : Side) (items : List Item) (s : Scene) (id : List ℕ) (of : IsTo side items id s) (p : Message → Bool) where
@@ -67,21 +67,21 @@ module _ (side : Side) (items : List Item) (s : Scene) (id : List ℕ) (of : IsT
 module _ (side : Side) (items : List Item) (s : Scene) (id : List ℕ) (of : IsTo side items id s) where
   -- whether a message is an Abort of the provider to the destination ID with this cause
   abbrev aborts : ℕ → Message → Bool
-  aborts cause m = is_that s.to (dtid_in m) && is_cause cause (cause_in m)
+  aborts cause m = is_same_id s.to (dtid_in m) && is_cause cause (cause_in m)
 
   aborts_are : (cause : ℕ)
       → list_any (aborts cause) (sent_by side items) ≡ list_any (is_abort_with cause id) (sent_by side items)
   aborts_are cause =
-      ap (λ (o : Option (List ℕ)). list_any (λ (m : Message). is_that o (dtid_in m) && is_cause cause (cause_in m))
+      ap (λ (o : Option (List ℕ)). list_any (λ (m : Message). is_same_id o (dtid_in m) && is_cause cause (cause_in m))
       (sent_by side items)) of.to
 
   pub none_aborts : (cause : ℕ) → list_any (is_abort_with cause id) (sent_by side items) ≡ false
-      → entries_where (λ m. is_that s.to (dtid_in m) && is_cause cause (cause_in m)) s.own ≡ []
+      → entries_where (λ m. is_same_id s.to (dtid_in m) && is_cause cause (cause_in m)) s.own ≡ []
   none_aborts cause none =
       none_pass (aborts cause) s.own (ap (list_any (aborts cause)) of.own ∙ aborts_are cause ∙ none)
 
   pub one_aborts : (cause : ℕ) → list_any (is_abort_with cause id) (sent_by side items) ≡ true
-      → (n : ℕ) × Contains (entries_where (λ m. is_that s.to (dtid_in m) && is_cause cause (cause_in m)) s.own) n
+      → (n : ℕ) × Contains (entries_where (λ m. is_same_id s.to (dtid_in m) && is_cause cause (cause_in m)) s.own) n
   one_aborts cause some =
       one_passes (aborts cause) s.own (ap (list_any (aborts cause)) of.own ∙ aborts_are cause ∙ some)
 

@@ -1,5 +1,5 @@
 -- Each entry listed for a transaction ID begins the ID, or is a Continue that uses it with a partner.
-use Rattle.tcap_evidence_laws.proofs.Common.{◌≡◌, ◌⊎◌, inl, inr, ℕ, ◌+◌, ◌<◌, arith, Bool, true, false, cond, ◌&&◌, List, [], ◌∷◌, ◌++◌, length, length-append, map, take, Option, Some, None, Result, Ok, Err, refl, sym, subst, ◌∙◌, Contains, slice_get, and_parts, append_assoc, append-nil, Contains-push_cases, Message, Side, Entry, Reason, Item, Sent, is_side, item_of, same_side, has_not, is_begin_from, Pairing, anew, no_pairing, paired_before, partner_in, with_message, with_pair, with_pairs, with_partner, is_that, IsSentBefore}
+use Rattle.tcap_evidence_laws.proofs.Common.{◌≡◌, ◌⊎◌, inl, inr, ℕ, ◌+◌, ◌<◌, arith, Bool, true, false, cond, ◌&&◌, List, [], ◌∷◌, ◌++◌, length, length-append, map, take, Option, Some, None, Result, Ok, Err, refl, sym, subst, ◌∙◌, Contains, slice_get, and_parts, append_assoc, append-nil, Contains-push_cases, Message, Side, Entry, Reason, Item, Sent, is_side, item_of, same_side, has_not, is_begin_from, Pairing, anew, no_pairing, paired_before, partner_in, with_message, with_pair, with_pairs, with_partner, is_same_id, IsSentBefore}
 use Rattle.tcap_evidence_laws.proofs.EntryPlaces.{Entries, here_at, keeps_at, push_at, within_at}
 use Rattle.tcap_evidence_laws.proofs.SentBefore.{back_at, there_at}
 
@@ -64,7 +64,7 @@ module _ (of : Side) (id : List ℕ) where
 
     noted : (listed : List ℕ) (partner : List ℕ) (last : Option (List ℕ)) → AreOnes done listed → IsSo sender m
         → AreOnes (done ++ taken ∷ []) (listed ++ anew (length done) partner last)
-    noted listed partner last are so = by (is_that last (Some partner))
+    noted listed partner last are so = by (is_same_id last (Some partner))
       where
         by : (b : Bool) → AreOnes (done ++ taken ∷ []) (listed ++ cond b [] (length done ∷ []))
         by true = λ n has.

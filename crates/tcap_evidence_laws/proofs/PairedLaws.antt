@@ -1,6 +1,6 @@
 -- The entries listed for a transaction ID: each Begin from it and, for each Continue with a partner, a Continue with
 -- the same partner.
-use Rattle.tcap_evidence_laws.proofs.Common.{false_from_ne_true, ◌≡◌, ◌⊎◌, inl, inr, ℕ, zero, suc, ◌+◌, ◌<◌, ◌≤◌, arith, Bool, true, false, cond, ◌&&◌, List, [], ◌∷◌, ◌++◌, length, length-append, map, take, Option, Some, None, Result, Ok, Err, refl, sym, ap, subst, ◌∙◌, Contains, nat_le, slice_get, and_parts, leb-true, append_assoc, append-nil, Contains-append_left, Contains-push, Message, dtid_in, Side, Entry, Reason, Item, Sent, is_side, item_of, only_if, id_is, is_a, itself, is_begin_from, is_continue_from, Pairing, anew, no_pairing, paired_before, partner_in, with_message, with_pair, with_pairs, with_partner, is_that, IsSentBefore}
+use Rattle.tcap_evidence_laws.proofs.Common.{false_from_ne_true, ◌≡◌, ◌⊎◌, inl, inr, ℕ, zero, suc, ◌+◌, ◌<◌, ◌≤◌, arith, Bool, true, false, cond, ◌&&◌, List, [], ◌∷◌, ◌++◌, length, length-append, map, take, Option, Some, None, Result, Ok, Err, refl, sym, ap, subst, ◌∙◌, Contains, nat_le, slice_get, and_parts, leb-true, append_assoc, append-nil, Contains-append_left, Contains-push, Message, dtid_in, Side, Entry, Reason, Item, Sent, is_side, item_of, only_if, id_is, is_a, itself, is_begin_from, is_continue_from, Pairing, anew, no_pairing, paired_before, partner_in, with_message, with_pair, with_pairs, with_partner, is_same_id, IsSentBefore}
 use Rattle.std.proofs.lemmas.Bool.{leb-false}
 use Rattle.tcap_msg.specs.declared.kind.Kind.TheVariants as forms
 use Rattle.tcap_record.specs.declared.entry.End.TheVariants as sides
@@ -108,13 +108,13 @@ module _ (of : Side) (id : List ℕ) where
     noted : (entries : List ℕ) (last other : Option (List ℕ)) (partner : List ℕ) → partner_in of id sender m ≡ Some partner
         → ((q : List ℕ) → last ≡ Some q → Stands done entries (is_side of sender) q)
         → Stands (done ++ taken ∷ []) (entries ++ anew (length done) partner last) (is_side of sender) partner
-    noted entries last other partner stands before = by (is_that last (Some partner)) refl
+    noted entries last other partner stands before = by (is_same_id last (Some partner)) refl
       where
-        same : (o : Option (List ℕ)) → is_that o (Some partner) ≡ true → o ≡ Some partner
+        same : (o : Option (List ℕ)) → is_same_id o (Some partner) ≡ true → o ≡ Some partner
         same None is = cc
         same (Some q) is = let it : Some partner ≡ Some q = id_is q (Some partner) is in sym it
 
-        by : (b : Bool) → is_that last (Some partner) ≡ b
+        by : (b : Bool) → is_same_id last (Some partner) ≡ b
             → Stands (done ++ taken ∷ []) (entries ++ anew (length done) partner last) (is_side of sender) partner
         by true is = rw is
             (stands_on done taken entries [] (is_side of sender) partner none_begun (λ bad. cc) (before partner (same last is)))

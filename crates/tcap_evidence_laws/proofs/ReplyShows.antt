@@ -13,7 +13,7 @@ use Rattle.tcap_evidence_laws.proofs.SceneLists.{IsTo}
 use Rattle.tcap_parts.specs.declared.dialogue.Dialogue.TheVariants as dialogues
 use Rattle.tcap_msg.specs.declared.kind.Kind.TheVariants as forms
 use Rattle.tcap_refute.specs.declared.kind.Kind.TheVariants as kinds
-use Rattle.tcap_evidence.specs.declared.shown_things.ShownFact.TheVariants as facts
+use Rattle.tcap_evidence.specs.declared.shown_facts.ShownFact.TheVariants as facts
 
 -- ---- F7
 
@@ -44,12 +44,12 @@ module _ (table : Table) (side : Side) (entries : List Entry) (number : ℕ) (ab
   -- The peer sent no Begin with a request from the destination ID.
   no_request : (m : Message) (id : List ℕ) → dtid_in m ≡ Some id
       → list_any is_begin_with_request (peer_sent_from side id (items_before entries number)) ≡ false
-      → ListsNone (misplaced_in m) facts.RequestsThere
+      → ListsNone (misplaced_in m) facts.PeerRequests
   no_request m id to none =
       none_there side (items_before entries number) (misplaced_in m) id
       (scene_to table side entries number m kinds.MisplacedDialogue about id to) is_begin_with_request none
 
-  alone_none : (m : Message) → dtid_in m ≡ None → ListsNone (misplaced_in m) facts.RequestsThere
+  alone_none : (m : Message) → dtid_in m ≡ None → ListsNone (misplaced_in m) facts.PeerRequests
   alone_none m to = ap (entries_where is_begin_with_request) (nothing_there (misplaced_in m) to)
 
   misplaced_by : (m : Message) → is_misplaced_dialogue side (items_before entries number) m ≡ true

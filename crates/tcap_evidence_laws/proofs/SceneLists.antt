@@ -1,6 +1,6 @@
 -- The lists of a scene are those of the kinds: the messages from an ID and to it, those that the half heard, and those
 -- that carry its invocations.
-use Rattle.tcap_evidence_laws.proofs.Common.{◌≡◌, ◌≢◌, ℕ, Bool, true, false, cond, ◌&&◌, List, [], ◌∷◌, ◌++◌, Option, Some, None, is_none, option_map, refl, ap, ◌∙◌, filter, find, option_to_list, map-append, Message, cause_in, dialogue_in, dtid_in, otid_in, Side, other, is_response, Item, peer_sent_from, components_of, has_a, is_a, sent_by, begin_from, is_continue_to, is_request_of, outgoing, was_refused, is_nothing, HalfOrigin, Accepted, Begun, Nowhere, Refused, Unanswered, answered_from, begun_from, continued_to, from_first, half_by, half_of, incoming_continues, responds, Numbered, Scene, has_request, incoming_by, invoked_by, is_that, own_begin, since_first, peer_from_dtid, to_half, sent_to_dtid}
+use Rattle.tcap_evidence_laws.proofs.Common.{◌≡◌, ◌≢◌, ℕ, Bool, true, false, cond, ◌&&◌, List, [], ◌∷◌, ◌++◌, Option, Some, None, is_none, option_map, refl, ap, ◌∙◌, filter, find, option_to_list, map-append, Message, cause_in, dialogue_in, dtid_in, otid_in, Side, other, is_response, Item, peer_sent_from, components_of, has_a, is_a, sent_by, begin_from, is_continue_to, is_request_of, outgoing, was_refused, is_nothing, HalfOrigin, Accepted, Begun, Nowhere, Refused, Unanswered, answered_from, begun_from, continued_to, from_first, half_by, half_of, incoming_continues, responds, Numbered, Scene, has_request, incoming_by, invoked_by, is_same_id, own_begin, since_first, peer_from_dtid, to_half, sent_to_dtid}
 use Rattle.tcap_msg.specs.declared.kind.Kind.TheVariants as forms
 use Rattle.tcap_evidence_laws.proofs.SentBefore.{messages}
 use Rattle.tcap_evidence_laws.proofs.NumberedLists.{first_is, kept_are, one_is, requests, since_are}
@@ -20,15 +20,15 @@ module _ (side : Side) (items : List Item) (id : List ℕ) (s : Scene) (of : IsT
 
   pub there_are : messages (peer_from_dtid s) ≡ peer_sent_from side id items
   there_are =
-      kept_are (λ m. is_that s.to (otid_in m)) s.peer
-      ∙ ap (filter (λ (m : Message). is_that s.to (otid_in m))) of.peer
-      ∙ ap (λ (o : Option (List ℕ)). filter (λ (m : Message). is_that o (otid_in m)) (sent_by (other side) items)) of.to
+      kept_are (λ m. is_same_id s.to (otid_in m)) s.peer
+      ∙ ap (filter (λ (m : Message). is_same_id s.to (otid_in m))) of.peer
+      ∙ ap (λ (o : Option (List ℕ)). filter (λ (m : Message). is_same_id o (otid_in m)) (sent_by (other side) items)) of.to
 
   pub outgoing_are : messages (sent_to_dtid s) ≡ outgoing side id items
   outgoing_are =
-      kept_are (λ m. is_that s.to (dtid_in m) && is_none (cause_in m)) s.own
-      ∙ ap (filter (λ (m : Message). is_that s.to (dtid_in m) && is_none (cause_in m))) of.own
-      ∙ ap (λ (o : Option (List ℕ)). filter (λ (m : Message). is_that o (dtid_in m) && is_none (cause_in m))
+      kept_are (λ m. is_same_id s.to (dtid_in m) && is_none (cause_in m)) s.own
+      ∙ ap (filter (λ (m : Message). is_same_id s.to (dtid_in m) && is_none (cause_in m))) of.own
+      ∙ ap (λ (o : Option (List ℕ)). filter (λ (m : Message). is_same_id o (dtid_in m) && is_none (cause_in m))
       (sent_by side items)) of.to
 
   pub half_are : (o : Option (List ℕ)) → s.half ≡ o → messages (to_half s) ≡ continued_to side items id o
@@ -39,9 +39,9 @@ module _ (side : Side) (items : List Item) (id : List ℕ) (s : Scene) (of : IsT
   begin_is : (own : List ℕ) → s.half ≡ Some own
       → option_map (λ (n : Numbered). n.1) (own_begin s) ≡ begin_from side own items
   begin_is own is =
-      first_is (λ m. is_a forms.Begin m && is_that s.half (otid_in m)) s.own
-      ∙ ap (find (λ (m : Message). is_a forms.Begin m && is_that s.half (otid_in m))) of.own
-      ∙ ap (λ (o : Option (List ℕ)). find (λ (m : Message). is_a forms.Begin m && is_that o (otid_in m))
+      first_is (λ m. is_a forms.Begin m && is_same_id s.half (otid_in m)) s.own
+      ∙ ap (find (λ (m : Message). is_a forms.Begin m && is_same_id s.half (otid_in m))) of.own
+      ∙ ap (λ (o : Option (List ℕ)). find (λ (m : Message). is_a forms.Begin m && is_same_id o (otid_in m))
       (sent_by side items)) is
 
   -- ---- messages that the half heard

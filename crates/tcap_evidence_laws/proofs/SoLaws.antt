@@ -10,7 +10,7 @@ use Rattle.tcap_evidence_laws.proofs.CountedLaws.{components_counted, scene_over
 use Rattle.tcap_evidence_laws.proofs.ListsLaws.{empty_is}
 use Rattle.tcap_evidence_laws.proofs.NumberedLists.{with_counted}
 use Rattle.tcap_evidence_laws.proofs.SentBefore.{messages}
-use Rattle.tcap_evidence.specs.declared.shown_things.ShownFact.TheVariants as facts
+use Rattle.tcap_evidence.specs.declared.shown_facts.ShownFact.TheVariants as facts
 
 -- ---- the component
 

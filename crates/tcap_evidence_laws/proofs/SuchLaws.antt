@@ -1,5 +1,5 @@
 -- The messages in a list of a scene match it.
-use Rattle.tcap_evidence_laws.proofs.Common.{◌≡◌, ◌⊎◌, inl, inr, ℕ, ℤ, Bool, true, false, cond, ◌&&◌, List, [], ◌∷◌, ◌++◌, map, Option, Some, None, is_none, refl, sym, Contains, filter, find, option_to_list, and_parts, Contains-append_cases, Component, Message, cause_in, components_in, dialogue_in, dtid_in, kind_in, otid_in, is_response, none_is, contains_first, is_a, is_continue_to, is_surely_open, filter_is, find_has, has_later, has_not, HalfOrigin, Accepted, Begun, Nowhere, Refused, Unanswered, Sort, is_sort, Numbered, Scene, has_request, incoming_by, invoked_by, is_open_continue, is_that, own_begin, since_first, peer_from_dtid, to_half, sent_to_dtid, went_elsewhere, with_sort, with_sort_in, AreSame, AreDifferent, HasSort, IsEntryItself, IsOpen, IsOutgoingTo}
+use Rattle.tcap_evidence_laws.proofs.Common.{◌≡◌, ◌⊎◌, inl, inr, ℕ, ℤ, Bool, true, false, cond, ◌&&◌, List, [], ◌∷◌, ◌++◌, map, Option, Some, None, is_none, refl, sym, Contains, filter, find, option_to_list, and_parts, Contains-append_cases, Component, Message, cause_in, components_in, dialogue_in, dtid_in, kind_in, otid_in, is_response, none_is, contains_first, is_a, is_continue_to, is_surely_open, filter_is, find_has, has_later, has_not, HalfOrigin, Accepted, Begun, Nowhere, Refused, Unanswered, Sort, is_sort, Numbered, Scene, has_request, incoming_by, invoked_by, is_open_continue, is_same_id, own_begin, since_first, peer_from_dtid, to_half, sent_to_dtid, went_elsewhere, with_sort, with_sort_in, AreSame, AreDifferent, HasSort, IsEntryItself, IsOpen, IsOutgoingTo}
 use Rattle.tcap_msg.specs.declared.kind.Kind.TheVariants as forms
 use Rattle.tcap_evidence_laws.specs.ListedEntries.{IsIncomingFor, IsInvokedIn}
 use Rattle.tcap_evidence_laws.proofs.NumberedLists.{map_is, with_is}
@@ -29,14 +29,14 @@ module _ (s : Scene) where
 
   pub there_is : (n : ℕ) (m : Message) → Contains (peer_from_dtid s) (n, m) → Contains s.peer (n, m) × AreSame s.to (otid_in m)
   there_is n m has =
-      let (sent, that) = filter_is (λ (k : Numbered). is_that s.to (otid_in k.1)) s.peer (n, m) has in
+      let (sent, that) = filter_is (λ (k : Numbered). is_same_id s.to (otid_in k.1)) s.peer (n, m) has in
       (sent, one_is s.to (otid_in m) that)
 
   pub outgoing_is : (n : ℕ) (m : Message) → Contains (sent_to_dtid s) (n, m) → Contains s.own (n, m) × IsOutgoingTo s.to m
   outgoing_is n m has =
       let (sent, both) =
-      filter_is (λ (k : Numbered). is_that s.to (dtid_in k.1) && is_none (cause_in k.1)) s.own (n, m) has in
-      let (that, none) = and_parts (is_that s.to (dtid_in m)) (is_none (cause_in m)) both in
+      filter_is (λ (k : Numbered). is_same_id s.to (dtid_in k.1) && is_none (cause_in k.1)) s.own (n, m) has in
+      let (that, none) = and_parts (is_same_id s.to (dtid_in m)) (is_none (cause_in m)) both in
       (sent, (one_is s.to (dtid_in m) that, none_is (cause_in m) none))
 
   -- a Continue to the half
@@ -48,7 +48,7 @@ module _ (s : Scene) where
       by (Some own) is =
           let some : Contains (filter (λ k. is_continue_to own k.1) (peer_from_dtid s)) (n, m) = rw is at has in
           let (from, goes) = filter_is (λ (k : Numbered). is_continue_to own k.1) (peer_from_dtid s) (n, m) some in
-          let (on, to) = and_parts (is_a forms.Continue m) (is_that (Some own) (dtid_in m)) goes in
+          let (on, to) = and_parts (is_a forms.Continue m) (is_same_id (Some own) (dtid_in m)) goes in
           let one : AreSame s.half (dtid_in m) = rw is (one_is (Some own) (dtid_in m) to) in
           (from, inr (form_is forms.Continue (kind_in m) on, one))
 
@@ -92,9 +92,9 @@ module _ (s : Scene) where
       → Contains s.own (n, m) × IsInvokedIn s.half s.to m
   begin_is n m has =
       let (sent, both) =
-      find_has (λ (k : Numbered). is_a forms.Begin k.1 && is_that s.half (otid_in k.1)) s.own (n, m)
+      find_has (λ (k : Numbered). is_a forms.Begin k.1 && is_same_id s.half (otid_in k.1)) s.own (n, m)
       (optional_is (own_begin s) (n, m) has) in
-      let (begins, that) = and_parts (is_a forms.Begin m) (is_that s.half (otid_in m)) both in
+      let (begins, that) = and_parts (is_a forms.Begin m) (is_same_id s.half (otid_in m)) both in
       (sent, inr (form_is forms.Begin (kind_in m) begins, one_is s.half (otid_in m) that))
 
   invoked_outgoing : (n : ℕ) (m : Message) → Contains (sent_to_dtid s) (n, m)

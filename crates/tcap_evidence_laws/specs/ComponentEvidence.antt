@@ -19,7 +19,7 @@ use Rattle.tcap_faults.specs.declared.component.component_sort.Class.{Class}
 use Rattle.tcap_faults.specs.declared.component.component_sort.Class.TheVariants.{Any, One, Two, Three}
 use Rattle.tcap_faults.specs.declared.component.component_sort.Sort.{Sort}
 use Rattle.tcap_faults.specs.declared.component.component_sort.Sort.TheVariants as sorts
-use Rattle.tcap_evidence.specs.declared.shown_things.ShownFact.TheVariants as facts
+use Rattle.tcap_evidence.specs.declared.shown_facts.ShownFact.TheVariants as facts
 use Rattle.tcap_evidence.specs.NumberedMessages.{Numbered, entries_with}
 use Rattle.tcap_evidence.specs.Scene.{Scene, incoming_by, invoked_by, shown, peer_from_dtid, sent_to_dtid}
 use Rattle.tcap_evidence_laws.specs.ListedEntries.{ListsNone, ListsOne, count_shown}
@@ -103,7 +103,8 @@ count_incoming_ends s =
     + count_shown s (facts.IncomingComponents sorts.InvokeRejects)
     + count_shown s (facts.IncomingComponents sorts.GeneralRejects)
 
--- the number of Rejects of answers, or with a general problem, that the end sent there, with those of this message
+-- the number of Rejects of answers, or with a general problem, that the end sent to the destination ID, with
+-- those of this message
 abbrev pub count_outgoing_rejects : Scene → ℕ
 count_outgoing_rejects s =
     count_shown s (facts.Whole sorts.ResultRejects) + count_shown s (facts.Whole sorts.GeneralRejects)

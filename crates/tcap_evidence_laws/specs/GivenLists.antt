@@ -16,8 +16,8 @@ use Rattle.tcap_faults.specs.declared.dialogue.half_origin.HalfOrigin.TheVariant
 use Rattle.tcap_faults.specs.declared.component.component_sort.Class.TheVariants.{Any, One, Two, Three}
 use Rattle.tcap_faults.specs.declared.component.component_sort.Sort.TheVariants as sorts
 use Rattle.tcap_evidence.specs.declared.operations.Invocation.{Invocation}
-use Rattle.tcap_evidence.specs.declared.shown_things.ShownFact.{ShownFact}
-use Rattle.tcap_evidence.specs.declared.shown_things.ShownFact.TheVariants as facts
+use Rattle.tcap_evidence.specs.declared.shown_facts.ShownFact.{ShownFact}
+use Rattle.tcap_evidence.specs.declared.shown_facts.ShownFact.TheVariants as facts
 use Rattle.tcap_evidence.specs.Operations.{answers, rejects_answer}
 use Rattle.tcap_evidence.specs.Scene.{Scene, shown}
 use Rattle.tcap_evidence_laws.specs.ListedEntries.{IsSentBefore}
@@ -53,7 +53,7 @@ listed_for_operation c = []
 
 -- F9, `ShowsWrongDialogue`
 abbrev pub listed_for_dialogue : HalfOrigin → List ShownFact
-listed_for_dialogue Accepted = facts.BeginsThere ∷ facts.OutgoingContinues ∷ facts.RequestsThere ∷ []
+listed_for_dialogue Accepted = facts.PeerBegins ∷ facts.OutgoingContinues ∷ facts.PeerRequests ∷ []
 listed_for_dialogue Begun = facts.Begun ∷ facts.OwnRequests ∷ []
 listed_for_dialogue origin = []
 
@@ -93,14 +93,14 @@ listed_for_rejected c = []
 
 -- the lists for a message with a destination ID
 abbrev pub listed_with_id : HalfOrigin → Option Component → Kind → List ShownFact
-listed_with_id origin c kinds.UnknownTransaction = facts.BeginsThere ∷ facts.ContinuesThere ∷ []
+listed_with_id origin c kinds.UnknownTransaction = facts.PeerBegins ∷ facts.PeerContinues ∷ []
 listed_with_id origin c kinds.ReusedId = facts.WentElsewhere ∷ []
 listed_with_id origin c kinds.AfterEnd = facts.Ended ∷ []
 listed_with_id origin c kinds.AnswersNothing = listed_for_unasked c
 listed_with_id origin c kinds.WrongOperation = listed_for_operation c
-listed_with_id origin c kinds.MisplacedDialogue = facts.RequestsThere ∷ []
+listed_with_id origin c kinds.MisplacedDialogue = facts.PeerRequests ∷ []
 listed_with_id origin c kinds.WrongHalf =
-    facts.BeginsThere ∷ facts.Refused ∷ facts.Begun ∷ facts.ContinuesThere ∷ facts.OutgoingContinues ∷ facts.Unknown
+    facts.PeerBegins ∷ facts.Refused ∷ facts.Begun ∷ facts.PeerContinues ∷ facts.OutgoingContinues ∷ facts.Unknown
     ∷ []
 listed_with_id origin c kinds.WrongDialogue = listed_for_dialogue origin
 listed_with_id origin c kinds.InvokeIdBusy = listed_for_busy
@@ -110,7 +110,7 @@ listed_with_id origin c kinds.BadLink =
 listed_with_id origin c kinds.AnsweredAlready = listed_for_answered
 listed_with_id origin c kinds.RejectNotAllowed = listed_for_rejected c
 listed_with_id origin c kinds.WrongReply =
-    facts.ContinuesThere ∷ facts.Unknown ∷ facts.OutgoingComponents ∷ facts.BeginsThere ∷ facts.Refused ∷ []
+    facts.PeerContinues ∷ facts.Unknown ∷ facts.OutgoingComponents ∷ facts.PeerBegins ∷ facts.Refused ∷ []
 listed_with_id origin c kind = []
 
 -- The lists for a message without a destination ID. Lists of the peer's messages from that ID would be empty, so they

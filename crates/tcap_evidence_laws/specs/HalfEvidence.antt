@@ -12,7 +12,7 @@ use Rattle.tcap_faults.specs.TangledIds.{goes_to_begun}
 use Rattle.tcap_faults.specs.declared.dialogue.half_origin.HalfOrigin.{HalfOrigin}
 use Rattle.tcap_faults.specs.declared.dialogue.half_origin.HalfOrigin.TheVariants.{Accepted, Refused, Begun, Unanswered, Nowhere}
 use Rattle.tcap_faults.specs.HalfByPeerId.{responds}
-use Rattle.tcap_evidence.specs.declared.shown_things.ShownFact.TheVariants as facts
+use Rattle.tcap_evidence.specs.declared.shown_facts.ShownFact.TheVariants as facts
 use Rattle.tcap_evidence.specs.NumberedMessages.{entries_where}
 use Rattle.tcap_evidence.specs.Scene.{Scene, peer_from_dtid, to_half}
 use Rattle.tcap_evidence_laws.specs.ListedEntries.{AreDifferent, ListsNone, ListsOne, count_shown}
@@ -27,21 +27,21 @@ answers_request m = accepts_dialogue (dialogue_in m)
 
 -- The message has a dialogue portion; and if it answers a request, no Begin from the destination ID has one.
 abbrev pub ShowsMisplaced : Scene → Message → Type 0
-ShowsMisplaced s m = (is_some (dialogue_in m) ≡ true) × (answers_request m ≡ true → ListsNone s facts.RequestsThere)
+ShowsMisplaced s m = (is_some (dialogue_in m) ≡ true) × (answers_request m ≡ true → ListsNone s facts.PeerRequests)
 
 -- ---- F8: no half may send the message
 
 -- The end accepted the peer's Begin: there is one, and it was not refused.
 abbrev pub Accepts : Scene → Type 0
-Accepts s = ListsOne s facts.BeginsThere × ListsNone s facts.Refused
+Accepts s = ListsOne s facts.PeerBegins × ListsNone s facts.Refused
 
 -- The end accepted no Begin of the peer: there is none, or it was refused.
 abbrev pub AcceptsNone : Scene → Type 0
-AcceptsNone s = ListsNone s facts.BeginsThere ⊎ ListsOne s facts.Refused
+AcceptsNone s = ListsNone s facts.PeerBegins ⊎ ListsOne s facts.Refused
 
 -- The end sent a Begin from the own ID; the peer sent a Continue, but no Begin.
 abbrev pub Begins : Scene → Type 0
-Begins s = ListsNone s facts.BeginsThere × ListsOne s facts.Begun × ListsOne s facts.ContinuesThere
+Begins s = ListsNone s facts.PeerBegins × ListsOne s facts.Begun × ListsOne s facts.PeerContinues
 
 -- A half that began in this way may not send:
 -- - Refused: the peer's Begin was refused;
@@ -49,11 +49,11 @@ Begins s = ListsNone s facts.BeginsThere × ListsOne s facts.Begun × ListsOne s
 -- - Nowhere: there is no Begin of the peer, and no Continue to an ID that the end began.
 abbrev pub MayNotSpeak : Scene → HalfOrigin → Type 0
 MayNotSpeak s Accepted = ⊥
-MayNotSpeak s Refused = ListsOne s facts.BeginsThere × ListsOne s facts.Refused
+MayNotSpeak s Refused = ListsOne s facts.PeerBegins × ListsOne s facts.Refused
 MayNotSpeak s Begun = ⊥
 MayNotSpeak s Unanswered = Begins s × ListsOne s facts.OwnRequests × (entries_where responds (to_half s) ≡ [])
 MayNotSpeak s Nowhere =
-    ListsNone s facts.BeginsThere × (entries_where (goes_to_begun s.side s.items) (peer_from_dtid s) ≡ [])
+    ListsNone s facts.PeerBegins × (entries_where (goes_to_begun s.side s.items) (peer_from_dtid s) ≡ [])
 
 -- The message's originating ID is not the half's. Accepted half: the end sent a Begin from the own ID, or a Continue
 -- from another own ID. Begun half: its own ID is another one.
@@ -81,10 +81,10 @@ is_for_first m = is_some (dialogue_in m)
 abbrev pub MisfitsAccepted : Scene → Message → Type 0
 MisfitsAccepted s (Abort dtid reason) =
     (is_for_first (Abort dtid reason) ≡ true) × ListsOne s facts.OutgoingContinues
-    ⊎ (is_user_abort (dialogue_in (Abort dtid reason)) ≡ true) × ListsNone s facts.RequestsThere
+    ⊎ (is_user_abort (dialogue_in (Abort dtid reason)) ≡ true) × ListsNone s facts.PeerRequests
 MisfitsAccepted s m =
     (is_for_first m ≡ true) × ListsOne s facts.OutgoingContinues
-    ⊎ (is_response (dialogue_in m) ≡ false) × ListsNone s facts.OutgoingContinues × ListsOne s facts.RequestsThere
+    ⊎ (is_response (dialogue_in m) ≡ false) × ListsNone s facts.OutgoingContinues × ListsOne s facts.PeerRequests
 
 -- The dialogue portion does not fit a half whose Begin the end sent: the portion is for the first answer; or an Abort
 -- has a user's ABRT, but not every Begin from the own ID has a request.
@@ -97,7 +97,7 @@ MisfitsBegun s m = is_for_first m ≡ true
 
 -- F9, by how the half began
 abbrev pub ShowsWrongDialogue : Scene → HalfOrigin → Message → Type 0
-ShowsWrongDialogue s Accepted m = ListsOne s facts.BeginsThere × MisfitsAccepted s m
+ShowsWrongDialogue s Accepted m = ListsOne s facts.PeerBegins × MisfitsAccepted s m
 ShowsWrongDialogue s Begun m = ListsOne s facts.Begun × MisfitsBegun s m
 ShowsWrongDialogue s origin m = ⊥
 
@@ -115,10 +115,10 @@ goes_to_open s m = by (dtid_in m)
 -- which was received, because the end sent something there without accepting a Begin; or each goes to an open half.
 abbrev pub NoContinueLeft : Scene → Type 0
 NoContinueLeft s =
-    (count_shown s facts.ContinuesThere ≤ count_shown s facts.Unknown)
-    ⊎ (count_shown s facts.ContinuesThere ≤ count_shown s facts.Unknown + 1) × ListsOne s facts.OutgoingComponents
+    (count_shown s facts.PeerContinues ≤ count_shown s facts.Unknown)
+    ⊎ (count_shown s facts.PeerContinues ≤ count_shown s facts.Unknown + 1) × ListsOne s facts.OutgoingComponents
     × AcceptsNone s
-    ⊎ ListsOne s facts.ContinuesThere
+    ⊎ ListsOne s facts.PeerContinues
     × (entries_where (λ m. is_a forms.Continue m && not (goes_to_open s m)) (peer_from_dtid s) ≡ [])
 
 -- No Begin from the destination ID is left to be refused: none was accepted, or the end sent something there.

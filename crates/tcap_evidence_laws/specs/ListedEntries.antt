@@ -26,8 +26,8 @@ use Rattle.tcap_faults.specs.Fault.{is_fault}
 use Rattle.tcap_faults.specs.HalfByPeerId.{half_of}
 use Rattle.tcap_faults.specs.FaultSubject.{items_among, subject}
 use Rattle.tcap_faults.specs.InvokeCounts.{is_sort}
-use Rattle.tcap_evidence.specs.declared.shown_things.ShownFact.{ShownFact}
-use Rattle.tcap_evidence.specs.declared.shown_things.ShownFact.TheVariants as facts
+use Rattle.tcap_evidence.specs.declared.shown_facts.ShownFact.{ShownFact}
+use Rattle.tcap_evidence.specs.declared.shown_facts.ShownFact.TheVariants as facts
 use Rattle.tcap_evidence.specs.Evidence.{component_at, scene_of}
 use Rattle.tcap_evidence.specs.Partners.{paired_before, partner_in}
 use Rattle.tcap_evidence.specs.Scene.{Scene, own_id, shown}
@@ -81,9 +81,9 @@ pub record SortsAre (table : Table) (id : ℤ) (cs : List Component) : Type 0 wh
 
 -- Each list of messages has an entry for each of the peer's messages from the ID, or each of the end's messages to it.
 pub record AreListsComplete (side : Side) (items : List Item) (id : List ℕ) (s : Scene) : Type 0 where
-  pub begins : length (shown s facts.BeginsThere) ≡ count (is_a forms.Begin) (peer_sent_from side id items)
-  pub requests : length (shown s facts.RequestsThere) ≡ count is_begin_with_request (peer_sent_from side id items)
-  pub continues : length (shown s facts.ContinuesThere) ≡ count (is_a forms.Continue) (peer_sent_from side id items)
+  pub begins : length (shown s facts.PeerBegins) ≡ count (is_a forms.Begin) (peer_sent_from side id items)
+  pub requests : length (shown s facts.PeerRequests) ≡ count is_begin_with_request (peer_sent_from side id items)
+  pub continues : length (shown s facts.PeerContinues) ≡ count (is_a forms.Continue) (peer_sent_from side id items)
   pub all_outgoing : length (shown s facts.OutgoingComponents) ≡ length (outgoing side id items)
   pub continues_outgoing : length (shown s facts.OutgoingContinues)
       ≡ count (is_a forms.Continue) (outgoing side id items)
@@ -144,9 +144,9 @@ IsOpen s m = (own : List ℕ) × (otid_in m ≡ Some own) × (is_surely_open s.t
 
 -- The messages that each list is for.
 abbrev pub IsListedFor : Scene → ShownFact → Message → Type 0
-IsListedFor s facts.BeginsThere m = (kind_in m ≡ forms.Begin) × AreSame s.to (otid_in m)
-IsListedFor s facts.RequestsThere m = (is_begin_with_request m ≡ true) × AreSame s.to (otid_in m)
-IsListedFor s facts.ContinuesThere m = (kind_in m ≡ forms.Continue) × AreSame s.to (otid_in m)
+IsListedFor s facts.PeerBegins m = (kind_in m ≡ forms.Begin) × AreSame s.to (otid_in m)
+IsListedFor s facts.PeerRequests m = (is_begin_with_request m ≡ true) × AreSame s.to (otid_in m)
+IsListedFor s facts.PeerContinues m = (kind_in m ≡ forms.Continue) × AreSame s.to (otid_in m)
 IsListedFor s facts.Used m = AreSame s.from (otid_in m)
 IsListedFor s facts.WentElsewhere m =
     (kind_in m ≡ forms.Continue) × AreSame s.from (otid_in m) × AreDifferent s.to (dtid_in m)
@@ -223,9 +223,9 @@ ListsOne s fact = (n : ℕ) × Contains (shown s fact) n
 -- F2, by the cause of an Abort: the peer sent nothing from the destination ID, or nothing that an Abort with this
 -- cause answers. For a cause that no provider sends, nothing is shown.
 abbrev pub ShowsUnknown : Scene → Option ℕ → Type 0
-ShowsUnknown s None = ListsNone s facts.BeginsThere × ListsNone s facts.ContinuesThere
+ShowsUnknown s None = ListsNone s facts.PeerBegins × ListsNone s facts.PeerContinues
 ShowsUnknown s (Some cause) =
-    (cause ≡ 1 → ListsNone s facts.ContinuesThere) × (cause ≡ 4 → ListsNone s facts.BeginsThere)
+    (cause ≡ 1 → ListsNone s facts.PeerContinues) × (cause ≡ 4 → ListsNone s facts.PeerBegins)
 
 -- F3: the end used the originating ID of the Begin before, or sent a Continue from that of the Continue to another ID.
 abbrev pub ShowsReused : Scene → Message → Type 0

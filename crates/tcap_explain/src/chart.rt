@@ -93,7 +93,7 @@ fn left_before(count: usize, place: usize) -> usize {
 }
 
 /// Appends the object of an entry.
-fn push_told(
+fn push_entry_object(
     alloc: Global,
     json: &mut String,
     number: usize,
@@ -121,7 +121,7 @@ fn push_entries(
         if let Some(number) = entry_in(*row) {
             if let Some(entry) = read.entries.get(number) {
                 json.push_str(if first { "" } else { "," })?;
-                push_told(alloc, json, number, entry)?;
+                push_entry_object(alloc, json, number, entry)?;
                 first = false;
             }
         }

@@ -355,14 +355,14 @@ fn explain_replay(
 }
 
 /// Judges the record in `reader`, and explains the verdict.
-fn explain_told<R: Read>(
+fn explain_by_table<R: Read>(
     alloc: Global,
     reader: &mut R,
     table: &Table,
     options: ExplainOptions,
 ) -> Explanation
     ensures { GivesExplanation options.judged table.now
-        (device R.untold R.failures reader.old reader.new) result.outcome (string_bytes result.behind) }
+        (device R.remaining R.failures reader.old reader.new) result.outcome (string_bytes result.behind) }
 {
     match read_record(alloc, reader) {
         Ok(read) => match explain_verdict(alloc, &read, table, options) {
@@ -377,7 +377,7 @@ fn explain_told<R: Read>(
 }
 
 /// Explains what a certificate shows of the record in `reader`.
-fn explain_told_by<R: Read>(
+fn explain_by_certificate<R: Read>(
     alloc: Global,
     reader: &mut R,
     table: &Table,
@@ -385,7 +385,7 @@ fn explain_told_by<R: Read>(
     options: ExplainOptions,
 ) -> Explanation
     ensures { GivesExplanationBy options.judged table.now (Ok certificate.now)
-        (device R.untold R.failures reader.old reader.new) result.outcome (string_bytes result.behind) }
+        (device R.remaining R.failures reader.old reader.new) result.outcome (string_bytes result.behind) }
 {
     match read_record(alloc, reader) {
         Ok(read) => match explain_replay(alloc, &read, table, certificate, options) {
@@ -406,11 +406,11 @@ fn explain_both<R: Read, T: Read>(
     table: &mut T,
     options: ExplainOptions,
 ) -> Explanation
-    ensures { IsExplained options.judged (device R.untold R.failures entries.old entries.new)
-        (device T.untold T.failures table.old table.new) result.outcome (string_bytes result.behind) }
+    ensures { IsExplained options.judged (device R.remaining R.failures entries.old entries.new)
+        (device T.remaining T.failures table.old table.new) result.outcome (string_bytes result.behind) }
 {
     match read_table(alloc, table) {
-        Ok(table) => explain_told(alloc, entries, &table, options),
+        Ok(table) => explain_by_table(alloc, entries, &table, options),
         Err(outcome) => Explanation::of_fault(alloc, outcome),
     }
 }
@@ -423,16 +423,16 @@ fn explain_all<R: Read, T: Read, C: Read>(
     certificate: &mut C,
     options: ExplainOptions,
 ) -> Explanation
-    ensures { IsExplainedBy options.judged (device R.untold R.failures entries.old entries.new)
-        (device T.untold T.failures table.old table.new)
-        (device C.untold C.failures certificate.old certificate.new) result.outcome (string_bytes result.behind) }
+    ensures { IsExplainedBy options.judged (device R.remaining R.failures entries.old entries.new)
+        (device T.remaining T.failures table.old table.new)
+        (device C.remaining C.failures certificate.old certificate.new) result.outcome (string_bytes result.behind) }
 {
     let table = match read_table(alloc, table) {
         Ok(table) => table,
         Err(outcome) => return Explanation::of_fault(alloc, outcome),
     };
     match read_certificate(alloc, certificate) {
-        Ok(certificate) => explain_told_by(alloc, entries, &table, &certificate, options),
+        Ok(certificate) => explain_by_certificate(alloc, entries, &table, &certificate, options),
         Err(outcome) => Explanation::of_fault(alloc, outcome),
     }
 }
@@ -462,8 +462,8 @@ pub fn run_explain<R: Read, T: Read, W: Write>(
     chart: &mut String,
     writer: &mut W,
 ) -> Result<Status, WriteFailed>
-    ensures explains { IfOk result (Explains options.judged (device R.untold R.failures entries.old entries.new)
-        (device T.untold T.failures table.old table.new)
+    ensures explains { IfOk result (Explains options.judged (device R.remaining R.failures entries.old entries.new)
+        (device T.remaining T.failures table.old table.new)
         (W.taken writer.old) (W.taken writer.new)) }
     ensures counts { OnOk result (W.failures writer.new ≡ W.failures writer.old) }
     ensures failed { OnErr result (W.failures writer.new ≡ one_more (W.failures writer.old)) }
@@ -490,9 +490,9 @@ pub fn run_explain_check<R: Read, T: Read, C: Read, W: Write>(
     chart: &mut String,
     writer: &mut W,
 ) -> Result<Status, WriteFailed>
-    ensures explains { IfOk result (ExplainsBy options.judged (device R.untold R.failures entries.old entries.new)
-        (device T.untold T.failures table.old table.new)
-        (device C.untold C.failures certificate.old certificate.new)
+    ensures explains { IfOk result (ExplainsBy options.judged (device R.remaining R.failures entries.old entries.new)
+        (device T.remaining T.failures table.old table.new)
+        (device C.remaining C.failures certificate.old certificate.new)
         (W.taken writer.old) (W.taken writer.new)) }
     ensures counts { OnOk result (W.failures writer.new ≡ W.failures writer.old) }
     ensures failed { OnErr result (W.failures writer.new ≡ one_more (W.failures writer.old)) }

@@ -19,13 +19,13 @@ pub record IsOwnId (table : Table) (side : Side) (items : List Item) (id : List 
   pub from : IsFromAt table (sent_from side items id) (option_copied own.from)
   pub to : IsToAt table (sent_to (other side) items id) (option_copied own.to)
 
--- `there` is what is kept of this ID of the peer: what the peer sent from it, what the end sent to it, and the own
+-- `peer_id` is what is kept of this ID of the peer: what the peer sent from it, what the end sent to it, and the own
 -- IDs that the peer's Continues join with it.
-pub record IsPeerId (table : Table) (side : Side) (items : List Item) (id : List ℕ) (there : PeerId) : Type 0 where
-  pub it : there.id.now ≡ id
-  pub from : IsFromAt table (sent_from (other side) items id) (option_copied there.from)
-  pub to : IsToAt table (sent_to side items id) (option_copied there.to)
-  pub joined : AreAmong (filter (has_used side items) (dtids_of (sent_from (other side) items id))) (option_copied there.joined)
+pub record IsPeerId (table : Table) (side : Side) (items : List Item) (id : List ℕ) (peer_id : PeerId) : Type 0 where
+  pub it : peer_id.id.now ≡ id
+  pub from : IsFromAt table (sent_from (other side) items id) (option_copied peer_id.from)
+  pub to : IsToAt table (sent_to side items id) (option_copied peer_id.to)
+  pub joined : AreAmong (filter (has_used side items) (dtids_of (sent_from (other side) items id))) (option_copied peer_id.joined)
 
 -- `IsOwnId`, if there is an ID.
 abbrev pub IsOwnIdAt : Table → Side → List Item → Option (List ℕ) → Option OwnId → Type 0
@@ -36,11 +36,11 @@ IsOwnIdAt table side items _ _ = ⊥
 -- `IsPeerId`, if there is an ID.
 abbrev pub IsPeerIdAt : Table → Side → List Item → Option (List ℕ) → Option PeerId → Type 0
 IsPeerIdAt table side items None None = ⊤
-IsPeerIdAt table side items (Some id) (Some there) = IsPeerId table side items id there
+IsPeerIdAt table side items (Some id) (Some peer_id) = IsPeerId table side items id peer_id
 IsPeerIdAt table side items _ _ = ⊥
 
 -- `found` is what is kept of the IDs of this message.
 pub record AreMessageIds (table : Table) (side : Side) (items : List Item) (m : Message) (found : MessageIds)
     : Type 0 where
   pub own : IsOwnIdAt table side items (otid_in m) found.own
-  pub there : IsPeerIdAt table side items (dtid_in m) found.there
+  pub peer_id : IsPeerIdAt table side items (dtid_in m) found.peer_id

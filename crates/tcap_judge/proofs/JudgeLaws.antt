@@ -78,10 +78,10 @@ pub ends_with : (judged : Option Side) (table : Table) (c : Certificate) (entrie
 ends_with judged table c entries held checker (Ok end) count stands = (count, stands)
 ends_with judged table c entries held checker (Err fault) count stands = tt
 
-pub ended_at_end : (untold : Option (List ℕ)) (end : Result (Unit {0}) FeedFault) → IsAtEnd untold
-    → EndsOnlyAtEnd untold end
-ended_at_end untold (Ok end) at = at
-ended_at_end untold (Err fault) at = λ cut. at
+pub ended_at_end : (remaining : Option (List ℕ)) (end : Result (Unit {0}) FeedFault) → IsAtEnd remaining
+    → EndsOnlyAtEnd remaining end
+ended_at_end remaining (Ok end) at = at
+ended_at_end remaining (Err fault) at = λ cut. at
 
 pub ended_fails : (end : Result (Unit {0}) FeedFault) (h : FramerState) (old new : ℕ) → FinishesAs end h → h.fault ≡ None
     → new ≡ old

@@ -9,12 +9,12 @@ pub record Device : Type 0 where
   pub failed_before : ℕ
   pub failed_after : ℕ
 
--- The `Device` of a reader that was `old` before the call and is `new` after it. `untold` gives the octets that it
+-- The `Device` of a reader that was `old` before the call and is `new` after it. `remaining` gives the octets that it
 -- still has to return, and `failures` the number of its failures.
 abbrev pub device : {A : Type 0} → (A → Option (List ℕ)) → (A → ℕ) → A → A → Device
-device untold failures old new = record {
-  before = untold old;
-  after = untold new;
+device remaining failures old new = record {
+  before = remaining old;
+  after = remaining new;
   failed_before = failures old;
   failed_after = failures new;
 }

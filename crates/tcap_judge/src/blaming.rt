@@ -247,8 +247,8 @@ pub fn blame_record(alloc: Global, read: &Record, table: &Table) -> Result<Blame
 }
 
 /// Judges the record that `reader` returns, and each of its ends.
-fn blame_told<R: Read>(alloc: Global, reader: &mut R, table: &Table) -> Blame
-    ensures { GivesBlame table.now (device R.untold R.failures reader.old reader.new) result.outcome result.ends }
+fn blame_by_table<R: Read>(alloc: Global, reader: &mut R, table: &Table) -> Blame
+    ensures { GivesBlame table.now (device R.remaining R.failures reader.old reader.new) result.outcome result.ends }
 {
     laws::blamed_is_at_fault();
     match read_record(alloc, reader) {
@@ -263,11 +263,11 @@ fn blame_told<R: Read>(alloc: Global, reader: &mut R, table: &Table) -> Blame
 /// Judges the record that `entries` returns, and each of its ends, by the operation table that `table` returns.
 /// `run_blame` writes the lines of this result. If the table has a fault, nothing of the record is read.
 pub fn blame_outcome<R: Read, T: Read>(alloc: Global, entries: &mut R, table: &mut T) -> Blame
-    ensures { IsBlamed (device R.untold R.failures entries.old entries.new)
-        (device T.untold T.failures table.old table.new) result.outcome result.ends }
+    ensures { IsBlamed (device R.remaining R.failures entries.old entries.new)
+        (device T.remaining T.failures table.old table.new) result.outcome result.ends }
 {
     match read_table(alloc, table) {
-        Ok(table) => blame_told(alloc, entries, &table),
+        Ok(table) => blame_by_table(alloc, entries, &table),
         Err(outcome) => Blame::alone(outcome),
     }
 }
@@ -337,12 +337,12 @@ pub fn run_blame<R: Read, T: Read, W: Write>(
     table: &mut T,
     writer: &mut W,
 ) -> Result<Status, WriteFailed>
-    ensures blames { IfOk result (PrintsBlame (device R.untold R.failures entries.old entries.new)
-        (device T.untold T.failures table.old table.new)
+    ensures blames { IfOk result (PrintsBlame (device R.remaining R.failures entries.old entries.new)
+        (device T.remaining T.failures table.old table.new)
         (W.taken writer.old) (W.taken writer.new)) }
     ensures lawful { result ≡ Ok Status.Fine
-        → FindsLawfulEnds (device R.untold R.failures entries.old entries.new)
-        (device T.untold T.failures table.old table.new)
+        → FindsLawfulEnds (device R.remaining R.failures entries.old entries.new)
+        (device T.remaining T.failures table.old table.new)
         (W.taken writer.old) (W.taken writer.new) }
     ensures counts { OnOk result (W.failures writer.new ≡ W.failures writer.old) }
     ensures failed { OnErr result (W.failures writer.new ≡ one_more (W.failures writer.old)) }

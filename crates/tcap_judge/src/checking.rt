@@ -89,7 +89,7 @@ fn take_all<R: Read>(
     reader: &mut R,
 ) -> Result<(), FeedFault>
     requires fresh { frames.old ≡ empty_framer }
-    ensures { LeadsToEnd checker.old (device R.untold R.failures reader.old reader.new)
+    ensures { LeadsToEnd checker.old (device R.remaining R.failures reader.old reader.new)
         frames.new checker.new result }
 {
     let mut piece = [0; PIECE_LEN];
@@ -157,7 +157,7 @@ fn judge_record<R: Read>(
     certificate: &Certificate,
     judged: Option<End>,
 ) -> Outcome
-    ensures { JudgesRecord judged table.now certificate.now (device R.untold R.failures reader.old reader.new) result }
+    ensures { JudgesRecord judged table.now certificate.now (device R.remaining R.failures reader.old reader.new) result }
 {
     let mut frames = Frames::new(alloc);
     let Some(mut checker) = start(alloc, table, certificate, judged) else {
@@ -179,9 +179,9 @@ pub fn check_outcome<R: Read, T: Read, C: Read>(
     certificate: &mut C,
     judged: Option<End>,
 ) -> Outcome
-    ensures { Judges judged (device R.untold R.failures entries.old entries.new)
-        (device T.untold T.failures table.old table.new)
-        (device C.untold C.failures certificate.old certificate.new) result }
+    ensures { Judges judged (device R.remaining R.failures entries.old entries.new)
+        (device T.remaining T.failures table.old table.new)
+        (device C.remaining C.failures certificate.old certificate.new) result }
 {
     let table = match read_table(alloc, table) {
         Ok(table) => table,
@@ -217,12 +217,12 @@ pub fn run_check<R: Read, T: Read, C: Read, W: Write>(
     judged: Option<End>,
     writer: &mut W,
 ) -> Result<Status, WriteFailed>
-    ensures checks { IfOk result (Checks judged (device R.untold R.failures entries.old entries.new)
-        (device T.untold T.failures table.old table.new) (device C.untold C.failures certificate.old certificate.new)
+    ensures checks { IfOk result (Checks judged (device R.remaining R.failures entries.old entries.new)
+        (device T.remaining T.failures table.old table.new) (device C.remaining C.failures certificate.old certificate.new)
         (W.taken writer.old) (W.taken writer.new)) }
     ensures lawful { result ≡ Ok Status.Fine
-        → FindsLawfulBy judged (device R.untold R.failures entries.old entries.new)
-        (device T.untold T.failures table.old table.new) (W.taken writer.old) (W.taken writer.new) }
+        → FindsLawfulBy judged (device R.remaining R.failures entries.old entries.new)
+        (device T.remaining T.failures table.old table.new) (W.taken writer.old) (W.taken writer.new) }
     ensures counts { OnOk result (W.failures writer.new ≡ W.failures writer.old) }
     ensures failed { OnErr result (W.failures writer.new ≡ one_more (W.failures writer.old)) }
 {

@@ -17,14 +17,14 @@ use tcap_record::{End, read_record};
 use tcap_refute::laws;
 
 /// Judges the record that `reader` returns.
-fn judge_told<R: Read>(
+fn judge_by_table<R: Read>(
     alloc: Global,
     reader: &mut R,
     table: &Table,
     judged: Option<End>,
     with_certificate: bool,
 ) -> RecordVerdict
-    ensures { GivesVerdict judged table.now with_certificate (device R.untold R.failures reader.old reader.new) result.outcome (string_bytes result.behind) }
+    ensures { GivesVerdict judged table.now with_certificate (device R.remaining R.failures reader.old reader.new) result.outcome (string_bytes result.behind) }
 {
     match read_record(alloc, reader) {
         Ok(read) => match judge_record(alloc, &read, table, judged, with_certificate) {
@@ -47,11 +47,11 @@ fn judge<R: Read, T: Read>(
     judged: Option<End>,
     with_certificate: bool,
 ) -> RecordVerdict
-    ensures { IsJudged judged with_certificate (device R.untold R.failures entries.old entries.new)
-        (device T.untold T.failures table.old table.new) result.outcome (string_bytes result.behind) }
+    ensures { IsJudged judged with_certificate (device R.remaining R.failures entries.old entries.new)
+        (device T.remaining T.failures table.old table.new) result.outcome (string_bytes result.behind) }
 {
     match read_table(alloc, table) {
-        Ok(table) => judge_told(alloc, entries, &table, judged, with_certificate),
+        Ok(table) => judge_by_table(alloc, entries, &table, judged, with_certificate),
         Err(outcome) => RecordVerdict::alone(alloc, outcome),
     }
 }
@@ -65,8 +65,8 @@ pub fn judge_outcome<R: Read, T: Read>(
     table: &mut T,
     judged: Option<End>,
 ) -> Outcome
-    ensures { (behind : List ℕ) × IsJudged judged false (device R.untold R.failures entries.old entries.new)
-        (device T.untold T.failures table.old table.new) result behind }
+    ensures { (behind : List ℕ) × IsJudged judged false (device R.remaining R.failures entries.old entries.new)
+        (device T.remaining T.failures table.old table.new) result behind }
 {
     judge(alloc, entries, table, judged, false).outcome
 }
@@ -100,14 +100,14 @@ pub fn run_judge<R: Read, T: Read, W: Write>(
     writer: &mut W,
 ) -> Result<Status, WriteFailed>
     ensures judges { IfOk result (PrintsVerdict judged with_certificate
-        (device R.untold R.failures entries.old entries.new) (device T.untold T.failures table.old table.new)
+        (device R.remaining R.failures entries.old entries.new) (device T.remaining T.failures table.old table.new)
         (W.taken writer.old) (W.taken writer.new)) }
     ensures lawful { result ≡ Ok Status.Fine
-        → FindsLawfulThen judged with_certificate (device R.untold R.failures entries.old entries.new)
-        (device T.untold T.failures table.old table.new) (W.taken writer.old) (W.taken writer.new) }
+        → FindsLawfulThen judged with_certificate (device R.remaining R.failures entries.old entries.new)
+        (device T.remaining T.failures table.old table.new) (W.taken writer.old) (W.taken writer.new) }
     ensures refuted { result ≡ Ok Status.Refuted
-        → FindsFault judged (device R.untold R.failures entries.old entries.new)
-        (device T.untold T.failures table.old table.new) (W.taken writer.old) (W.taken writer.new) }
+        → FindsFault judged (device R.remaining R.failures entries.old entries.new)
+        (device T.remaining T.failures table.old table.new) (W.taken writer.old) (W.taken writer.new) }
     ensures counts { OnOk result (W.failures writer.new ≡ W.failures writer.old) }
     ensures failed { OnErr result (W.failures writer.new ≡ one_more (W.failures writer.old)) }
 {

@@ -40,7 +40,7 @@ fn without_text(too_long: u8, fault: TextFault) -> Outcome
 /// The outcome to report instead: a fault of the table (30 to 34), the reader's failure (23), or that memory ran out
 /// (99).
 pub fn read_table<R: Read>(alloc: Global, reader: &mut R) -> Result<Table, Outcome>
-    ensures { ReadsTable (device R.untold R.failures reader.old reader.new) result }
+    ensures { ReadsTable (device R.remaining R.failures reader.old reader.new) result }
 {
     match read_text(alloc, reader, TEXT_LIMIT) {
         Ok(text) => match Table::from_json(alloc, &text) {
@@ -59,7 +59,7 @@ pub fn read_table<R: Read>(alloc: Global, reader: &mut R) -> Result<Table, Outco
 /// The outcome to report instead: that the text is not a certificate (60), the reader's failure (23), or that memory
 /// ran out (99).
 pub fn read_certificate<R: Read>(alloc: Global, reader: &mut R) -> Result<Certificate, Outcome>
-    ensures { ReadsCertificate (device R.untold R.failures reader.old reader.new) result }
+    ensures { ReadsCertificate (device R.remaining R.failures reader.old reader.new) result }
 {
     match read_text(alloc, reader, TEXT_LIMIT) {
         Ok(text) => match from_json(alloc, &text) {

@@ -33,7 +33,7 @@ pub(crate) fn read_text<R: Read>(
     reader: &mut R,
     limit: usize,
 ) -> Result<Vec<u8>, TextFault>
-    ensures reads { ReadsText limit (R.untold reader.old) (R.untold reader.new) (R.failures reader.old)
+    ensures reads { ReadsText limit (R.remaining reader.old) (R.remaining reader.new) (R.failures reader.old)
         (R.failures reader.new) (octets_of result) }
 {
     let mut piece = [0; PIECE_LEN];

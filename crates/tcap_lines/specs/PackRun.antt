@@ -11,23 +11,23 @@ use Rattle.tcap_lines.specs.declared.status.Status.TheVariants as statuses
 
 -- The lines read were packed up to a fault, and its line was written, or the memory line instead. The reader failed
 -- exactly if the fault is Read.
-pub record FailsToPack (returned : List ℕ) (untold : Option (List ℕ)) (failures failures' : ℕ)
+pub record FailsToPack (returned : List ℕ) (remaining : Option (List ℕ)) (failures failures' : ℕ)
     (taken taken' said said' : Option (List ℕ)) : Type 0 where
   pub fault : FeedFault
   pub line : List ℕ
-  pub packed : IsPackedUpTo returned fault untold taken taken'
+  pub packed : IsPackedUpTo returned fault remaining taken taken'
   pub failed : fault.reason ≡ feed.Read → failures' ≡ one_more failures
   pub sound : fault.reason ≢ feed.Read → failures' ≡ failures
   pub line_is : (line ≡ feed_fault_line fault) ⊎ (line ≡ memory_line)
   pub says : Appends said said' line
 
 -- All lines of the reader, up to its end, were packed, and no fault line was written.
-pub record PacksAll (returned : List ℕ) (untold : Option (List ℕ)) (failures failures' : ℕ)
+pub record PacksAll (returned : List ℕ) (remaining : Option (List ℕ)) (failures failures' : ℕ)
     (taken taken' said said' : Option (List ℕ))
     : Type 0 where
   pub count : ℕ
   pub packed : IsPacked returned count taken taken'
-  pub at_end : IsAtEnd untold
+  pub at_end : IsAtEnd remaining
   pub sound : failures' ≡ failures
   pub says : said' ≡ said
 
@@ -35,16 +35,16 @@ pub record PacksAll (returned : List ℕ) (untold : Option (List ℕ)) (failures
 abbrev pub PacksWithStatus : List ℕ → Option (List ℕ) → ℕ → ℕ → Option (List ℕ) → Option (List ℕ) → Option (List ℕ)
     → Option (List ℕ)
     → Status → Type 0
-PacksWithStatus returned untold failures failures' taken taken' said said' statuses.Fine =
-    PacksAll returned untold failures failures' taken taken' said said'
-PacksWithStatus returned untold failures failures' taken taken' said said' statuses.Refuted = ⊥
-PacksWithStatus returned untold failures failures' taken taken' said said' statuses.NotShown = ⊥
-PacksWithStatus returned untold failures failures' taken taken' said said' statuses.Fault =
-    FailsToPack returned untold failures failures' taken taken' said said'
+PacksWithStatus returned remaining failures failures' taken taken' said said' statuses.Fine =
+    PacksAll returned remaining failures failures' taken taken' said said'
+PacksWithStatus returned remaining failures failures' taken taken' said said' statuses.Refuted = ⊥
+PacksWithStatus returned remaining failures failures' taken taken' said said' statuses.NotShown = ⊥
+PacksWithStatus returned remaining failures failures' taken taken' said said' statuses.Fault =
+    FailsToPack returned remaining failures failures' taken taken' said said'
 
 -- The octets read were packed, or a fault line was written, and the status says which.
 abbrev pub PacksRead : Option (List ℕ) → Option (List ℕ) → ℕ → ℕ → Option (List ℕ) → Option (List ℕ) → Option (List ℕ)
     → Option (List ℕ) → Status → Type 0
-PacksRead untold untold' failures failures' taken taken' said said' status =
-    (returned : List ℕ) × Consumes untold untold' returned
-    × PacksWithStatus returned untold' failures failures' taken taken' said said' status
+PacksRead remaining remaining' failures failures' taken taken' said said' status =
+    (returned : List ℕ) × Consumes remaining remaining' returned
+    × PacksWithStatus returned remaining' failures failures' taken taken' said said' status

@@ -27,13 +27,13 @@ Leads old_held old_bad old_taken octets held bad taken =
     → (shown : List Entry) × ShownSoFar (returned ++ octets) shown held bad start taken
 
 -- The octets read are these entries, whose lines were written, and this end.
-pub record ShowsAll (untold untold' : Option (List ℕ)) (failures failures' : ℕ) (bad : Bool)
+pub record ShowsAll (remaining remaining' : Option (List ℕ)) (failures failures' : ℕ) (bad : Bool)
     (taken taken' : Option (List ℕ)) (end : Result (Unit {0}) FeedFault) : Type 0 where
   pub returned : List ℕ
   pub entries : List Entry
-  pub tells : Consumes untold untold' returned
+  pub tells : Consumes remaining remaining' returned
   pub is_read : IsReadAs entries end returned
-  pub ended : EndsOnlyAtEnd untold' end
+  pub ended : EndsOnlyAtEnd remaining' end
   pub failed : FailsOnlyByReader failures failures' end
   pub written : Appends taken taken' (lines_of entries)
   pub bad_is : bad ≡ list_any is_bad entries

@@ -56,16 +56,16 @@ Prints entries end text status =
 
 -- The octets read are these entries and this end, which agrees with the reader's own end or failure. The writer took
 -- what is printed of them.
-pub record Shows (untold untold' : Option (List ℕ)) (failures failures' : ℕ) (taken taken' : Option (List ℕ))
+pub record Shows (remaining remaining' : Option (List ℕ)) (failures failures' : ℕ) (taken taken' : Option (List ℕ))
     (status : Status)
     : Type 0 where
   pub returned : List ℕ
   pub entries : List Entry
   pub end : Result (Unit {0}) FeedFault
   pub text : List ℕ
-  pub tells : Consumes untold untold' returned
+  pub tells : Consumes remaining remaining' returned
   pub is_read : IsReadAs entries end returned
-  pub ended : EndsOnlyAtEnd untold' end
+  pub ended : EndsOnlyAtEnd remaining' end
   pub failed : FailsOnlyByReader failures failures' end
   pub prints : Prints entries end text status
   pub takes : Appends taken taken' text

@@ -23,7 +23,7 @@ pub fn run_pack<R: Read, W: Write, F: Write>(
     writer: &mut W,
     faults: &mut F,
 ) -> Result<Status, WriteFailed>
-    ensures packed { IfOk result (PacksRead (R.untold reader.old) (R.untold reader.new)
+    ensures packed { IfOk result (PacksRead (R.remaining reader.old) (R.remaining reader.new)
         (R.failures reader.old) (R.failures reader.new)
         (W.taken writer.old) (W.taken writer.new) (F.taken faults.old) (F.taken faults.new)) }
     ensures counts { OnOk result ((W.failures writer.new ≡ W.failures writer.old)

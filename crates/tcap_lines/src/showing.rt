@@ -165,7 +165,7 @@ fn show_all<R: Read, W: Write>(
 ) -> Result<(), Stop>
     requires fresh { showing.old.frames ≡ empty_framer }
     requires fine { showing.old.bad ≡ false }
-    ensures shows { UnlessWrite (ShowsAll (R.untold reader.old) (R.untold reader.new) (R.failures reader.old)
+    ensures shows { UnlessWrite (ShowsAll (R.remaining reader.old) (R.remaining reader.new) (R.failures reader.old)
         (R.failures reader.new)
         showing.new.bad (W.taken writer.old) (W.taken writer.new)) result }
     ensures write { result ≡ Err Stop.Write → W.failures writer.new ≡ one_more (W.failures writer.old) }
@@ -202,7 +202,7 @@ pub fn run_show<R: Read, W: Write>(
     reader: &mut R,
     writer: &mut W,
 ) -> Result<Status, WriteFailed>
-    ensures shown { IfOk result (Shows (R.untold reader.old) (R.untold reader.new)
+    ensures shown { IfOk result (Shows (R.remaining reader.old) (R.remaining reader.new)
         (R.failures reader.old) (R.failures reader.new)
         (W.taken writer.old) (W.taken writer.new)) }
     ensures counts { OnOk result (W.failures writer.new ≡ W.failures writer.old) }

@@ -5,13 +5,12 @@ use Rattle.std.specs.List.{AllByRecursion}
 use Rattle.tcap_parts.specs.declared.component.Component.{Component}
 use Rattle.tcap_parts.specs.declared.component.Component.TheVariants.{Invoke}
 use Rattle.tcap_msg.specs.declared.message.Message.{Message}
-use Rattle.tcap_msg.specs.Parts.{components_in}
+use Rattle.tcap_msg.specs.Parts.{components_in, otid_in}
 use Rattle.tcap_end.specs.declared.half.Phase.TheVariants as phases
 use Rattle.tcap_end.specs.declared.half.DialogueState.TheVariants as dialogue_states
 use Rattle.tcap_end.specs.Half.{Answer, Half, Invocation, fresh, listed}
 use Rattle.tcap_end.specs.End.{End, KeyedHalf}
 use Rattle.tcap_end.specs.ReachableEnd.{HasHalf}
-use Rattle.tcap_model.specs.SinceMark.{originating}
 use Rattle.tcap_model.specs.SinceMark.{IsAnswer, is_begin_with_request}
 
 -- a half before its first step
@@ -21,7 +20,7 @@ blank = fresh phases.Sent None None dialogue_states.Without
 -- The received message, if any, has this originating ID.
 abbrev pub IsFrom : Option Message → Option (List ℕ) → Type 0
 IsFrom None peer = ⊥
-IsFrom (Some m) peer = originating m ≡ peer
+IsFrom (Some m) peer = otid_in m ≡ peer
 
 -- The received message is a Begin with a dialogue request.
 abbrev pub IsAsked : Option Message → Type 0

@@ -15,7 +15,7 @@ use Rattle.tcap_end.specs.ReachableEnd.{FitsPhase, HasHalf, IsEnd, IsHalf}
 use Rattle.tcap_record.specs.Ends.{other}
 use Rattle.tcap_model.specs.World.{World, end_at}
 use Rattle.tcap_model.specs.Run.{Event, Runs}
-use Rattle.tcap_model.specs.SinceMark.{originating}
+use Rattle.tcap_msg.specs.Parts.{otid_in}
 use Rattle.tcap_model.specs.SinceMark.{AnswersWereSent, PeerSentComponent, InvokesWereSent, IsAnswer, PeerWasSent, RequestWasSent, SentSince, is_begin_with_request}
 use Rattle.tcap_model.proofs.ListLaws.{all_weaker}
 use Rattle.tcap_model.proofs.Moves.{HasCome, IsAsked, IsFrom, Turns, blank}
@@ -87,7 +87,7 @@ module _ {event : Event} (w next : World) (side : Side) (g : KeyedHalf) (h : Hal
   peer_kept old id is = by came since (turns.learned id is)
     where
       by : (came : Option Message) → CameSince w side came → (h.peer ≡ Some id) ⊎ IsFrom came g.half.peer
-          → (m : Message) × SentSince (other side) m next.sent × (originating m ≡ Some id)
+          → (m : Message) × SentSince (other side) m next.sent × (otid_in m ≡ Some id)
       by came since (inl had) = let (m, there, from) = old id had in (m, sent.keeps (other side) m there, from)
       by None since (inr from) = absurd from
       by (Some m) since (inr from) = (m, sent.keeps (other side) m since, from ∙ is)
@@ -97,7 +97,7 @@ module _ {event : Event} (w next : World) (side : Side) (g : KeyedHalf) (h : Hal
     where
       by : (came : Option Message) → CameSince w side came → HasPeer h ⊎ IsBare h
           → ((h.phase ≡ phases.Received) × (h.dialogue_state ≡ dialogue_states.Requested)) ⊎ (IsAsked came × IsFrom came g.half.peer)
-          → (m : Message) × SentSince (other side) m next.sent × (is_begin_with_request m ≡ true) × (originating m ≡ g.half.peer)
+          → (m : Message) × SentSince (other side) m next.sent × (is_begin_with_request m ≡ true) × (otid_in m ≡ g.half.peer)
       by came since (inl peer) (inl had) =
           let (m, there, so, from) = old had.0 had.1 in
           (m, sent.keeps (other side) m there, so, from ∙ same_peer peer)

@@ -5,7 +5,7 @@ use Rattle.tcap_parts.specs.declared.component.Component.{Component}
 use Rattle.tcap_parts.specs.declared.component.Component.TheVariants.{Invoke, ReturnResult, ReturnError}
 use Rattle.tcap_msg.specs.declared.message.Message.{Message}
 use Rattle.tcap_msg.specs.declared.message.Message.TheVariants.{Begin, Continue, End as EndMessage, Abort}
-use Rattle.tcap_msg.specs.Parts.{components_in, reason_cause}
+use Rattle.tcap_msg.specs.Parts.{components_in, otid_in, reason_cause}
 use Rattle.tcap_record.specs.declared.entry.End.{End as Side}
 use Rattle.tcap_end.specs.declared.half.Phase.TheVariants as phases
 use Rattle.tcap_end.specs.declared.half.DialogueState.TheVariants as dialogue_states
@@ -15,12 +15,6 @@ use Rattle.tcap_end.specs.Dialogue.{is_request}
 use Rattle.tcap_end.specs.ReachableEnd.{HasHalf}
 use Rattle.tcap_record.specs.Ends.{other}
 use Rattle.tcap_model.specs.World.{Item, MessageInTransit, Sent, World, end_at, has_quiet}
-
--- the originating ID of a Begin or a Continue
-abbrev pub originating : Message → Option (List ℕ)
-originating (Begin otid dialogue components) = Some otid
-originating (Continue otid dtid dialogue components) = Some otid
-originating _ = None
 
 -- The end sent the message, and no quiet mark comes after it.
 abbrev pub SentSince : Side → Message → List Item → Type 0
@@ -39,7 +33,7 @@ pub record WasSent (w : World) (side : Side) (m : MessageInTransit) : Type 0 whe
 -- If a half knows a peer's ID, the peer sent a Begin or a Continue with this originating ID.
 abbrev pub PeerWasSent : World → Side → KeyedHalf → Type 0
 PeerWasSent w side f = (id : List ℕ) → f.half.peer ≡ Some id → (m : Message) × SentSince (other side) m w.sent
-    × (originating m ≡ Some id)
+    × (otid_in m ≡ Some id)
 
 -- whether the message is a Begin with a dialogue request
 abbrev pub is_begin_with_request : Message → Bool
@@ -50,12 +44,12 @@ is_begin_with_request _ = false
 -- originating ID is the half's peer ID.
 abbrev pub RequestWasSent : World → Side → KeyedHalf → Type 0
 RequestWasSent w side f = f.half.phase ≡ phases.Received → f.half.dialogue_state ≡ dialogue_states.Requested
-    → (m : Message) × SentSince (other side) m w.sent × (is_begin_with_request m ≡ true) × (originating m ≡ f.half.peer)
+    → (m : Message) × SentSince (other side) m w.sent × (is_begin_with_request m ≡ true) × (otid_in m ≡ f.half.peer)
 
 -- The peer sent this component in a message whose originating ID is the half's peer ID.
 abbrev pub PeerSentComponent : World → Side → KeyedHalf → Component → Type 0
 PeerSentComponent w side f component =
-    (m : Message) × SentSince (other side) m w.sent × (originating m ≡ f.half.peer)
+    (m : Message) × SentSince (other side) m w.sent × (otid_in m ≡ f.half.peer)
     × Contains (components_in m) component
 
 -- The peer sent each invocation that the half lists as received.

@@ -7,7 +7,7 @@ use tcap_record::push_hex;
 
 /// Returns whether a character is escaped by its number: control characters, line and paragraph separators, and `<`, so
 /// that the text is safe in an HTML page.
-fn is_told_by_number(code: u32) -> bool
+fn is_escaped_by_number(code: u32) -> bool
     ensures { IsTrue result ↔ ((code < 32) ⊎ (code ≡ 60) ⊎ ((127 ≤ code) × (code < 160)) ⊎ (code ≡ 8232) ⊎ (code ≡ 8233)) }
 {
     code < 0x20
@@ -28,7 +28,7 @@ pub fn push_text(json: &mut String, text: &str) -> Result<(), AllocError> {
             '"' => json.push_str("\\\"")?,
             '\\' => json.push_str("\\\\")?,
             '\n' => json.push_str("\\n")?,
-            c if is_told_by_number(c as u32) => {
+            c if is_escaped_by_number(c as u32) => {
                 let code = c as u32;
                 write!(json, "\\u{code:04x}")?;
             }

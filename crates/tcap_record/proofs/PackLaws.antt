@@ -109,10 +109,10 @@ packs_then old mid new octets more a b c before then = record {
   written = written_more a b c before.lines then.lines before.written then.written;
 }
 
-pub stops_then : (old mid : PackState) (octets more : List ℕ) (fault : FeedFault) (untold a b c : Option (List ℕ))
-    → Packs old mid octets a b → PacksUpTo mid more fault untold b c
-    → PacksUpTo old (octets ++ more) fault untold a c
-stops_then old mid octets more fault untold a b c before then =
+pub stops_then : (old mid : PackState) (octets more : List ℕ) (fault : FeedFault) (remaining a b c : Option (List ℕ))
+    → Packs old mid octets a b → PacksUpTo mid more fault remaining b c
+    → PacksUpTo old (octets ++ more) fault remaining a c
+stops_then old mid octets more fault remaining a b c before then =
     let count : mid.lines + length then.lines ≡ old.lines + length (before.lines ++ then.lines) =
     omega (arith, before.lines_are, length-append before.lines then.lines) in
     record {
@@ -122,15 +122,15 @@ stops_then old mid octets more fault untold a b c before then =
       are_lines = lines_more before.lines then.lines before.front then.front before.are_lines then.are_lines;
       joined = joined_then old.line.items octets more before.front mid.line.items then.front then.rest before.joined then.joined;
       within = omega (arith, then.within, count);
-      stops = λ total. subst (λ (n : ℕ). StopsAs n total then.rest untold fault.reason fault.place) count (then.stops total);
+      stops = λ total. subst (λ (n : ℕ). StopsAs n total then.rest remaining fault.reason fault.place) count (then.stops total);
       written = written_more a b c before.lines then.lines before.written then.written;
     }
 
 -- packing stops at once
-pub stops_here : (p : PackState) (octets : List ℕ) (fault : FeedFault) (untold a b : Option (List ℕ)) → p.lines ≤ lines_limit → b ≡ a
-    → ((total : ℕ) → StopsAs p.lines total (p.line.items ++ octets) untold fault.reason fault.place)
-    → PacksUpTo p octets fault untold a b
-stops_here p octets fault untold a b within same stops =
+pub stops_here : (p : PackState) (octets : List ℕ) (fault : FeedFault) (remaining a b : Option (List ℕ)) → p.lines ≤ lines_limit → b ≡ a
+    → ((total : ℕ) → StopsAs p.lines total (p.line.items ++ octets) remaining fault.reason fault.place)
+    → PacksUpTo p octets fault remaining a b
+stops_here p octets fault remaining a b within same stops =
     let count : p.lines ≡ p.lines + 0 = omega arith in
     record {
       lines = [];
@@ -139,28 +139,28 @@ stops_here p octets fault untold a b within same stops =
       are_lines = refl;
       joined = refl;
       within = omega (arith, within);
-      stops = λ total. subst (λ (n : ℕ). StopsAs n total (p.line.items ++ octets) untold fault.reason fault.place) count
+      stops = λ total. subst (λ (n : ℕ). StopsAs n total (p.line.items ++ octets) remaining fault.reason fault.place) count
           (stops total);
       written = subst (λ (x : Option (List ℕ)). Appends a x []) (sym same) (Appends-nil a);
     }
 
-refused_stops : (count : ℕ) (content rest : List ℕ) (untold : Option (List ℕ)) (fault : FeedFault)
-    → IsLineRefused content (count + 1) fault → (IsNoLine content → IsRefusedLine count rest untold)
-    → (total : ℕ) → StopsAs count total rest untold fault.reason fault.place
-refused_stops count content rest untold fault (inl (is, none)) line total =
-    subst (λ (f : FeedFault). StopsAs count total rest untold f.reason f.place) (sym is) (refl, line none)
-refused_stops count content rest untold fault (inr is) line total =
-    subst (λ (f : FeedFault). StopsAs count total rest untold f.reason f.place) (sym is) refl
+refused_stops : (count : ℕ) (content rest : List ℕ) (remaining : Option (List ℕ)) (fault : FeedFault)
+    → IsLineRefused content (count + 1) fault → (IsNoLine content → IsRefusedLine count rest remaining)
+    → (total : ℕ) → StopsAs count total rest remaining fault.reason fault.place
+refused_stops count content rest remaining fault (inl (is, none)) line total =
+    subst (λ (f : FeedFault). StopsAs count total rest remaining f.reason f.place) (sym is) (refl, line none)
+refused_stops count content rest remaining fault (inr is) line total =
+    subst (λ (f : FeedFault). StopsAs count total rest remaining f.reason f.place) (sym is) refl
 
 -- The line is too long, or memory ran out.
-pub stops_long : (p : PackState) (front behind : List ℕ) (number : ℕ) (fault : LineFault) (untold a : Option (List ℕ))
+pub stops_long : (p : PackState) (front behind : List ℕ) (number : ℕ) (fault : LineFault) (remaining a : Option (List ℕ))
     → p.lines ≤ lines_limit → number ≡ p.lines + 1
     → HasNoNewline p.line.items → HasNoNewline front → (fault ≡ Bad → line_limit + 1 < length (p.line.items ++ front))
-    → PacksUpTo p (front ++ behind) (line_fault number fault) untold a a
-stops_long p front behind number Memory untold a within is plain more long =
-    stops_here p (front ++ behind) (feed_fault feed.Memory 0) untold a a within refl (λ total. refl)
-stops_long p front behind number Bad untold a within is plain more long =
-    stops_here p (front ++ behind) (feed_fault feed.BadHexLine number) untold a a within refl
+    → PacksUpTo p (front ++ behind) (line_fault number fault) remaining a a
+stops_long p front behind number Memory remaining a within is plain more long =
+    stops_here p (front ++ behind) (feed_fault feed.Memory 0) remaining a a within refl (λ total. refl)
+stops_long p front behind number Bad remaining a within is plain more long =
+    stops_here p (front ++ behind) (feed_fault feed.BadHexLine number) remaining a a within refl
     (λ total. (
       is,
       inr (inr (inl (
@@ -173,13 +173,13 @@ stops_long p front behind number Bad untold a within is plain more long =
     ))
 
 -- The line is bad, or memory ran out.
-pub stops_line : (p : PackState) (front behind line content : List ℕ) (fault : FeedFault) (untold a b : Option (List ℕ))
+pub stops_line : (p : PackState) (front behind line content : List ℕ) (fault : FeedFault) (remaining a b : Option (List ℕ))
     → p.lines ≤ lines_limit → b ≡ a
     → line ≡ p.line.items ++ front → HasNoNewline line → IsContentOf line content → IsLineRefused content (p.lines + 1) fault
-    → PacksUpTo p (front ++ newline ∷ behind) fault untold a b
-stops_line p front behind line content fault untold a b within same held plain is refused =
-    stops_here p (front ++ newline ∷ behind) fault untold a b within same
-    (refused_stops p.lines content (p.line.items ++ (front ++ newline ∷ behind)) untold fault refused
+    → PacksUpTo p (front ++ newline ∷ behind) fault remaining a b
+stops_line p front behind line content fault remaining a b within same held plain is refused =
+    stops_here p (front ++ newline ∷ behind) fault remaining a b within same
+    (refused_stops p.lines content (p.line.items ++ (front ++ newline ∷ behind)) remaining fault refused
     (λ none. inr (inl (content, line ++ newline ∷ [], behind, ended_line line content plain is, joined, none))))
   where
     joined : p.line.items ++ (front ++ newline ∷ behind) ≡ (line ++ newline ∷ []) ++ behind
@@ -188,14 +188,14 @@ stops_line p front behind line content fault untold a b within same held plain i
         ∙ sym (append_assoc line (newline ∷ []) behind)
 
 -- The last line is bad, or memory ran out.
-pub stops_last : (p : PackState) (fault : FeedFault) (untold a b : Option (List ℕ)) → p.lines ≤ lines_limit → b ≡ a
+pub stops_last : (p : PackState) (fault : FeedFault) (remaining a b : Option (List ℕ)) → p.lines ≤ lines_limit → b ≡ a
     → HasNoNewline p.line.items → p.line.items ≢ []
-    → IsAtEnd untold → IsLineRefused p.line.items (p.lines + 1) fault → PacksUpTo p [] fault untold a b
-stops_last p fault untold a b within same plain some at_end refused =
+    → IsAtEnd remaining → IsLineRefused p.line.items (p.lines + 1) fault → PacksUpTo p [] fault remaining a b
+stops_last p fault remaining a b within same plain some at_end refused =
     let all : p.line.items ≡ p.line.items ++ [] = sym (append-nil p.line.items) in
-    stops_here p [] fault untold a b within same
-    (refused_stops p.lines p.line.items (p.line.items ++ []) untold fault refused
-    (λ none. subst (λ (x : List ℕ). IsRefusedLine p.lines x untold) all (inr (inr (inr (at_end, plain, some, none))))))
+    stops_here p [] fault remaining a b within same
+    (refused_stops p.lines p.line.items (p.line.items ++ []) remaining fault refused
+    (λ none. subst (λ (x : List ℕ). IsRefusedLine p.lines x remaining) all (inr (inr (inr (at_end, plain, some, none))))))
 
 -- A line was packed.
 pub packs_line : (old held new : PackState) (front content : List ℕ) (line : Option (List ℕ)) (a b : Option (List ℕ))
@@ -305,9 +305,9 @@ packed_all start p returned count a b c fresh packs is_open (inr (some, (line, s
   written = written_more a b c packs.lines (line ∷ []) packs.written written;
 }
 
-pub packed_up_to : (start : PackState) (returned : List ℕ) (fault : FeedFault) (untold a b : Option (List ℕ)) → IsFresh start
-    → PacksUpTo start returned fault untold a b → IsPackedUpTo returned fault untold a b
-packed_up_to start returned fault untold a b fresh packs =
+pub packed_up_to : (start : PackState) (returned : List ℕ) (fault : FeedFault) (remaining a b : Option (List ℕ)) → IsFresh start
+    → PacksUpTo start returned fault remaining a b → IsPackedUpTo returned fault remaining a b
+packed_up_to start returned fault remaining a b fresh packs =
     let count : start.lines + length packs.lines ≡ length packs.lines = omega (arith, fresh.1) in
     record {
       lines = packs.lines;
@@ -316,22 +316,22 @@ packed_up_to start returned fault untold a b fresh packs =
       are_lines = packs.are_lines;
       joined = ap (λ (x : List ℕ). x ++ returned) (sym fresh.0) ∙ packs.joined;
       within = omega (arith, packs.within, count);
-      stops = subst (λ (n : ℕ). StopsAs n (length returned) packs.rest untold fault.reason fault.place) count
+      stops = subst (λ (n : ℕ). StopsAs n (length returned) packs.rest remaining fault.reason fault.place) count
           (packs.stops (length returned));
       written = packs.written;
     }
 
-pub packed_then : (start p : PackState) (returned more : List ℕ) (fault : FeedFault) (untold a b c : Option (List ℕ)) → IsFresh start
-    → Packs start p returned a b → PacksUpTo p more fault untold b c
-    → IsPackedUpTo (returned ++ more) fault untold a c
-packed_then start p returned more fault untold a b c fresh packs then =
-    packed_up_to start (returned ++ more) fault untold a c fresh (stops_then start p returned more fault untold a b c packs then)
+pub packed_then : (start p : PackState) (returned more : List ℕ) (fault : FeedFault) (remaining a b c : Option (List ℕ)) → IsFresh start
+    → Packs start p returned a b → PacksUpTo p more fault remaining b c
+    → IsPackedUpTo (returned ++ more) fault remaining a c
+packed_then start p returned more fault remaining a b c fresh packs then =
+    packed_up_to start (returned ++ more) fault remaining a c fresh (stops_then start p returned more fault remaining a b c packs then)
 
 -- The reader failed after these octets.
-pub packed_unread : (start p : PackState) (returned : List ℕ) (untold a b : Option (List ℕ)) → IsFresh start → Packs start p returned a b
+pub packed_unread : (start p : PackState) (returned : List ℕ) (remaining a b : Option (List ℕ)) → IsFresh start → Packs start p returned a b
     → IsOpen p
-    → IsPackedUpTo returned (feed_fault feed.Read (length returned)) untold a b
-packed_unread start p returned untold a b fresh packs is_open = record {
+    → IsPackedUpTo returned (feed_fault feed.Read (length returned)) remaining a b
+packed_unread start p returned remaining a b fresh packs is_open = record {
   lines = packs.lines;
   front = packs.front;
   rest = p.line.items;
@@ -343,11 +343,11 @@ packed_unread start p returned untold a b fresh packs is_open = record {
 }
 
 -- This fault is not a failure of the reader.
-pub stops_unread : (p : PackState) (octets : List ℕ) (fault : FeedFault) (untold a b : Option (List ℕ))
-    → PacksUpTo p octets fault untold a b → fault.reason ≢ feed.Read
-stops_unread p octets fault untold a b packs read =
+pub stops_unread : (p : PackState) (octets : List ℕ) (fault : FeedFault) (remaining a b : Option (List ℕ))
+    → PacksUpTo p octets fault remaining a b → fault.reason ≢ feed.Read
+stops_unread p octets fault remaining a b packs read =
     let at : (total : ℕ) → fault.place ≡ total = λ total.
-    (subst (λ (r : FeedReason). StopsAs (p.lines + length packs.lines) total packs.rest untold r fault.place) read
+    (subst (λ (r : FeedReason). StopsAs (p.lines + length packs.lines) total packs.rest remaining r fault.place) read
     (packs.stops total)).0 in
     absurd (omega (arith, at 0, at 1))
 

@@ -96,20 +96,20 @@ entries_in (Some entry ∷ lines) = entry ∷ entries_in lines
 -- complete line is neither skipped nor an entry. A line is too long, no matter how it ends. The last line, at the
 -- reader's end, is neither skipped nor an entry.
 abbrev pub IsRefusedLine : ℕ → List ℕ → Option (List ℕ) → Type 0
-IsRefusedLine count rest untold =
+IsRefusedLine count rest remaining =
     ((count ≡ lines_limit) × (rest ≢ []))
     ⊎ ((content octets more : List ℕ) × IsEndedLine content octets × (rest ≡ octets ++ more) × IsNoLine content)
     ⊎ ((content more : List ℕ) × HasNoNewline content × (rest ≡ content ++ more) × (line_limit + 1 < length content))
-    ⊎ (IsAtEnd untold × HasNoNewline rest × (rest ≢ []) × IsNoLine rest)
+    ⊎ (IsAtEnd remaining × HasNoNewline rest × (rest ≢ []) × IsNoLine rest)
 
 -- Why packing stopped after `count` lines: at a bad line, at a failure of the reader, or because memory ran out. If the
 -- reader failed, the rest is an incomplete line without a fault.
 abbrev pub StopsAs : ℕ → ℕ → List ℕ → Option (List ℕ) → FeedReason → ℕ → Type 0
-StopsAs count total rest untold feed.BadHexLine place = (place ≡ count + 1) × IsRefusedLine count rest untold
-StopsAs count total rest untold feed.Read place =
+StopsAs count total rest remaining feed.BadHexLine place = (place ≡ count + 1) × IsRefusedLine count rest remaining
+StopsAs count total rest remaining feed.Read place =
     (place ≡ total) × HasNoNewline rest × (rest ≢ [] → count < lines_limit) × (length rest ≤ line_limit + 1)
-StopsAs count total rest untold feed.Memory place = place ≡ 0
-StopsAs count total rest untold _ place = ⊥
+StopsAs count total rest remaining feed.Memory place = place ≡ 0
+StopsAs count total rest remaining _ place = ⊥
 
 -- What was read is a text of lines, and their `count` entries were written.
 pub record IsPacked (returned : List ℕ) (count : ℕ) (taken taken' : Option (List ℕ)) : Type 0 where
@@ -120,7 +120,7 @@ pub record IsPacked (returned : List ℕ) (count : ℕ) (taken taken' : Option (
   pub written : Appends taken taken' (concat (entries_in lines))
 
 -- What was read begins with these lines, whose entries were written, and packing stopped there for this fault.
-pub record IsPackedUpTo (returned : List ℕ) (fault : FeedFault) (untold : Option (List ℕ))
+pub record IsPackedUpTo (returned : List ℕ) (fault : FeedFault) (remaining : Option (List ℕ))
     (taken taken' : Option (List ℕ))
     : Type 0 where
   pub lines : List (Option (List ℕ))
@@ -129,5 +129,5 @@ pub record IsPackedUpTo (returned : List ℕ) (fault : FeedFault) (untold : Opti
   pub are_lines : AreLines lines front
   pub joined : returned ≡ front ++ rest
   pub within : length lines ≤ lines_limit
-  pub stops : StopsAs (length lines) (length returned) rest untold fault.reason fault.place
+  pub stops : StopsAs (length lines) (length returned) rest remaining fault.reason fault.place
   pub written : Appends taken taken' (concat (entries_in lines))

@@ -72,14 +72,14 @@ PacksFrom old new piece rest taken taken' =
 -- The octets held and the new ones begin with lines, whose entries were written. Packing stopped there for this fault,
 -- no matter how many octets were read in all.
 pub record PacksUpTo (old : PackState) (octets : List ℕ) (fault : FeedFault)
-    (untold taken taken' : Option (List ℕ)) : Type 0 where
+    (remaining taken taken' : Option (List ℕ)) : Type 0 where
   pub lines : List (Option (List ℕ))
   pub front : List ℕ
   pub rest : List ℕ
   pub are_lines : AreLines lines front
   pub joined : old.line.items ++ octets ≡ front ++ rest
   pub within : old.lines + length lines ≤ lines_limit
-  pub stops : (total : ℕ) → StopsAs (old.lines + length lines) total rest untold fault.reason fault.place
+  pub stops : (total : ℕ) → StopsAs (old.lines + length lines) total rest remaining fault.reason fault.place
   pub written : Appends taken taken' (concat (entries_in lines))
 
 -- The octets held are the last line, or none. Its entry was written, and `count` is the number of all entries.

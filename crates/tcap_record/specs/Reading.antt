@@ -31,8 +31,8 @@ pub record IsReadAs (entries : List Entry) (end : Result (Unit {0}) FeedFault) (
 
 -- only at the reader's end does reading succeed or report CutRecord
 abbrev pub EndsOnlyAtEnd : Option (List ℕ) → Result (Unit {0}) FeedFault → Type 0
-EndsOnlyAtEnd untold (Ok _) = IsAtEnd untold
-EndsOnlyAtEnd untold (Err f) = f.reason ≡ feed.CutRecord → IsAtEnd untold
+EndsOnlyAtEnd remaining (Ok _) = IsAtEnd remaining
+EndsOnlyAtEnd remaining (Err f) = f.reason ≡ feed.CutRecord → IsAtEnd remaining
 
 -- How often the reader failed: once if reading reports Read, never if it succeeds or reports CutRecord, and at most
 -- once in any case. So nothing is read after a failure.

@@ -252,9 +252,9 @@ impl PackState {
     fn finish<W: Write>(mut self, writer: &mut W) -> Result<u64, PackFault>
         requires open { IsOpen «self» }
         ensures packed { IfOk result (λ count. Finishes «self» count (W.taken writer.old) (W.taken writer.new)) }
-        ensures refused { (fault : FeedFault) → result ≡ Err (PackFault.Fault fault) → (untold : Option (List ℕ))
-            → IsAtEnd untold
-            → PacksUpTo «self» [] fault untold (W.taken writer.old) (W.taken writer.new) }
+        ensures refused { (fault : FeedFault) → result ≡ Err (PackFault.Fault fault) → (remaining : Option (List ℕ))
+            → IsAtEnd remaining
+            → PacksUpTo «self» [] fault remaining (W.taken writer.old) (W.taken writer.new) }
         ensures write { result ≡ Err PackFault.Write → W.failures writer.new ≡ one_more (W.failures writer.old) }
         ensures others { result ≢ Err PackFault.Write → W.failures writer.new ≡ W.failures writer.old }
     {
@@ -276,8 +276,8 @@ impl PackState {
         ensures packed { IfOk result (λ rest. PacksFrom self.old self.new piece.now rest.now
             (W.taken writer.old) (W.taken writer.new)) }
         ensures open { OnOk result (IsOpen self.new) }
-        ensures refused { (fault : FeedFault) → result ≡ Err (PackFault.Fault fault) → (untold : Option (List ℕ))
-            → PacksUpTo self.old piece.now fault untold (W.taken writer.old) (W.taken writer.new) }
+        ensures refused { (fault : FeedFault) → result ≡ Err (PackFault.Fault fault) → (remaining : Option (List ℕ))
+            → PacksUpTo self.old piece.now fault remaining (W.taken writer.old) (W.taken writer.new) }
         ensures write { result ≡ Err PackFault.Write → W.failures writer.new ≡ one_more (W.failures writer.old) }
         ensures others { result ≢ Err PackFault.Write → W.failures writer.new ≡ W.failures writer.old }
     {
@@ -303,8 +303,8 @@ impl PackState {
         requires open { IsOpen self.old }
         ensures packed { OnOk result (Packs self.old self.new piece.now (W.taken writer.old) (W.taken writer.new)) }
         ensures open { OnOk result (IsOpen self.new) }
-        ensures refused { (fault : FeedFault) → result ≡ Err (PackFault.Fault fault) → (untold : Option (List ℕ))
-            → PacksUpTo self.old piece.now fault untold (W.taken writer.old) (W.taken writer.new) }
+        ensures refused { (fault : FeedFault) → result ≡ Err (PackFault.Fault fault) → (remaining : Option (List ℕ))
+            → PacksUpTo self.old piece.now fault remaining (W.taken writer.old) (W.taken writer.new) }
         ensures write { result ≡ Err PackFault.Write → W.failures writer.new ≡ one_more (W.failures writer.old) }
         ensures others { result ≢ Err PackFault.Write → W.failures writer.new ≡ W.failures writer.old }
     {
@@ -340,12 +340,12 @@ pub fn pack<R: Read, W: Write>(
     reader: &mut R,
     writer: &mut W,
 ) -> Result<u64, PackFault>
-    ensures packed { IfOk result (λ count. IsAtEnd (R.untold reader.new)
-        × ((returned : List ℕ) × Consumes (R.untold reader.old) (R.untold reader.new) returned
+    ensures packed { IfOk result (λ count. IsAtEnd (R.remaining reader.new)
+        × ((returned : List ℕ) × Consumes (R.remaining reader.old) (R.remaining reader.new) returned
         × IsPacked returned count (W.taken writer.old) (W.taken writer.new))) }
     ensures refused { (fault : FeedFault) → result ≡ Err (PackFault.Fault fault) → (returned : List ℕ)
-        × Consumes (R.untold reader.old) (R.untold reader.new) returned
-        × IsPackedUpTo returned fault (R.untold reader.new) (W.taken writer.old) (W.taken writer.new) }
+        × Consumes (R.remaining reader.old) (R.remaining reader.new) returned
+        × IsPackedUpTo returned fault (R.remaining reader.new) (W.taken writer.old) (W.taken writer.new) }
     // Each failure of the reader or writer is counted once, and nothing else is.
     ensures read { (fault : FeedFault) → result ≡ Err (PackFault.Fault fault) → fault.reason ≡ FeedReason.Read
         → R.failures reader.new ≡ one_more (R.failures reader.old) }

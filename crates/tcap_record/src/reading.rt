@@ -20,9 +20,9 @@ pub const PIECE_LEN: usize = 8192;
 /// Feeds the octets of `reader`, up to its end or the first fault.
 fn feed_all<R: Read>(feeder: &mut Feeder, reader: &mut R) -> Result<(), FeedFault>
     requires { feeder.old ≡ record { held = empty_framer; waiting = [] } }
-    ensures returned { (returned : List ℕ) × Consumes (R.untold reader.old) (R.untold reader.new) returned
+    ensures returned { (returned : List ℕ) × Consumes (R.remaining reader.old) (R.remaining reader.new) returned
         × IsReadAs feeder.new.waiting result returned }
-    ensures ended { EndsOnlyAtEnd (R.untold reader.new) result }
+    ensures ended { EndsOnlyAtEnd (R.remaining reader.new) result }
     ensures failed { FailsOnlyByReader (R.failures reader.old) (R.failures reader.new) result }
 {
     let mut piece = [0; PIECE_LEN];
@@ -55,11 +55,11 @@ fn feed_all<R: Read>(feeder: &mut Feeder, reader: &mut R) -> Result<(), FeedFaul
 /// - `Read` if the reader fails. The octets before it are entries; the last may be incomplete.
 /// - `Memory` if memory runs out.
 pub fn read_record<R: Read>(alloc: Global, reader: &mut R) -> Result<Record, FeedFault>
-    ensures returned { (returned : List ℕ) × Consumes (R.untold reader.old) (R.untold reader.new) returned
+    ensures returned { (returned : List ℕ) × Consumes (R.remaining reader.old) (R.remaining reader.new) returned
         × MatchResult result
         (λ made. IsReadAs made.entries.items (Ok tt) returned)
         (λ fault. (entries : List Entry) × IsReadAs entries (Err fault) returned) }
-    ensures ended { EndsOnlyAtEnd (R.untold reader.new) (outcome result) }
+    ensures ended { EndsOnlyAtEnd (R.remaining reader.new) (outcome result) }
     ensures failed { FailsOnlyByReader (R.failures reader.old) (R.failures reader.new) (outcome result) }
 {
     let mut feeder = Feeder::new(alloc);

@@ -168,7 +168,7 @@ pub kind_kept : (of_one : Bool) (table : Table) (items : List Item) (side : Side
 kind_kept of_one table items side m own there ended are =
     ap (λ told. kind_by of_one table told (fact_by_from there) ended m) (fun_ext are.from_own)
     ∙ ap (λ told. kind_by of_one table (fact_from (fact_since_mark table items side) (otid_in m)) told ended m)
-    (fun_ext are.from_there)
+    (fun_ext are.from_peers)
     ∙ ap (λ b. kind_by of_one table (fact_from (fact_since_mark table items side) (otid_in m))
     (fact_from (fact_since_mark table items (other side)) (dtid_in m)) b m) are.has_ended
     ∙ kind_by_list of_one table items side m
@@ -188,12 +188,12 @@ module _ (table : Table) (items : List Item) (notes : Notes) (are : AreNotesOf t
   noted_from : (id : Option (List ℕ)) (fact : FromFact)
       → fact_by_from (kept_from id (notes_at side notes)) fact ≡ fact_from (fact_since_mark table items side) id fact
   noted_from None fact = refl
-  noted_from (Some id) fact = are.told side (From id fact)
+  noted_from (Some id) fact = are.facts side (From id fact)
 
   noted_ended : (id : Option (List ℕ))
       → fact_ended (λ fact. end_fact_noted fact (notes_at side notes)) id ≡ fact_ended (fact_since_mark table items side) id
   noted_ended None = refl
-  noted_ended (Some id) = are.told side (Ended id)
+  noted_ended (Some id) = are.facts side (Ended id)
 
 pub noted_of_ids : (table : Table) (items : List Item) (notes : Notes) → AreNotesOf table items notes → (side : Side)
     (m : Message) (own there : Option FromId) (ended : Bool) → own ≡ kept_from (otid_in m) (notes_at side notes)
@@ -202,7 +202,7 @@ pub noted_of_ids : (table : Table) (items : List Item) (notes : Notes) → AreNo
     → AreOfIds table items side m own there ended
 noted_of_ids table items notes are side m own there ended is_own is_there is_ended = record {
   from_own = λ fact. ap (λ kept. fact_by_from kept fact) is_own ∙ noted_from table items notes are side (otid_in m) fact;
-  from_there = λ fact. ap (λ kept. fact_by_from kept fact) is_there
+  from_peers = λ fact. ap (λ kept. fact_by_from kept fact) is_there
       ∙ noted_from table items notes are (other side) (dtid_in m) fact;
   has_ended = is_ended ∙ noted_ended table items notes are side (dtid_in m);
 }

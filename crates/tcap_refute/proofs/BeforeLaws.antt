@@ -1,11 +1,10 @@
 -- A message that was sent since the last quiet mark is among the messages after it, and those are what tests find.
-use Rattle.std.proofs.Common.{◌≡◌, Bool, true, false, cond, ℕ, List, [], ◌∷◌, ◌++◌, Option, Some, refl, ap, sym, arith}
+use Rattle.std.proofs.Common.{◌≡◌, Bool, true, false, cond, ℕ, List, [], ◌∷◌, ◌++◌, Some, refl, ap, sym, arith}
 use Rattle.std.specs.Prelude.{Contains, ◌||◌}
 use Rattle.std.specs.List.{cons_option, list_any}
 use Rattle.std.proofs.lemmas.List.Elements.{Contains-append_right}
 use Rattle.tcap_parts.specs.declared.component.Component.{Component}
 use Rattle.tcap_msg.specs.declared.message.Message.{Message}
-use Rattle.tcap_msg.specs.declared.message.Message.TheVariants.{Unidirectional, Begin, Continue, End as EndMessage, Abort}
 use Rattle.tcap_msg.specs.Parts.{components_in, otid_in}
 use Rattle.tcap_record.specs.declared.entry.End.{End as Side}
 use Rattle.tcap_end.specs.End.{is_id}
@@ -14,18 +13,11 @@ use Rattle.tcap_record.specs.Ends.{other}
 use Rattle.tcap_model.specs.World.{Item, Sent, is_side}
 use Rattle.tcap_model.specs.Run.{only_if}
 use Rattle.tcap_model.specs.World.{has_quiet}
-use Rattle.tcap_model.specs.SinceMark.{originating}
 use Rattle.tcap_model.specs.SinceMark.{SentSince}
 use Rattle.tcap_model.proofs.WorldLaws.{itself}
 use Rattle.tcap_model.proofs.RunLaws.{same_side}
 use Rattle.tcap_refute.specs.EarlierMessages.{peer_sent_from, components_of, message_of, sent_by, since_quiet}
 use Rattle.tcap_refute.proofs.Members.{filter_has, filter_map_has, flat_map_has, has_first, has_later}
-
--- ---- tests
-
--- A Begin or a Continue carries its originating ID; other messages have none.
-pub originating_is : (m : Message) → originating m ≡ otid_in m
-originating_is m = grind arith
 
 -- ---- what is after the mark
 

@@ -1,5 +1,5 @@
 -- No message that an end sends has F7 (Q.774 3.2).
-use Rattle.std.proofs.Common.{◌≡◌, ◌⊎◌, inl, inr, Bool, true, false, ℕ, List, Option, Some, None, is_none, is_some, not, refl, sym, ◌∙◌, arith}
+use Rattle.std.proofs.Common.{◌≡◌, ◌⊎◌, inl, inr, Bool, true, false, ℕ, List, Option, Some, None, is_none, is_some, not, refl, ◌∙◌, arith}
 use Rattle.std.specs.Prelude.{◌&&◌, ◌||◌}
 use Rattle.std.specs.List.{list_any}
 use Rattle.std.proofs.lemmas.Bool.{eqb-true, or_left}
@@ -24,7 +24,7 @@ use Rattle.tcap_model.specs.SinceMark.{is_begin_with_request}
 use Rattle.tcap_model.proofs.PeerLaws.{knows}
 use Rattle.tcap_refute.specs.EarlierMessages.{peer_sent_from, since_quiet}
 use Rattle.tcap_refute.specs.Kind.{is_misplaced_in_abort, is_misplaced_dialogue, is_misplaced_in_continue}
-use Rattle.tcap_refute.proofs.BeforeLaws.{asked_has, originating_is}
+use Rattle.tcap_refute.proofs.BeforeLaws.{asked_has}
 use Rattle.tcap_refute.proofs.Members.{any_has}
 use Rattle.tcap_refute.proofs.OverLaws.{IsOver}
 use Rattle.tcap_refute.proofs.SentLaws.{IsSent, half_over}
@@ -107,7 +107,7 @@ module _ {table : Table} {events : List Event} {w : World} {side : Side} {messag
   was_asked (received, asked_for) =
       let (m, since, so, from) = (knows table events w side half.kept it.runs half.had).request received asked_for in
       any_has is_begin_with_request (peer_sent_from side id (since_quiet w.sent)) m
-      (asked_has side id m w.sent since (sym (originating_is m) ∙ from ∙ half.peer)) so
+      (asked_has side id m w.sent since (from ∙ half.peer)) so
 
   -- A Continue or an End has a portion that its half may carry.
   going_on : may_go_on phase dialogue_state d ≡ true → is_misplaced_in_continue is_asked d ≡ true → ⊥

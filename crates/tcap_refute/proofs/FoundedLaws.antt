@@ -1,6 +1,6 @@
 -- What a sent component answers or rejects came to its half before (Q.774 3.2). What came to the half is among what
 -- its peer sent from that ID.
-use Rattle.std.proofs.Common.{◌≡◌, Bool, true, false, cond, ℕ, ℤ, List, [], ◌∷◌, Option, Some, None, Result, Ok, is_none, is_some, refl, sym, ◌∙◌, arith}
+use Rattle.std.proofs.Common.{◌≡◌, Bool, true, false, cond, ℕ, ℤ, List, [], ◌∷◌, Option, Some, None, Result, Ok, is_none, is_some, refl, ◌∙◌, arith}
 use Rattle.std.specs.Prelude.{Contains, ◌||◌, option_map}
 use Rattle.std.specs.List.{AllByRecursion, list_any}
 use Rattle.std.specs.Ordering.{int_cmp}
@@ -35,7 +35,7 @@ use Rattle.tcap_model.proofs.RunLaws.{sound}
 use Rattle.tcap_model.proofs.SentMoves.{one_follows}
 use Rattle.tcap_model.proofs.TurnLaws.{taken_loses}
 use Rattle.tcap_refute.specs.EarlierMessages.{peer_sent_from, components_of, since_quiet}
-use Rattle.tcap_refute.proofs.BeforeLaws.{component_has, originating_is}
+use Rattle.tcap_refute.proofs.BeforeLaws.{component_has}
 use Rattle.tcap_refute.proofs.OverLaws.{IsOver}
 use Rattle.tcap_refute.proofs.SentLaws.{IsSent, half_over}
 
@@ -217,7 +217,7 @@ IsPeersAnswer w side f id answer =
 from_peer : (w : World) (side : Side) (f : KeyedHalf) (id : List ℕ) (c : Component) → f.half.peer ≡ Some id
     → PeerSentComponent w side f c → Contains (components_of (peer_sent_from side id (since_quiet w.sent))) c
 from_peer w side f id c peer (m, since, from, has) =
-    component_has side id m c w.sent since (sym (originating_is m) ∙ from ∙ peer) has
+    component_has side id m c w.sent since (from ∙ peer) has
 
 -- All that the message's half received is among what the peer sent from the destination ID.
 came_from : (table : Table) (events : List Event) (w : World) (side : Side) (message : Message) (id : List ℕ)

@@ -62,8 +62,8 @@ module _ (side : Side) (m : Message) where
       ≡ (fact_by_notes old end fact || (is_side end side && shows_end table fact m)))
       → AreNotesOf table (items ++ Sent side m ∷ []) new
   noted table items old new are told = record {
-    told = λ end fact. told end fact
-        ∙ ap (λ b. b || (is_side end side && shows_end table fact m)) (are.told end fact)
+    facts = λ end fact. told end fact
+        ∙ ap (λ b. b || (is_side end side && shows_end table fact m)) (are.facts end fact)
         ∙ sym (told_more table items end fact);
   }
 
@@ -90,7 +90,7 @@ since_mark (item ∷ xs) =
 pub noted_mark : (table : Table) (items : List Item) (new : Notes)
     → ((end : Side) (fact : EndFact) → fact_by_notes new end fact ≡ false) → AreNotesOf table (items ++ Item.Quiet ∷ []) new
 noted_mark table items new told = record {
-  told = λ end fact. told end fact
+  facts = λ end fact. told end fact
       ∙ sym (ap (λ xs. list_any (shows_end table fact) (sent_by end xs)) (since_mark items));
 }
 

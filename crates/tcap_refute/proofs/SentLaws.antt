@@ -1,5 +1,5 @@
 -- A message that an end sends after a run in which it keeps the rules, and the half over which the message goes.
-use Rattle.std.proofs.Common.{◌≡◌, ℕ, List, Some, Ok, sym, ◌∙◌}
+use Rattle.std.proofs.Common.{◌≡◌, ℕ, List, Some, Ok}
 use Rattle.tcap_msg.specs.declared.message.Message.{Message}
 use Rattle.tcap_msg.specs.Parts.{dtid_in, otid_in}
 use Rattle.tcap_record.specs.declared.entry.End.{End as Side}
@@ -12,7 +12,6 @@ use Rattle.tcap_model.specs.Run.{Event, KeepsRules, Runs}
 use Rattle.tcap_model.specs.SinceMark.{SentSince}
 use Rattle.tcap_model.proofs.PeerLaws.{knows}
 use Rattle.tcap_model.proofs.RunLaws.{sound}
-use Rattle.tcap_refute.proofs.BeforeLaws.{originating_is}
 use Rattle.tcap_refute.proofs.OverLaws.{IsOver, over}
 
 -- The end keeps the rules in a run to this world, and then sends the message.
@@ -30,6 +29,4 @@ module _ {table : Table} {events : List Event} {w : World} {side : Side} {messag
 
   -- The peer sent a message from the destination ID.
   pub peer_spoke : (m : Message) × SentSince (other side) m w.sent × (otid_in m ≡ Some id)
-  peer_spoke =
-      let (m, since, from) = (knows table events w side half_over.kept it.runs half_over.had).peer id half_over.peer in
-      (m, since, sym (originating_is m) ∙ from)
+  peer_spoke = (knows table events w side half_over.kept it.runs half_over.had).peer id half_over.peer

@@ -80,7 +80,7 @@ fact_by_notes notes side fact = end_fact_noted fact (notes_at side notes)
 
 -- The notes are right: each fact holds by them exactly if it holds in these items since the last quiet mark.
 pub record AreNotesOf (table : Table) (items : List Item) (notes : Notes) : Type 0 where
-  pub told : (side : Side) (fact : EndFact) → fact_by_notes notes side fact ≡ fact_since_mark table items side fact
+  pub facts : (side : Side) (fact : EndFact) → fact_by_notes notes side fact ≡ fact_since_mark table items side fact
 
 -- What is kept of an invoke ID in the messages from an originating ID, if anything.
 abbrev pub id_in : Option FromId → ℤ → Option ById

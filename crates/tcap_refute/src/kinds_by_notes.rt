@@ -119,18 +119,18 @@ fn comes_after_end<M: MessageParts>(has_ended: bool, message: &M) -> bool
 
 /// Returns the lowest of F2 to F4 that the message has.
 ///
-/// `own` has what its end sent from the originating ID, and `there` what the peer sent from the destination ID.
+/// `own` has what its end sent from the originating ID, and `peers` what the peer sent from the destination ID.
 fn kind_of_ids<M: MessageParts>(
     own: Option<&FromId>,
-    there: Option<&FromId>,
+    peers: Option<&FromId>,
     has_ended: bool,
     message: &M,
 ) -> Option<Kind>
     ensures { result ≡ kind_of_ids (fact_by_from (option_copied own.entry))
-        (fact_by_from (option_copied there.entry)) has_ended
+        (fact_by_from (option_copied peers.entry)) has_ended
         (M.meaning message.now) }
 {
-    if transaction_is_unknown(there, message) {
+    if transaction_is_unknown(peers, message) {
         Some(Kind::UnknownTransaction)
     } else if id_is_reused(own, message) {
         Some(Kind::ReusedId)
@@ -141,21 +141,21 @@ fn kind_of_ids<M: MessageParts>(
     }
 }
 
-/// Returns the lowest of F5 to F7 that the message has. `there` has what the peer sent from the destination ID.
+/// Returns the lowest of F5 to F7 that the message has. `peers` has what the peer sent from the destination ID.
 fn kind_of_parts<M: MessageParts>(
     of_one: bool,
     table: &Table,
-    there: Option<&FromId>,
+    peers: Option<&FromId>,
     message: &M,
 ) -> Option<Kind>
-    ensures { result ≡ kind_of_parts of_one table.now (fact_by_from (option_copied there.entry))
+    ensures { result ≡ kind_of_parts of_one table.now (fact_by_from (option_copied peers.entry))
         (M.meaning message.now) }
 {
-    if component_of(of_one, table, there, message, Kind::AnswersNothing).is_some() {
+    if component_of(of_one, table, peers, message, Kind::AnswersNothing).is_some() {
         Some(Kind::AnswersNothing)
-    } else if component_of(of_one, table, there, message, Kind::WrongOperation).is_some() {
+    } else if component_of(of_one, table, peers, message, Kind::WrongOperation).is_some() {
         Some(Kind::WrongOperation)
-    } else if dialogue_is_misplaced(there, message) {
+    } else if dialogue_is_misplaced(peers, message) {
         Some(Kind::MisplacedDialogue)
     } else {
         None
@@ -164,22 +164,22 @@ fn kind_of_parts<M: MessageParts>(
 
 /// Returns the lowest of F2 to F7 that the message has.
 ///
-/// `own` has what its end sent from the originating ID, and `there` what the peer sent from the destination ID.
+/// `own` has what its end sent from the originating ID, and `peers` what the peer sent from the destination ID.
 /// `has_ended` is whether its end ended this dialogue before, and `of_one` whether that end alone is judged.
 pub(crate) fn kind_by<M: MessageParts>(
     of_one: bool,
     table: &Table,
     own: Option<&FromId>,
-    there: Option<&FromId>,
+    peers: Option<&FromId>,
     has_ended: bool,
     message: &M,
 ) -> Option<Kind>
     ensures { result ≡ kind_by of_one table.now (fact_by_from (option_copied own.entry))
-        (fact_by_from (option_copied there.entry))
+        (fact_by_from (option_copied peers.entry))
         has_ended (M.meaning message.now) }
 {
-    match kind_of_ids(own, there, has_ended, message) {
+    match kind_of_ids(own, peers, has_ended, message) {
         Some(kind) => Some(kind),
-        None => kind_of_parts(of_one, table, there, message),
+        None => kind_of_parts(of_one, table, peers, message),
     }
 }

@@ -1,4 +1,4 @@
--- The halves that ties show to have closed, by what ended and what was told before, and the list of closings.
+-- The halves that ties show to have closed, by what ended and what was delivered before, and the list of closings.
 use Rattle.std.proofs.Common.{◌≡◌, ℕ, ◌+◌, ◌<◌, ◌≤◌, ◌&&◌, ◌||◌, Bool, true, false, cond, List, length, take, get_or, Option, sym, ap, ◌∙◌, arith, [], ◌∷◌, ◌++◌, Some, None, refl, ◌==◌, not, drop, is_some}
 use Rattle.std.specs.Prelude.{nat_lt, nat_le, option_map, slice_get}
 use Rattle.std.proofs.lemmas.List.{take_all, length-take-le, take_more, drop_more}
@@ -102,19 +102,19 @@ fated_push (y ∷ lines) (f ∷ fates) x fate same =
 
 -- ---- Ends and Aborts
 
-pub record Told (entries : List Entry) (fates : List Fate) (count : ℕ) (told : Leasts) : Type 0 where
-  pub room : HasRoom (length entries) told
-  pub kept : KeepsDelivered (length entries) (fated (lines_of (take count entries)) (take count fates)) told
+pub record Delivered (entries : List Entry) (fates : List Fate) (count : ℕ) (delivered : Leasts) : Type 0 where
+  pub room : HasRoom (length entries) delivered
+  pub kept : KeepsDelivered (length entries) (fated (lines_of (take count entries)) (take count fates)) delivered
 
-pub told_all : (entries : List Entry) (fates : List Fate) (count : ℕ) (told : Leasts)
-    → length fates ≡ length entries → length entries ≤ count → Told entries fates count told
-    → KeepsDelivered (length entries) (fated (lines_of entries) fates) told
-told_all entries fates count told counted all so_far =
+pub delivered_all : (entries : List Entry) (fates : List Fate) (count : ℕ) (delivered : Leasts)
+    → length fates ≡ length entries → length entries ≤ count → Delivered entries fates count delivered
+    → KeepsDelivered (length entries) (fated (lines_of entries) fates) delivered
+delivered_all entries fates count delivered counted all so_far =
     rw (take_all count entries all, take_all count fates (omega arith)) at so_far.kept
 
 module _ (entries : List Entry) (fates : List Fate) (i : ℕ) (old : Leasts) (e : Entry) (other_fate fate : Fate)
     (below : i < length entries) (counted : length fates ≡ length entries) (is : e ≡ get_or entries i e)
-    (is_fate : fate ≡ get_or fates i other_fate) (so_far : Told entries fates i old) where
+    (is_fate : fate ≡ get_or fates i other_fate) (so_far : Delivered entries fates i old) where
   abbrev next_line : Line
   next_line = line_behind (lines_of (take i entries)) e
 
@@ -126,10 +126,10 @@ module _ (entries : List Entry) (fates : List Fate) (i : ℕ) (old : Leasts) (e 
       are_of_one_end x.entry e && share_transaction x next_line && is_end_or_abort (message_of e)
       && is_delivered_by limit fate
 
-  told_next : (x : Line) (limit : ℕ)
+  delivered_next : (x : Line) (limit : ℕ)
       → was_end_delivered (fated (lines_of (take (i + 1) entries)) (take (i + 1) fates)) x limit
       ≡ (was_end_delivered fated_so_far x limit || tells_it x limit)
-  told_next x limit =
+  delivered_next x limit =
       let within : i < length fates = omega arith in
       let fates_more : take (i + 1) fates ≡ take i fates ++ fate ∷ [] =
       take_more fates i other_fate within ∙ ap (λ (f : Fate). take i fates ++ f ∷ []) (sym is_fate) in
@@ -143,18 +143,18 @@ module _ (entries : List Entry) (fates : List Fate) (i : ℕ) (old : Leasts) (e 
       && is_end_or_abort (message_of y.line.entry) && is_delivered_by limit y.fate) fated_so_far
       (record { line = next_line; fate = fate })))
 
-  told_same : ((x : Line) (limit : ℕ) → tells_it x limit ≡ false) → Told entries fates (i + 1) old
-  told_same fails = record {
+  delivered_same : ((x : Line) (limit : ℕ) → tells_it x limit ≡ false) → Delivered entries fates (i + 1) old
+  delivered_same fails = record {
     room = so_far.room;
     kept = λ x side transaction limit sent has within.
         so_far.kept x side transaction limit sent has within
-        ∙ sym (told_next x limit
+        ∙ sym (delivered_next x limit
         ∙ (ap (λ (b : Bool). was_end_delivered fated_so_far x limit || b) (fails x limit)
         ∙ or_false (was_end_delivered fated_so_far x limit)));
   }
 
-  pub told_other : end_delivery_gap (message_of e) fate ≡ None → Told entries fates (i + 1) old
-  told_other none = told_same (λ x limit. by x limit fate none)
+  pub delivered_other : end_delivery_gap (message_of e) fate ≡ None → Delivered entries fates (i + 1) old
+  delivered_other none = delivered_same (λ x limit. by x limit fate none)
     where
       so : (b : Bool) (gap : ℕ) → cond b (Some gap) None ≡ None → b ≡ false
       so true gap none = cc
@@ -175,25 +175,25 @@ module _ (entries : List Entry) (fates : List Fate) (i : ℕ) (old : Leasts) (e 
       by x limit (By reply) none =
           and_false (are_of_one_end x.entry e && share_transaction x next_line && is_end_or_abort (message_of e))
 
-  told_gap : (gap : ℕ) (f : Fate) → end_delivery_gap (message_of e) f ≡ Some gap
+  delivered_gap : (gap : ℕ) (f : Fate) → end_delivery_gap (message_of e) f ≡ Some gap
       → (is_end_or_abort (message_of e) ≡ true) × (f ≡ Gap gap)
-  told_gap gap (Gap g) is = let parts = cond_some (is_end_or_abort (message_of e)) g gap is in (parts.0, ap Gap parts.1)
-  told_gap gap Lost is = cc
-  told_gap gap (By reply) is = cc
+  delivered_gap gap (Gap g) is = let parts = cond_some (is_end_or_abort (message_of e)) g gap is in (parts.0, ap Gap parts.1)
+  delivered_gap gap Lost is = cc
+  delivered_gap gap (By reply) is = cc
 
-  pub told_more : (new : Leasts) (transaction : Option ℕ) (gap : ℕ) → transaction ≡ next_line.transaction
+  pub delivered_more : (new : Leasts) (transaction : Option ℕ) (gap : ℕ) → transaction ≡ next_line.transaction
       → end_delivery_gap (message_of e) fate ≡ Some gap → HasRoom (length entries) new
       → ((side : Side) (t : ℕ) → t < length entries → least_at side t new
       ≡ cond (is_entry_of side e.side && is_transaction t transaction) (lesser gap (least_at side t old))
       (least_at side t old))
-      → Told entries fates (i + 1) new
-  told_more new transaction gap has is_told room noted = record {
+      → Delivered entries fates (i + 1) new
+  delivered_more new transaction gap has is_delivery room noted = record {
     room = room;
     kept = λ x side t limit sent belongs within.
         let first : are_of_one_end x.entry e ≡ is_entry_of side e.side = one_end x.entry e side sent in
         let second : share_transaction x next_line ≡ is_transaction t transaction =
         shares x next_line t belongs ∙ ap (is_transaction t) (sym has) in
-        let parts = told_gap gap fate is_told in
+        let parts = delivered_gap gap fate is_delivery in
         let delivered : is_delivered_by limit fate ≡ nat_le gap limit = ap (is_delivered_by limit) parts.1 in
         let here : tells_it x limit ≡ (nat_le gap limit && is_entry_of side e.side && is_transaction t transaction) =
         turned_tests (are_of_one_end x.entry e) (share_transaction x next_line) (is_end_or_abort (message_of e))
@@ -204,7 +204,7 @@ module _ (entries : List Entry) (fates : List Fate) (i : ℕ) (old : Leasts) (e 
         (within_lesser limit gap (least_at side t old)) (noted side t within)
         ∙ (ap (λ (b : Bool). b || (nat_le gap limit && is_entry_of side e.side && is_transaction t transaction))
         (so_far.kept x side t limit sent belongs within)
-        ∙ sym (told_next x limit ∙ ap (λ (b : Bool). was_end_delivered fated_so_far x limit || b) here));
+        ∙ sym (delivered_next x limit ∙ ap (λ (b : Bool). was_end_delivered fated_so_far x limit || b) here));
   }
 
 -- ---- the half that a tie shows to have closed
@@ -257,22 +257,22 @@ module _ (entries : List Entry) (transactions : List (Option ℕ)) (all : List F
       ∙ half_is
 
   -- The entry has both, and the numbers kept decide whether the half had closed.
-  pub shown_is : (ended told : Leasts) (side : Side) (transaction : ℕ) (unseen : Bool) → e.side ≡ Some side
+  pub shown_is : (ended delivered : Leasts) (side : Side) (transaction : ℕ) (unseen : Bool) → e.side ≡ Some side
       → get_or transactions k None ≡ Some transaction → KeepsEnded (length entries) (lines_of entries) ended
-      → KeepsDelivered (length entries) all told
+      → KeepsDelivered (length entries) all delivered
       → unseen ≡ (is_continue (message_of e) && not (is_below reply (least_at (other side) transaction ended))
-      && not (is_within reply (least_at side transaction told)))
+      && not (is_within reply (least_at side transaction delivered)))
       → cond unseen (Some (other side, transaction)) None ≡ half_shown entries all k reply
-  shown_is ended told side transaction unseen sent belongs ended_is told_is is =
+  shown_is ended delivered side transaction unseen sent belongs ended_is delivered_is is =
       let belongs_line : line.transaction ≡ Some transaction = sym has ∙ belongs in
       let below = transaction_below entries k line transaction there belongs_line in
       let so : unseen ≡ shows_closing =
       is
       ∙ (ap (λ (b : Bool). is_continue (message_of e) && not b
-      && not (is_within reply (least_at side transaction told)))
+      && not (is_within reply (least_at side transaction delivered)))
       (ended_is line side transaction reply sent belongs_line below)
       ∙ ap (λ (b : Bool). is_continue (message_of e) && not (was_ended (lines_of entries) line reply) && not b)
-      (told_is line side transaction reply sent belongs_line below)) in
+      (delivered_is line side transaction reply sent belongs_line below)) in
       ap (λ (b : Bool). cond b (Some (other side, transaction)) None) so
       ∙ (sym (ap (λ (s : Option Side). half_of s line.transaction) sent ∙ ap (half_of (Some side)) belongs_line)
       ∙ half_is)

@@ -37,9 +37,9 @@ KeepsEnded count lines ended =
 
 -- For each end and transaction below `count`, the first gap in which its End or Abort is delivered is kept.
 abbrev pub KeepsDelivered : ℕ → List Fated → Leasts → Type 0
-KeepsDelivered count all told =
+KeepsDelivered count all delivered =
     (x : Line) (side : Side) (transaction limit : ℕ) → x.entry.side ≡ Some side → x.transaction ≡ Some transaction
-    → transaction < count → is_within limit (least_at side transaction told) ≡ was_end_delivered all x limit
+    → transaction < count → is_within limit (least_at side transaction delivered) ≡ was_end_delivered all x limit
 
 -- For each end and transaction below `count`, a number is kept if and only if its closing is listed.
 abbrev pub KeepsListed : ℕ → List Closing → Leasts → Type 0

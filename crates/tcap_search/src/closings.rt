@@ -74,7 +74,7 @@ fn ends_of(
 
 /// Finds the first gap in which an End or an Abort of each transaction is delivered, by its sender. Fails if memory
 /// runs out.
-fn told_of(
+fn deliveries_of(
     alloc: Global,
     entries: &[Entry],
     transactions: &[Option<u32>],
@@ -82,15 +82,15 @@ fn told_of(
 ) -> Result<Leasts, AllocError>
     requires transactions { AreTransactions entries.now transactions.now }
     requires count { length fates.now ≡ length entries.now }
-    ensures { IfOk result (λ told. KeepsDelivered (length entries.now) (fated (lines_of entries.now) fates.now) told) }
+    ensures { IfOk result (λ delivered. KeepsDelivered (length entries.now) (fated (lines_of entries.now) fates.now) delivered) }
 {
-    let mut told = Leasts::new(alloc, entries.len())?;
+    let mut delivered = Leasts::new(alloc, entries.len())?;
     for (number, entry) in entries.iter().enumerate() {
         if let Some(gap) = end_delivery_gap(entry, fates[number]) {
-            told.note(entry.side, transactions[number], gap);
+            delivered.note(entry.side, transactions[number], gap);
         }
     }
-    Ok(told)
+    Ok(delivered)
 }
 
 /// Returns whether the Abort that answers an entry shows that a half had closed. The entry is then a Continue, its
@@ -100,16 +100,16 @@ fn shows_closing(
     side: End,
     transaction: u32,
     ended: &Leasts,
-    told: &Leasts,
+    delivered: &Leasts,
     reply: u32,
 ) -> bool
     ensures { result ≡ is_continue (message_of entry.now)
         && not (is_below reply (least_at (other side) transaction ended.now))
-        && not (is_within reply (least_at side transaction told.now)) }
+        && not (is_within reply (least_at side transaction delivered.now)) }
 {
     is_continue(entry)
         && !ended.has_below(side.other(), transaction, reply)
-        && !told.has_within(side, transaction, reply)
+        && !delivered.has_within(side, transaction, reply)
 }
 
 /// Returns the half that a tie shows to have closed, by its end and its transaction.
@@ -117,18 +117,18 @@ fn shown_by(
     entries: &[Entry],
     transactions: &[Option<u32>],
     ended: &Leasts,
-    told: &Leasts,
+    delivered: &Leasts,
     tie: &Tie,
 ) -> Option<(End, u32)>
     requires transactions { AreTransactions entries.now transactions.now }
     requires ended { KeepsEnded (length entries.now) (lines_of entries.now) ended.now }
-    ensures { (all : List Fated) → KeepsDelivered (length entries.now) all told.now
+    ensures { (all : List Fated) → KeepsDelivered (length entries.now) all delivered.now
         → result ≡ shown_by all (lines_of entries.now) tie.now.reply (slice_get (lines_of entries.now) tie.now.entry) }
 {
     let entry = entries.get(tie.entry as usize)?;
     let side = entry.side?;
     let transaction = transactions[tie.entry as usize]?;
-    if shows_closing(entry, side, transaction, ended, told, tie.reply) {
+    if shows_closing(entry, side, transaction, ended, delivered, tie.reply) {
         Some((side.other(), transaction))
     } else {
         None
@@ -152,11 +152,11 @@ fn shown_closings(
         ≡ closings_of (fated (lines_of entries.now) fates.now) (lines_of entries.now) (ties_of (lines_of entries.now))) }
 {
     let ended = ends_of(alloc, entries, transactions)?;
-    let told = told_of(alloc, entries, transactions, fates)?;
+    let delivered = deliveries_of(alloc, entries, transactions, fates)?;
     let mut kept = Leasts::new(alloc, entries.len())?;
     let mut listed = Vec::new(alloc);
     for tie in ties {
-        let Some((side, transaction)) = shown_by(entries, transactions, &ended, &told, tie) else {
+        let Some((side, transaction)) = shown_by(entries, transactions, &ended, &delivered, tie) else {
             continue;
         };
         if kept.get(side, transaction).is_none() {

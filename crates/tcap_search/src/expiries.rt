@@ -19,7 +19,8 @@ use tcap_certificate::{Expiry, Fate};
 use tcap_parts::Component;
 use tcap_record::{End, Entry};
 
-/// The listed expiries, and the invocations that they name: the number of an entry, and the place of its Invoke.
+/// The expiries listed so far, and the invocations that expire by them. An invocation is given by the number of its
+/// entry and the index of its Invoke there.
 #[derive(Drop)]
 pub(crate) struct ExpiryList {
     expiries: Vec<Expiry>,

@@ -9,7 +9,7 @@ use tcap_record::{End, Record};
 use tcap_refute::Refutation;
 
 /// What the entry that `blame` names of that end breaks, and the entries that show it, in words.
-pub fn told_fault(
+pub fn blamed_text(
     alloc: Global,
     record: &Record,
     table: &Table,

@@ -4,7 +4,7 @@ use tcap_explain::{ExplainOptions, run_explain};
 use tcap_lines::{Status, WriteFailed};
 
 /// What `tcapjudge explain` prints of a record and an operation table whose octets are in memory, and how the run ends.
-pub fn told_why(
+pub fn verdict_text(
     alloc: Global,
     octets: &[u8],
     operations: &[u8],

@@ -51,7 +51,7 @@ impl<T> Failing<T> {
 }
 
 impl<T: io::Read> Read for Failing<T> {
-    ghost untold = { λ device. T.remaining (failing_inner device) };
+    ghost remaining = { λ device. T.remaining (failing_inner device) };
 
     ghost failures = { failing_failures };
 
@@ -82,13 +82,13 @@ impl<T: io::Read> Read for Failing<T> {
             Some(left) => left.min(buffer.len()),
             None => buffer.len(),
         };
-        let Ok(told) = self.device.read(&mut buffer[..most]) else {
+        let Ok(count) = self.device.read(&mut buffer[..most]) else {
             return Err(self.fail());
         };
         if let Some(left) = self.left {
-            self.left = Some(left - told);
+            self.left = Some(left - count);
         }
-        Ok(told)
+        Ok(count)
     }
 }
 

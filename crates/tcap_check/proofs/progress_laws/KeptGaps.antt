@@ -9,7 +9,7 @@ use Rattle.std.proofs.lemmas.Option.{slice_get-map, slice_get_within}
 use Rattle.tcap_parts.specs.declared.component.Component.{Component}
 use Rattle.tcap_msg.specs.declared.message.Message.{Message}
 use Rattle.tcap_msg.specs.declared.message.Message.TheVariants.{Unidirectional, Begin, Continue, End as EndMessage, Abort}
-use Rattle.tcap_msg.specs.Parts.{components_in}
+use Rattle.tcap_msg.specs.Parts.{components_in, otid_in}
 use Rattle.tcap_record.specs.declared.entry.End.{End as Side}
 use Rattle.tcap_end.specs.declared.fault.EndFault.{EndFault}
 use Rattle.tcap_end.specs.declared.fault.EndFault.TheVariants as faults
@@ -28,7 +28,6 @@ use Rattle.tcap_certificate.specs.Certificate.{Certificate}
 use Rattle.tcap_certificate.specs.declared.fault.CheckFault.{CheckFault}
 use Rattle.tcap_model.specs.declared.reason.Reason.TheVariants.{FateRange, HiddenRefused}
 use Rattle.tcap_check.specs.declared.outline.Outline.TheVariants as outlines
-use Rattle.tcap_model.specs.SinceMark.{originating}
 use Rattle.tcap_certificate.specs.DescribedRun.{closing_by, closing_event, expiry_by, expiry_event, invoke_id, named_entry}
 use Rattle.tcap_certificate.specs.Replay.{Replay, fault_at, after_event, with_step, is_judged, deliveries_by, gap_by, next_entry, due_in}
 use Rattle.tcap_check.specs.EntryOutlines.{begins, half_closed, half_closed_by, invocation_ended, invocation_ended_by, is_named, outline_named, outline_of, outlines_from, since_from}
@@ -203,7 +202,7 @@ noted message otid = record { begins = begins message; otid = otid; invokes = ma
 -- An expiry is of the invocation that the outline of its entry gives.
 expiry_by_is : (x : Expiry) (item : Item)
     → expiry_by x item ≡ option_map (expires_by x) (invocation_ended_by x (outline_of true item))
-expiry_by_is x (Sent sender message) = by (originating message)
+expiry_by_is x (Sent sender message) = by (otid_in message)
   where
     id_is : (o : Option Component) → option_then o invoke_id ≡ option_then (option_map invoke_id o) (λ id. id)
     id_is None = refl

@@ -3,7 +3,7 @@ use Rattle.std.proofs.Common.{◌≡◌, ℕ, ℤ, ◌==◌, Bool, true, false, 
 use Rattle.std.specs.Prelude.{ok_or, slice_get, ◌&&◌}
 use Rattle.std.specs.List.{AllByRecursion}
 use Rattle.tcap_msg.specs.declared.message.Message.TheVariants.{Unidirectional, Begin, Continue, End as EndMessage, Abort}
-use Rattle.tcap_msg.specs.Parts.{components_in}
+use Rattle.tcap_msg.specs.Parts.{components_in, otid_in}
 use Rattle.tcap_record.specs.declared.entry.End.{End as Side}
 use Rattle.tcap_end.specs.declared.fault.EndFault.TheVariants as faults
 use Rattle.tcap_end.specs.declared.half.HalfName.{HalfName}
@@ -13,7 +13,6 @@ use Rattle.tcap_end.specs.Table.{Table}
 use Rattle.tcap_end.proofs.AnsweringLaws.{then_ok, needs_ok}
 use Rattle.tcap_model.specs.declared.reason.Reason.TheVariants.{FateRange, HiddenRefused}
 use Rattle.tcap_model.specs.Run.{Event, Closes, Expires, option_then, Sends, Receives, Replies, Loses, Quiet, Tells, only_if}
-use Rattle.tcap_model.specs.SinceMark.{originating}
 use Rattle.tcap_model.specs.World.{Item, Sent, is_side, has_quiet}
 use Rattle.tcap_model.proofs.RunLaws.{some_is, then_some, where_some, same_events}
 use Rattle.tcap_certificate.specs.declared.certificate.Closing.{Closing}
@@ -167,7 +166,7 @@ expiry_so P items x expires event is = let found = then_some (named_entry items 
     by : (item : Item) → expiry_by x item ≡ Some event → P event
     by (Sent sender message) e =
         let so = where_some (is_side x.side sender) _ event e in
-        let named = then_some (originating message) _ event so.1 in
+        let named = then_some (otid_in message) _ event so.1 in
         let id = then_some (option_then (slice_get (components_in message) x.component) invoke_id) _ event named.2 in
         subst P (some_is id.2) (expires (names.Own named.0) id.0)
     by Item.Quiet e = cc

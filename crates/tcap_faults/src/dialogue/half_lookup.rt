@@ -209,16 +209,16 @@ impl<'a> Ends<'a> {
     /// Returns the own ID of the half with an ID that the peer did not begin, if there is such a half.
     ///
     /// Only if several own IDs are joined with the ID, this searches the destination IDs of its Continues.
-    fn begun_own(self, there: PeerId, asked: &SentFrom) -> Option<TransactionId>
+    fn begun_own(self, peer_id: PeerId, asked: &SentFrom) -> Option<TransactionId>
         ensures { (table : Table) (side : Side) (items : List Item) → IsSide table side items self.entry.own.now
-            → IsPeerId table side items there.entry.id.now there.entry
-            → IsKeptFrom table (other side) items there.entry.id.now asked.now
-            → IsBegunOwn side items there.entry.id.now result }
+            → IsPeerId table side items peer_id.entry.id.now peer_id.entry
+            → IsKeptFrom table (other side) items peer_id.entry.id.now asked.now
+            → IsBegunOwn side items peer_id.entry.id.now result }
     {
-        if there.owns_differ() {
+        if peer_id.owns_differ() {
             self.first_begun(&asked.to)
         } else {
-            there.joined_own()
+            peer_id.joined_own()
         }
     }
 
@@ -226,15 +226,15 @@ impl<'a> Ends<'a> {
     fn other_half(
         self,
         alloc: Global,
-        there: PeerId<'a>,
+        peer_id: PeerId<'a>,
         asked: &'a SentFrom,
     ) -> Result<Half<'a>, AllocError>
         ensures { (table : Table) (side : Side) (items : List Item) → IsSide table side items self.entry.own.now
-            → IsPeerId table side items there.entry.id.now there.entry
-            → IsKeptFrom table (other side) items there.entry.id.now asked.now → asked.now.begin ≡ None
-            → IfOk result (IsHalf table (half_of side items there.entry.id.now)) }
+            → IsPeerId table side items peer_id.entry.id.now peer_id.entry
+            → IsKeptFrom table (other side) items peer_id.entry.id.now asked.now → asked.now.begin ≡ None
+            → IfOk result (IsHalf table (half_of side items peer_id.entry.id.now)) }
     {
-        let Some(own) = self.begun_own(there, asked) else {
+        let Some(own) = self.begun_own(peer_id, asked) else {
             return Ok(no_half(alloc));
         };
         let Some(came) = asked.came.get(&own) else {
@@ -245,23 +245,23 @@ impl<'a> Ends<'a> {
             None => None,
         };
         match begin {
-            Some(begin) => there.begun_half(alloc, own, begin, came),
+            Some(begin) => peer_id.begun_half(alloc, own, begin, came),
             None => Ok(no_half(alloc)),
         }
     }
 
     /// Returns the half with an ID of the peer. Fails if memory runs out.
-    pub(crate) fn half(self, alloc: Global, there: PeerId<'a>) -> Result<Half<'a>, AllocError>
+    pub(crate) fn half(self, alloc: Global, peer_id: PeerId<'a>) -> Result<Half<'a>, AllocError>
         ensures { (table : Table) (side : Side) (items : List Item) → IsSide table side items self.entry.own.now
-            → IsPeerId table side items there.entry.id.now there.entry
-            → IfOk result (IsHalf table (half_of side items there.entry.id.now)) }
+            → IsPeerId table side items peer_id.entry.id.now peer_id.entry
+            → IfOk result (IsHalf table (half_of side items peer_id.entry.id.now)) }
     {
-        let Some(asked) = there.from else {
+        let Some(asked) = peer_id.from else {
             return Ok(no_half(alloc));
         };
         match &asked.begin {
-            Some(begin) => there.accepted_half(alloc, asked, begin),
-            None => self.other_half(alloc, there, asked),
+            Some(begin) => peer_id.accepted_half(alloc, asked, begin),
+            None => self.other_half(alloc, peer_id, asked),
         }
     }
 

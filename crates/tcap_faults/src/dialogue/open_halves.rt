@@ -151,7 +151,7 @@ impl Ends<'_> {
         }
         match &kept.to.first {
             Some(to) => {
-                let tangled = self.tangled_id(end, self.there(to), Some(self.own_at(own)));
+                let tangled = self.tangled_id(end, self.peer_id(to), Some(self.own_at(own)));
                 tangled.is_none()
             }
             None => false,

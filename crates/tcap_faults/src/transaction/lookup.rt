@@ -52,7 +52,7 @@ pub(crate) struct MessageIds<'a> {
     /// Its originating ID.
     pub(crate) own: Option<OwnId<'a>>,
     /// Its destination ID.
-    pub(crate) there: Option<PeerId<'a>>,
+    pub(crate) peer_id: Option<PeerId<'a>>,
 }
 
 /// Returns the ID as a key of the maps, if there is one.
@@ -165,14 +165,14 @@ impl<'a> MessageIds<'a> {
     }
 
     /// Returns the notes for F2 to F7 on what the peer sent from the destination ID, if it sent anything.
-    pub(crate) fn first_there(self) -> Option<&'a FromId>
+    pub(crate) fn first_from_peer(self) -> Option<&'a FromId>
         ensures { (table : Table) (side : Side) (items : List Item) (m : Message) (fact : FromFact)
             → AreMessageIds table side items m self.entry
             → fact_by_from (option_copied result) fact
             ≡ fact_from (fact_in_items table (other side) items) (dtid_in m) fact }
     {
-        match self.there {
-            Some(there) => first_of(there.from),
+        match self.peer_id {
+            Some(peer_id) => first_of(peer_id.from),
             None => None,
         }
     }
@@ -183,8 +183,8 @@ impl<'a> MessageIds<'a> {
             → AreMessageIds table side items m self.entry
             → result ≡ fact_ended (fact_in_items table side items) (dtid_in m) }
     {
-        match self.there {
-            Some(there) => is_ended(there.to),
+        match self.peer_id {
+            Some(peer_id) => is_ended(peer_id.to),
             None => false,
         }
     }
@@ -204,7 +204,7 @@ impl<'a> Ends<'a> {
     }
 
     /// Looks up an ID of the peer.
-    pub(crate) fn there(self, id: &'a TransactionId) -> PeerId<'a>
+    pub(crate) fn peer_id(self, id: &'a TransactionId) -> PeerId<'a>
         ensures { (table : Table) (side : Side) (items : List Item) → IsSide table side items self.entry.own.now
             → IsSide table (other side) items self.entry.peer.now → IsPeerId table side items id.now result }
     {
@@ -229,13 +229,13 @@ impl<'a> Ends<'a> {
     }
 
     /// Looks up an ID of the peer, if there is one.
-    fn there_with(self, id: Option<&'a TransactionId>) -> Option<PeerId<'a>>
+    fn peer_id_with(self, id: Option<&'a TransactionId>) -> Option<PeerId<'a>>
         ensures { (table : Table) (side : Side) (items : List Item) → IsSide table side items self.entry.own.now
             → IsSide table (other side) items self.entry.peer.now
             → IsPeerIdAt table side items (option_copied id.entry) result }
     {
         match id {
-            Some(id) => Some(self.there(id)),
+            Some(id) => Some(self.peer_id(id)),
             None => None,
         }
     }
@@ -253,7 +253,7 @@ impl<'a> Ends<'a> {
     {
         MessageIds {
             own: self.own_with(otid),
-            there: self.there_with(dtid),
+            peer_id: self.peer_id_with(dtid),
         }
     }
 }

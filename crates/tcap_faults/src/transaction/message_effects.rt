@@ -42,8 +42,8 @@ impl MessageIds<'_> {
             Some(own) => (own.from.is_some(), begins(own.from), is_ended(own.to)),
             None => (false, false, false),
         };
-        let (joins, over) = match self.there {
-            Some(there) => (there.from.is_some(), is_ended(there.to)),
+        let (joins, over) = match self.peer_id {
+            Some(peer_id) => (peer_id.from.is_some(), is_ended(peer_id.to)),
             None => (false, false),
         };
         Effects {

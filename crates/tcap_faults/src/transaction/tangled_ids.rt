@@ -60,16 +60,16 @@ impl SideFacts {
 impl<'a> Ends<'a> {
     /// Returns whether the peer began an ID, and sent a Continue from it to an ID that the end began. At most one own
     /// ID may be joined with the ID.
-    fn is_begun_by_both(self, there: PeerId) -> bool
+    fn is_begun_by_both(self, peer_id: PeerId) -> bool
         ensures { (table : Table) (side : Side) (items : List Item) (id : List ℕ) → IsSide table side items self.entry.own.now
-            → IsPeerId table side items id there.entry → two_differ (owns_of side items id) ≡ false
+            → IsPeerId table side items id peer_id.entry → two_differ (owns_of side items id) ≡ false
             → result ≡ (has_a forms.Begin (peer_sent_from side id items)
             && list_any (goes_to_begun side items) (peer_sent_from side id items)) }
     {
-        if !begins(there.from) {
+        if !begins(peer_id.from) {
             return false;
         }
-        match there.joined {
+        match peer_id.joined {
             Some(ids) => self.began_first(ids),
             None => false,
         }
@@ -88,18 +88,18 @@ impl<'a> Ends<'a> {
     }
 
     /// Returns why an ID of the peer is tangled, if it is.
-    fn tangle_of_peer(self, there: PeerId) -> Option<Tangle>
+    fn tangle_of_peer(self, peer_id: PeerId) -> Option<Tangle>
         ensures { (table : Table) (side : Side) (items : List Item) (id : List ℕ) → IsSide table side items self.entry.own.now
-            → IsSide table (other side) items self.entry.peer.now → IsPeerId table side items id there.entry
+            → IsSide table (other side) items self.entry.peer.now → IsPeerId table side items id peer_id.entry
             → result ≡ tangle_of_peer side items id }
     {
-        if there.owns_differ() {
+        if peer_id.owns_differ() {
             Some(Tangle::TwoIds)
-        } else if begins_twice(there.from) {
+        } else if begins_twice(peer_id.from) {
             Some(Tangle::BegunTwice)
-        } else if self.is_begun_by_both(there) {
+        } else if self.is_begun_by_both(peer_id) {
             Some(Tangle::BothBegan)
-        } else if self.peer.has_guessed(there.id) {
+        } else if self.peer.has_guessed(peer_id.id) {
             Some(Tangle::Guessed)
         } else {
             None
@@ -107,15 +107,15 @@ impl<'a> Ends<'a> {
     }
 
     /// Returns an ID of the peer with the reason, if it is tangled.
-    fn tangled_peer(self, peer: End, there: PeerId) -> Option<TangledId>
+    fn tangled_peer(self, peer: End, peer_id: PeerId) -> Option<TangledId>
         ensures { (table : Table) (side : Side) (items : List Item) (id : List ℕ) → IsSide table side items self.entry.own.now
-            → IsSide table (other side) items self.entry.peer.now → IsPeerId table side items id there.entry
+            → IsSide table (other side) items self.entry.peer.now → IsPeerId table side items id peer_id.entry
             → result ≡ tangled_for peer id (tangle_of_peer side items id) }
     {
-        match self.tangle_of_peer(there) {
+        match self.tangle_of_peer(peer_id) {
             Some(why) => Some(TangledId {
                 side: peer,
-                id: there.id.view().to_transaction_id(),
+                id: peer_id.id.view().to_transaction_id(),
                 why,
             }),
             None => None,
@@ -163,7 +163,7 @@ impl<'a> Ends<'a> {
             → result ≡ first_tangled peer (tangle_of_peer side items) (peers_of side items id) }
     {
         match own.joined() {
-            Some(joined) => self.tangled_peer(peer, self.there(&joined)),
+            Some(joined) => self.tangled_peer(peer, self.peer_id(&joined)),
             None => None,
         }
     }
@@ -197,16 +197,16 @@ impl<'a> Ends<'a> {
 
     /// Returns the first tangled ID: the peer's ID, an own ID near it, or an ID of the peer that is joined with one
     /// of these. `own` is an additional own ID.
-    pub(crate) fn tangled_id(self, end: End, there: PeerId, own: Option<OwnId>) -> Option<TangledId>
+    pub(crate) fn tangled_id(self, end: End, peer_id: PeerId, own: Option<OwnId>) -> Option<TangledId>
         ensures { (table : Table) (items : List Item) (id : List ℕ) (near : Option (List ℕ))
             → IsSide table end items self.entry.own.now → IsSide table (other end) items self.entry.peer.now
-            → IsPeerId table end items id there.entry → IsOwnIdAt table end items near own.entry
+            → IsPeerId table end items id peer_id.entry → IsOwnIdAt table end items near own.entry
             → result ≡ tangled_id end items (option_to_list near) id }
     {
-        if let Some(tangled) = self.tangled_peer(end.other(), there) {
+        if let Some(tangled) = self.tangled_peer(end.other(), peer_id) {
             return Some(tangled);
         }
-        let joined = there.joined_own();
+        let joined = peer_id.joined_own();
         let near = joined.as_ref();
         if let Some(tangled) = self.tangled_near(end, near, own) {
             return Some(tangled);
@@ -223,8 +223,8 @@ impl<'a> Ends<'a> {
             → IsSide table (other end) items self.entry.peer.now → AreMessageIds table end items m found.entry
             → result ≡ tangled_in end items m }
     {
-        match found.there {
-            Some(there) => self.tangled_id(end, there, found.own),
+        match found.peer_id {
+            Some(peer_id) => self.tangled_id(end, peer_id, found.own),
             None => None,
         }
     }
@@ -262,8 +262,8 @@ impl<'a> Ends<'a> {
         if own.from.is_none() || !self.may_be_over(table, own) {
             return false;
         }
-        match found.there {
-            Some(there) => there.is_answered_anew(own),
+        match found.peer_id {
+            Some(peer_id) => peer_id.is_answered_anew(own),
             None => true,
         }
     }

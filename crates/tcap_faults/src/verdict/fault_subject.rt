@@ -56,8 +56,8 @@ impl Facts {
             ≡ subject of_one table.now side (since_quiet items) (M.meaning message.now) kind) }
     {
         let ends = self.ends(side);
-        let there = ends.peer.first_from(message.dtid());
-        let first = faulty_component(of_one, table, there, message, kind);
+        let peers = ends.peer.first_from(message.dtid());
+        let first = faulty_component(of_one, table, peers, message, kind);
         let Some(dtid) = message.dtid() else {
             let faults = first_faults(alloc, message)?;
             return Ok(Subject {
@@ -67,7 +67,7 @@ impl Facts {
             });
         };
         let id = dtid.to_transaction_id();
-        let half = ends.half(alloc, ends.there(&id))?;
+        let half = ends.half(alloc, ends.peer_id(&id))?;
         let faults = faults_of(alloc, table, &half, message)?;
         Ok(Subject {
             origin: half.origin,

@@ -51,32 +51,33 @@ impl MessageIds<'_> {
             → result ≡ find (is_of_first_kind table.now side (since_quiet items) (M.meaning message.now)) first_kinds }
     {
         let own = self.first_own();
-        let there = self.first_there();
-        first_kind(table, own, there, self.has_ended(), message)
+        let peers = self.first_from_peer();
+        first_kind(table, own, peers, self.has_ended(), message)
     }
 }
 
 impl Ends<'_> {
-    /// Returns the lowest of F8 to F13 that a message to an ID has, which is not tangled. Fails if memory runs out.
+    /// Returns the lowest of F8 to F13 that a message has, if its destination ID is not tangled. Fails if memory runs
+    /// out.
     fn half_kind<M: MessageParts>(
         self,
         alloc: Global,
         table: &Table,
-        there: PeerId,
+        peer_id: PeerId,
         message: &M,
     ) -> Result<Option<Kind>, AllocError>
         ensures { (side : Side) (items : List Item) → IsSide table.now side items self.entry.own.now
-            → IsPeerId table.now side items there.entry.id.now there.entry
-            → is_peer_tangled side items there.entry.id.now ≡ false
+            → IsPeerId table.now side items peer_id.entry.id.now peer_id.entry
+            → is_peer_tangled side items peer_id.entry.id.now ≡ false
             → AreRoomy (items ++ Sent side (M.meaning message.now) ∷ [])
-            → IfOk result (λ kind. kind ≡ find (is_of_half_kind table.now side there.entry.id.now items
-            (M.meaning message.now) (half_of side items there.entry.id.now)) further_kinds) }
+            → IfOk result (λ kind. kind ≡ find (is_of_half_kind table.now side peer_id.entry.id.now items
+            (M.meaning message.now) (half_of side items peer_id.entry.id.now)) further_kinds) }
     {
-        let half = self.half(alloc, there)?;
+        let half = self.half(alloc, peer_id)?;
         if self.is_wrong_half(message, &half) {
             return Ok(Some(Kind::WrongHalf));
         }
-        if there.is_wrong_dialogue(message, &half) {
+        if peer_id.is_wrong_dialogue(message, &half) {
             return Ok(Some(Kind::WrongDialogue));
         }
         let faults = faults_of(alloc, table, &half, message)?;
@@ -114,12 +115,12 @@ impl Ends<'_> {
             (is_of_further_kind table.now side items (M.meaning message.now) (dtid_in (M.meaning message.now)))
             further_kinds) }
     {
-        let Some(there) = found.there else {
+        let Some(peer_id) = found.peer_id else {
             return Ok(kind_of_faults(first_faults(alloc, message)?));
         };
         match message.cause() {
-            Some(cause) => Ok(self.reply_kind(table, there.id, cause)),
-            None => self.half_kind(alloc, table, there, message),
+            Some(cause) => Ok(self.reply_kind(table, peer_id.id, cause)),
+            None => self.half_kind(alloc, table, peer_id, message),
         }
     }
 }

@@ -5,9 +5,9 @@ use Rattle.tcap_ber.proofs.to_end.read_to_end.Given as goal
 
 abbrev pub invariant-loop-reader : goal.invariant-loop-reader
 invariant-loop-reader g l = record {
-  told : List ℕ;
-  gained : l.octets.items ≡ l.fn.octets.items ++ told;
-  consumed : Consumes (g.R.Read.untold l.fn.reader) (g.R.Read.untold l.reader) told;
+  more : List ℕ;
+  gained : l.octets.items ≡ l.fn.octets.items ++ more;
+  consumed : Consumes (g.R.Read.remaining l.fn.reader) (g.R.Read.remaining l.reader) more;
   count : g.R.Read.failures l.reader ≡ g.R.Read.failures l.fn.reader;
 }
 

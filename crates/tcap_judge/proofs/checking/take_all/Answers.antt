@@ -12,13 +12,13 @@ returns-in-Ok-eq0 g c = λ judged table cert stands.
     let was = c.loop-frames.invariant in
     let frames = c.loop-frames.frames in
     let end = c.finish.result in
-    let at_first = g.R.Read.untold c.args.reader.now in
-    let at_last = g.R.Read.untold c.read.new.self in
+    let at_first = g.R.Read.remaining c.args.reader.now in
+    let at_last = g.R.Read.remaining c.read.new.self in
     let have = was.taken judged table cert stands in
     let more : List ℕ = take c.in-Ok-eq0.field-0 c.read.new.buffer in
     let all : was.returned ++ more ≡ was.returned =
     ap (λ (n : ℕ). was.returned ++ take n c.read.new.buffer) c.in-Ok-eq0.field-0-test ∙ append-nil was.returned in
-    let consumed = Consumes-trans at_first (g.R.Read.untold c.loop-frames.reader) at_last was.returned more was.consumed
+    let consumed = Consumes-trans at_first (g.R.Read.remaining c.loop-frames.reader) at_last was.returned more was.consumed
     c.in-Ok-eq0.ensures.tells in
     record {
       entries = have.0;
@@ -39,8 +39,8 @@ loop-frames-preserved g c =
     let returned : List ℕ = take c.in-Ok.returned c.read.new.buffer in
     record {
       returned = was.returned ++ returned;
-      consumed = Consumes-trans (g.R.Read.untold c.args.reader.now) (g.R.Read.untold c.loop-frames.reader)
-          (g.R.Read.untold c.read.new.self) was.returned returned was.consumed c.in-Ok.ensures.tells;
+      consumed = Consumes-trans (g.R.Read.remaining c.args.reader.now) (g.R.Read.remaining c.loop-frames.reader)
+          (g.R.Read.remaining c.read.new.self) was.returned returned was.consumed c.in-Ok.ensures.tells;
       taken = λ judged table cert stands.
           let have = was.taken judged table cert stands in
           c.in_ok-take_piece.ensures.leads judged table cert was.returned have.0 have.1;
@@ -67,8 +67,8 @@ returns-in_err-take_piece g c =
       entries = there.0;
       reads = record {
         returned = was.returned ++ returned;
-        tells = Consumes-trans (g.R.Read.untold c.args.reader.now) (g.R.Read.untold c.loop-frames.reader)
-            (g.R.Read.untold c.read.new.self) was.returned returned was.consumed c.in-Ok.ensures.tells;
+        tells = Consumes-trans (g.R.Read.remaining c.args.reader.now) (g.R.Read.remaining c.loop-frames.reader)
+            (g.R.Read.remaining c.read.new.self) was.returned returned was.consumed c.in-Ok.ensures.tells;
         is_read = stopped_read was.returned returned fed.0 there.0 frames f there.1 held why;
         ended = λ cut. absurd (not_cut frames f held why cut);
         failed = stopped_counts f frames _ _ held why (c.in-Ok.ensures.counts ∙ was.none_failed);

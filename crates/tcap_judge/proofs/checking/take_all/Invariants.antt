@@ -12,7 +12,7 @@ use Rattle.tcap_judge.proofs.checking.take_all.Given as goal
 abbrev pub invariant-loop-frames : goal.invariant-loop-frames
 invariant-loop-frames g l = record {
   returned : List ℕ;
-  consumed : Consumes (g.R.Read.untold l.fn.reader) (g.R.Read.untold l.reader) returned;
+  consumed : Consumes (g.R.Read.remaining l.fn.reader) (g.R.Read.remaining l.reader) returned;
   taken : (judged : Option Side) (table : Table) (c : Certificate) → IsCheckerOf judged table c l.initial.checker []
       → (entries : List Entry) × TakenSoFar judged table c returned entries l.frames l.checker;
   held : IsFramerState l.frames;

@@ -11,8 +11,8 @@ returns-then-returned-limit g c =
     record {
       reads = record {
         returned = text ++ more;
-        tells = Consumes-trans (g.R.Read.untold c.args.reader.now) (g.R.Read.untold c.loop-text.reader)
-            (g.R.Read.untold c.read.new.self) text more before.consumed c.in-Ok.ensures.tells;
+        tells = Consumes-trans (g.R.Read.remaining c.args.reader.now) (g.R.Read.remaining c.loop-text.reader)
+            (g.R.Read.remaining c.read.new.self) text more before.consumed c.in-Ok.ensures.tells;
         ends = (
           omega (
             arith,
@@ -44,8 +44,8 @@ returns-in_err-extend_from_slice g c =
     rw (p.1, p.2) (record {
       reads = record {
         returned = text ++ more;
-        tells = Consumes-trans (g.R.Read.untold c.args.reader.now) (g.R.Read.untold c.loop-text.reader)
-            (g.R.Read.untold c.read.new.self) text more before.consumed c.in-Ok.ensures.tells;
+        tells = Consumes-trans (g.R.Read.remaining c.args.reader.now) (g.R.Read.remaining c.loop-text.reader)
+            (g.R.Read.remaining c.read.new.self) text more before.consumed c.in-Ok.ensures.tells;
         ends = c.in-Ok.ensures.counts ∙ before.none_failed;
       };
     })

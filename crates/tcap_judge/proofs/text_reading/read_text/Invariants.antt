@@ -6,7 +6,7 @@ use Rattle.tcap_judge.proofs.text_reading.read_text.Given as goal
 
 abbrev pub invariant-loop-text : goal.invariant-loop-text
 invariant-loop-text g l = record {
-  consumed : Consumes (g.R.Read.untold l.fn.reader) (g.R.Read.untold l.reader) l.text.items;
+  consumed : Consumes (g.R.Read.remaining l.fn.reader) (g.R.Read.remaining l.reader) l.text.items;
   within : length l.text.items ≤ l.limit;
   room : length l.piece ≡ piece_limit;
   none_failed : g.R.Read.failures l.reader ≡ g.R.Read.failures l.fn.reader;

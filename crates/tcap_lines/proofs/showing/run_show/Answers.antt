@@ -7,7 +7,7 @@ use Rattle.tcap_lines.proofs.showing.run_show.Goals as goal
 pub returns-clause-shown : goal.returns-clause-shown
 returns-clause-shown g c =
     let f = c.in-Err-Fault.fault in
-    let all = subst (λ (stop : Stop). UnlessWrite (ShowsAll (g.R.Read.untold c.args.reader.now) (g.R.Read.untold c.show_all.new.reader) (g.R.Read.failures c.args.reader.now) (g.R.Read.failures c.show_all.new.reader) c.show_all.new.showing.bad (g.W.Write.taken c.args.writer.now) (g.W.Write.taken c.show_all.new.writer)) (Err stop))
+    let all = subst (λ (stop : Stop). UnlessWrite (ShowsAll (g.R.Read.remaining c.args.reader.now) (g.R.Read.remaining c.show_all.new.reader) (g.R.Read.failures c.args.reader.now) (g.R.Read.failures c.show_all.new.reader) c.show_all.new.showing.bad (g.W.Write.taken c.args.writer.now) (g.W.Write.taken c.show_all.new.writer)) (Err stop))
     c.in-Err-Fault.field-0-is c.in-Err-Fault.ensures.shows in
     let printed = faulted all.entries f (g.W.Write.taken c.args.writer.now) (g.W.Write.taken c.show_all.new.writer) (g.W.Write.taken c.write_fault.new.writer) all.written c.in_ok-write_fault-in-Err-Fault.ensures.line in
     record {

@@ -18,7 +18,7 @@ loop-showing-init g c =
     record {
       returned = [];
       entries = [];
-      consumed = Consumes-nil (g.R.Read.untold c.args.reader.now);
+      consumed = Consumes-nil (g.R.Read.remaining c.args.reader.now);
       shown = nothing_shown start c.args.showing.now.bad (g.W.Write.taken c.args.writer.now) c.requires.fresh c.requires.fine;
       held = nothing_is_held start c.requires.fresh;
       sound = ap (λ (h : FramerState). h.fault) c.requires.fresh;
@@ -33,12 +33,12 @@ returns-in_err-finish-in-Ok-eq0-clause-shows g c =
     let p = err_from_is_err_and c.from_residual.result c.from_residual.ensures.1 in
     let f = c.in_err-finish-in-Ok-eq0.field-0.0 in
     let all : was.returned ++ take c.in-Ok-eq0.field-0 c.read.new.buffer ≡ was.returned = ap (λ (n : ℕ). was.returned ++ take n c.read.new.buffer) c.in-Ok-eq0.field-0-test ∙ append-nil was.returned in
-    let consumed = Consumes-trans (g.R.Read.untold c.args.reader.now) (g.R.Read.untold c.loop-showing.reader) (g.R.Read.untold c.read.new.self) was.returned (take c.in-Ok-eq0.field-0 c.read.new.buffer) was.consumed c.in-Ok-eq0.ensures.tells in
+    let consumed = Consumes-trans (g.R.Read.remaining c.args.reader.now) (g.R.Read.remaining c.loop-showing.reader) (g.R.Read.remaining c.read.new.self) was.returned (take c.in-Ok-eq0.field-0 c.read.new.buffer) was.consumed c.in-Ok-eq0.ensures.tells in
     let ends : FinishesAs (Err f) c.loop-showing.showing.frames = c.in_err-finish-in-Ok-eq0.ensures in
     rw (p.1, p.2) (record {
       returned = was.returned;
       entries = was.entries;
-      tells = subst (Consumes (g.R.Read.untold c.args.reader.now) (g.R.Read.untold c.read.new.self)) all consumed;
+      tells = subst (Consumes (g.R.Read.remaining c.args.reader.now) (g.R.Read.remaining c.read.new.self)) all consumed;
       is_read = read_finished (Err f) was.returned was.entries c.loop-showing.showing.frames (record { fed = was.shown.fed; held = was.held; sound = was.sound; is_part = was.is_part }) ends;
       ended = λ cut. c.in-Ok-eq0.ensures.end c.in-Ok-eq0.field-0-test (omega arith);
       failed = ended_counts f c.loop-showing.showing.frames _ _ ends was.sound (c.in-Ok-eq0.ensures.counts ∙ was.none_failed);
@@ -50,11 +50,11 @@ pub returns-in-Ok-eq0-clause-shows : goal.returns-in-Ok-eq0-clause-shows
 returns-in-Ok-eq0-clause-shows g c =
     let was = c.loop-showing.invariant in
     let all : was.returned ++ take c.in-Ok-eq0.field-0 c.read.new.buffer ≡ was.returned = ap (λ (n : ℕ). was.returned ++ take n c.read.new.buffer) c.in-Ok-eq0.field-0-test ∙ append-nil was.returned in
-    let consumed = Consumes-trans (g.R.Read.untold c.args.reader.now) (g.R.Read.untold c.loop-showing.reader) (g.R.Read.untold c.read.new.self) was.returned (take c.in-Ok-eq0.field-0 c.read.new.buffer) was.consumed c.in-Ok-eq0.ensures.tells in
+    let consumed = Consumes-trans (g.R.Read.remaining c.args.reader.now) (g.R.Read.remaining c.loop-showing.reader) (g.R.Read.remaining c.read.new.self) was.returned (take c.in-Ok-eq0.field-0 c.read.new.buffer) was.consumed c.in-Ok-eq0.ensures.tells in
     record {
       returned = was.returned;
       entries = was.entries;
-      tells = subst (Consumes (g.R.Read.untold c.args.reader.now) (g.R.Read.untold c.read.new.self)) all consumed;
+      tells = subst (Consumes (g.R.Read.remaining c.args.reader.now) (g.R.Read.remaining c.read.new.self)) all consumed;
       is_read = read_finished (Ok tt) was.returned was.entries c.loop-showing.showing.frames (record { fed = was.shown.fed; held = was.held; sound = was.sound; is_part = was.is_part }) c.in_ok-finish-in-Ok-eq0.ensures;
       ended = c.in-Ok-eq0.ensures.end c.in-Ok-eq0.field-0-test (omega arith);
       failed = c.in-Ok-eq0.ensures.counts ∙ was.none_failed;
@@ -67,9 +67,9 @@ returns-in_err-show_piece-clause-shows g c =
     let was = c.loop-showing.invariant in
     let p = err_from_is_err_and c.from_residual-in_err-show_piece.result c.from_residual-in_err-show_piece.ensures.1 in
     let returned = take c.in-Ok.returned c.read.new.buffer in
-    let consumed = Consumes-trans (g.R.Read.untold c.args.reader.now) (g.R.Read.untold c.loop-showing.reader) (g.R.Read.untold c.read.new.self) was.returned returned was.consumed c.in-Ok.ensures.tells in
+    let consumed = Consumes-trans (g.R.Read.remaining c.args.reader.now) (g.R.Read.remaining c.loop-showing.reader) (g.R.Read.remaining c.read.new.self) was.returned returned was.consumed c.in-Ok.ensures.tells in
     let same : c.in_err-show_piece.field-0.0 ≡ p.0 = sym p.2 in
-    rw p.1 (unless_write (ShowsAll (g.R.Read.untold c.args.reader.now) (g.R.Read.untold c.read.new.self) (g.R.Read.failures c.args.reader.now) (g.R.Read.failures c.read.new.self) c.show_piece.new.self.bad (g.W.Write.taken c.args.writer.now) (g.W.Write.taken c.show_piece.new.writer)) p.0 (λ f is.
+    rw p.1 (unless_write (ShowsAll (g.R.Read.remaining c.args.reader.now) (g.R.Read.remaining c.read.new.self) (g.R.Read.failures c.args.reader.now) (g.R.Read.failures c.read.new.self) c.show_piece.new.self.bad (g.W.Write.taken c.args.writer.now) (g.W.Write.taken c.show_piece.new.writer)) p.0 (λ f is.
     let e : c.in_err-show_piece.field-0.0 ≡ stops.Fault f = same ∙ is in
     let other : (let r : Result (Unit {0}) Stop = Err c.in_err-show_piece.field-0.0 in r) ≢ Err stops.Write = λ bad. let no : stops.Fault f ≡ stops.Write = sym e ∙ err_is c.in_err-show_piece.field-0.0 stops.Write bad in cc in
     let shows = c.in_err-show_piece.ensures.shows other in

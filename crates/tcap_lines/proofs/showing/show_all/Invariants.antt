@@ -10,7 +10,7 @@ abbrev pub invariant-loop-showing : goal.invariant-loop-showing
 invariant-loop-showing g l = record {
   returned : List ℕ;
   entries : List Entry;
-  consumed : Consumes (g.R.Read.untold l.fn.reader) (g.R.Read.untold l.reader) returned;
+  consumed : Consumes (g.R.Read.remaining l.fn.reader) (g.R.Read.remaining l.reader) returned;
   shown : ShownSoFar returned entries l.showing.frames l.showing.bad (g.W.Write.taken l.fn.writer) (g.W.Write.taken l.writer);
   held : IsFramerState l.showing.frames;
   sound : l.showing.frames.fault ≡ None;

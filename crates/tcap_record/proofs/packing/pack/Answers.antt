@@ -14,28 +14,28 @@ use Rattle.tcap_record.proofs.packing.pack.Goals as goal
 pub returns-in-Ok-eq0-clause-packed : goal.returns-in-Ok-eq0-clause-packed
 returns-in-Ok-eq0-clause-packed g c =
     let before = c.loop-read.invariant in
-    let at_end : IsAtEnd (g.R.Read.untold c.read.new.self) = c.in-Ok-eq0.ensures.end c.in-Ok-eq0.field-0-test (omega arith) in
-    let returned = told_no_more (g.R.Read.untold c.args.reader.now) (g.R.Read.untold c.loop-read.reader)
-    (g.R.Read.untold c.read.new.self) before.returned c.read.new.buffer c.in-Ok-eq0.field-0 c.in-Ok-eq0.field-0-test before.consumed
+    let at_end : IsAtEnd (g.R.Read.remaining c.read.new.self) = c.in-Ok-eq0.ensures.end c.in-Ok-eq0.field-0-test (omega arith) in
+    let returned = told_no_more (g.R.Read.remaining c.args.reader.now) (g.R.Read.remaining c.loop-read.reader)
+    (g.R.Read.remaining c.read.new.self) before.returned c.read.new.buffer c.in-Ok-eq0.field-0 c.in-Ok-eq0.field-0-test before.consumed
     c.in-Ok-eq0.ensures.tells in
-    packed_ok c.finish.result c.new-packing.result c.loop-read.packing before.returned (g.R.Read.untold c.args.reader.now)
-    (g.R.Read.untold c.read.new.self) (g.W.Write.taken c.args.writer.now)
+    packed_ok c.finish.result c.new-packing.result c.loop-read.packing before.returned (g.R.Read.remaining c.args.reader.now)
+    (g.R.Read.remaining c.read.new.self) (g.W.Write.taken c.args.writer.now)
     (g.W.Write.taken c.loop-read.writer) (g.W.Write.taken c.finish.new.writer) c.new-packing.ensures before.packs before.is_open
     at_end returned c.finish.ensures.packed
 
 pub returns-in-Ok-eq0-clause-refused : goal.returns-in-Ok-eq0-clause-refused
 returns-in-Ok-eq0-clause-refused g c fault e =
     let before = c.loop-read.invariant in
-    let untold = g.R.Read.untold c.read.new.self in
-    let at_end : IsAtEnd untold = c.in-Ok-eq0.ensures.end c.in-Ok-eq0.field-0-test (omega arith) in
-    let returned = told_no_more (g.R.Read.untold c.args.reader.now) (g.R.Read.untold c.loop-read.reader) untold before.returned
+    let remaining = g.R.Read.remaining c.read.new.self in
+    let at_end : IsAtEnd remaining = c.in-Ok-eq0.ensures.end c.in-Ok-eq0.field-0-test (omega arith) in
+    let returned = told_no_more (g.R.Read.remaining c.args.reader.now) (g.R.Read.remaining c.loop-read.reader) remaining before.returned
     c.read.new.buffer c.in-Ok-eq0.field-0 c.in-Ok-eq0.field-0-test before.consumed c.in-Ok-eq0.ensures.tells in
-    let stopped = packed_then c.new-packing.result c.loop-read.packing before.returned [] fault untold
+    let stopped = packed_then c.new-packing.result c.loop-read.packing before.returned [] fault remaining
     (g.W.Write.taken c.args.writer.now) (g.W.Write.taken c.loop-read.writer) (g.W.Write.taken c.finish.new.writer)
-    c.new-packing.ensures before.packs (c.finish.ensures.refused fault e untold at_end) in (
+    c.new-packing.ensures before.packs (c.finish.ensures.refused fault e remaining at_end) in (
       before.returned,
       returned,
-      subst (λ (x : List ℕ). IsPackedUpTo x fault untold (g.W.Write.taken c.args.writer.now) (g.W.Write.taken c.finish.new.writer))
+      subst (λ (x : List ℕ). IsPackedUpTo x fault remaining (g.W.Write.taken c.args.writer.now) (g.W.Write.taken c.finish.new.writer))
           (append-nil before.returned) stopped,
     )
 
@@ -47,15 +47,15 @@ returns-in-Ok-eq0-clause-read g c fault e reason =
 pub returns-in-Err-clause-refused : goal.returns-in-Err-clause-refused
 returns-in-Err-clause-refused g c fault e =
     let before = c.loop-read.invariant in
-    let untold = g.R.Read.untold c.read.new.self in
+    let remaining = g.R.Read.remaining c.read.new.self in
     let at : feed_fault feed.Read c.loop-read.read ≡ fault = cc in
     let same : feed_fault feed.Read (length before.returned) ≡ fault = ap (feed_fault feed.Read) (sym before.read_is) ∙ at in (
       before.returned,
-      told_nothing (g.R.Read.untold c.args.reader.now) (g.R.Read.untold c.loop-read.reader) untold before.returned before.consumed
+      told_nothing (g.R.Read.remaining c.args.reader.now) (g.R.Read.remaining c.loop-read.reader) remaining before.returned before.consumed
           c.in-Err.ensures.tells,
-      subst (λ (f : FeedFault). IsPackedUpTo before.returned f untold (g.W.Write.taken c.args.writer.now)
+      subst (λ (f : FeedFault). IsPackedUpTo before.returned f remaining (g.W.Write.taken c.args.writer.now)
           (g.W.Write.taken c.loop-read.writer)) same
-          (packed_unread c.new-packing.result c.loop-read.packing before.returned untold (g.W.Write.taken c.args.writer.now)
+          (packed_unread c.new-packing.result c.loop-read.packing before.returned remaining (g.W.Write.taken c.args.writer.now)
           (g.W.Write.taken c.loop-read.writer) c.new-packing.ensures before.packs before.is_open),
     )
 
@@ -75,8 +75,8 @@ loop-read-preserved g c =
     let more : List ℕ = take c.in-Ok.returned c.read.new.buffer in
     record {
       returned = before.returned ++ more;
-      consumed = Consumes-trans (g.R.Read.untold c.args.reader.now) (g.R.Read.untold c.loop-read.reader)
-          (g.R.Read.untold c.read.new.self) before.returned more before.consumed c.in-Ok.ensures.tells;
+      consumed = Consumes-trans (g.R.Read.remaining c.args.reader.now) (g.R.Read.remaining c.loop-read.reader)
+          (g.R.Read.remaining c.read.new.self) before.returned more before.consumed c.in-Ok.ensures.tells;
       packs = packs_then c.new-packing.result c.loop-read.packing c.pack_piece.new.self before.returned more
           (g.W.Write.taken c.args.writer.now) (g.W.Write.taken c.loop-read.writer)
           (g.W.Write.taken c.pack_piece.new.writer) before.packs c.in_ok-pack_piece.ensures.packed;
@@ -95,14 +95,14 @@ pub returns-in_err-pack_piece-clause-refused : goal.returns-in_err-pack_piece-cl
 returns-in_err-pack_piece-clause-refused g c fault e =
     let before = c.loop-read.invariant in
     let more : List ℕ = take c.in-Ok.returned c.read.new.buffer in
-    let untold = g.R.Read.untold c.read.new.self in
+    let remaining = g.R.Read.remaining c.read.new.self in
     let p = err_from_is_err_and c.from_residual.result c.from_residual.ensures.1 in
     let why = c.in_err-pack_piece.ensures.refused fault
-    (handed_on c.from_residual.result p.0 (Fault fault) c.in_err-pack_piece.field-0.0 p.1 p.2 e) untold in (
+    (handed_on c.from_residual.result p.0 (Fault fault) c.in_err-pack_piece.field-0.0 p.1 p.2 e) remaining in (
       before.returned ++ more,
-      Consumes-trans (g.R.Read.untold c.args.reader.now) (g.R.Read.untold c.loop-read.reader) untold before.returned more
+      Consumes-trans (g.R.Read.remaining c.args.reader.now) (g.R.Read.remaining c.loop-read.reader) remaining before.returned more
           before.consumed c.in-Ok.ensures.tells,
-      packed_then c.new-packing.result c.loop-read.packing before.returned more fault untold (g.W.Write.taken c.args.writer.now)
+      packed_then c.new-packing.result c.loop-read.packing before.returned more fault remaining (g.W.Write.taken c.args.writer.now)
           (g.W.Write.taken c.loop-read.writer) (g.W.Write.taken c.pack_piece.new.writer)
           c.new-packing.ensures before.packs why,
     )

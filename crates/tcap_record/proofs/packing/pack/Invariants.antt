@@ -7,7 +7,7 @@ use Rattle.tcap_record.proofs.packing.pack.Given as goal
 abbrev pub invariant-loop-read : goal.invariant-loop-read
 invariant-loop-read g l = record {
   returned : List ℕ;
-  consumed : Consumes (g.R.Read.untold l.fn.reader) (g.R.Read.untold l.reader) returned;
+  consumed : Consumes (g.R.Read.remaining l.fn.reader) (g.R.Read.remaining l.reader) returned;
   packs : Packs l.initial.packing l.packing returned (g.W.Write.taken l.fn.writer) (g.W.Write.taken l.writer);
   is_open : IsOpen l.packing;
   read_is : l.read ≡ length returned;

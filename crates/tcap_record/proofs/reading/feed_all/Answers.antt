@@ -12,11 +12,11 @@ returns-in-Ok-eq0-clause-returned g c =
     let was = c.loop-feeder.invariant in
     let all : was.returned ++ take c.in-Ok-eq0.field-0 c.read.new.buffer ≡ was.returned =
     ap (λ (n : ℕ). was.returned ++ take n c.read.new.buffer) c.in-Ok-eq0.field-0-test ∙ append-nil was.returned in
-    let consumed = Consumes-trans (g.R.Read.untold c.args.reader.now) (g.R.Read.untold c.loop-feeder.reader)
-    (g.R.Read.untold c.read.new.self) was.returned (take c.in-Ok-eq0.field-0 c.read.new.buffer) was.consumed
+    let consumed = Consumes-trans (g.R.Read.remaining c.args.reader.now) (g.R.Read.remaining c.loop-feeder.reader)
+    (g.R.Read.remaining c.read.new.self) was.returned (take c.in-Ok-eq0.field-0 c.read.new.buffer) was.consumed
     c.in-Ok-eq0.ensures.tells in (
       was.returned,
-      subst (Consumes (g.R.Read.untold c.args.reader.now) (g.R.Read.untold c.read.new.self)) all consumed,
+      subst (Consumes (g.R.Read.remaining c.args.reader.now) (g.R.Read.remaining c.read.new.self)) all consumed,
       read_finished c.finish.result was.returned c.loop-feeder.feeder.waiting c.loop-feeder.feeder.held was.fed c.finish.ensures.ends,
     )
 
@@ -47,8 +47,8 @@ loop-feeder-preserved g c =
     let returned = take n c.read.new.buffer in
     record {
       returned = was.returned ++ returned;
-      consumed = Consumes-trans (g.R.Read.untold c.args.reader.now) (g.R.Read.untold c.loop-feeder.reader)
-          (g.R.Read.untold c.read.new.self) was.returned returned was.consumed c.in-Ok.ensures.tells;
+      consumed = Consumes-trans (g.R.Read.remaining c.args.reader.now) (g.R.Read.remaining c.loop-feeder.reader)
+          (g.R.Read.remaining c.read.new.self) was.returned returned was.consumed c.in-Ok.ensures.tells;
       fed = record {
         fed = c.in_ok-feed.ensures.fed was.returned [] was.fed.fed;
         held = c.in_ok-feed.ensures.held;
@@ -67,7 +67,7 @@ returns-in_err-feed-clause-returned g c =
     let f = c.in_err-feed.field-0.0 in
     rw (p.1, p.2) (
       was.returned ++ returned,
-      Consumes-trans (g.R.Read.untold c.args.reader.now) (g.R.Read.untold c.loop-feeder.reader) (g.R.Read.untold c.read.new.self)
+      Consumes-trans (g.R.Read.remaining c.args.reader.now) (g.R.Read.remaining c.loop-feeder.reader) (g.R.Read.remaining c.read.new.self)
           was.returned returned was.consumed c.in-Ok.ensures.tells,
       read_refused was.returned returned c.loop-feeder.feeder c.feed.new.self f was.fed c.in_err-feed.ensures.held
           (c.in_err-feed.ensures.fails f refl) (c.in_err-feed.ensures.fed was.returned [] was.fed.fed),

@@ -7,7 +7,7 @@ use Rattle.tcap_record.proofs.reading.feed_all.Given as goal
 abbrev pub invariant-loop-feeder : goal.invariant-loop-feeder
 invariant-loop-feeder g l = record {
   returned : List ℕ;
-  consumed : Consumes (g.R.Read.untold l.fn.reader) (g.R.Read.untold l.reader) returned;
+  consumed : Consumes (g.R.Read.remaining l.fn.reader) (g.R.Read.remaining l.reader) returned;
   fed : IsFed returned l.feeder.waiting l.feeder.held;
   count : g.R.Read.failures l.reader ≡ g.R.Read.failures l.fn.reader;
 }

@@ -22,7 +22,7 @@ loop-tie-preserved c =
     let t = get_or ties i zero_tie in
     let side = c.in-Some.side in
     let transaction = c.in-Some.transaction in
-    let shown = sym (c.in-Some.ensures all c.in_ok-told.ensures) in
+    let shown = sym (c.in-Some.ensures all c.in_ok-delivered.ensures) in
     let within = shown_below entries all t.entry t.reply side transaction shown in
     let is_none = rw c.get.ensures at c.is_none.ensures in
     elim c.if-is_none.branch [
@@ -43,4 +43,4 @@ loop-tie-preserved-in_default c =
     let zero_tie : Tie = record { entry = 0; reply = 0 } in
     listed_same all lines c.args.ties.now (length c.args.entries.now) i c.loop-tie.listed.items c.loop-tie.kept zero_tie
     (get_or c.args.ties.now i zero_tie) c.loop-tie-test.true refl c.loop-tie.invariant
-    (sym (c.in_default.ensures all c.in_ok-told.ensures))
+    (sym (c.in_default.ensures all c.in_ok-delivered.ensures))

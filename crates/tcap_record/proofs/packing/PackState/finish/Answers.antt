@@ -12,7 +12,7 @@ use Rattle.tcap_record.proofs.packing.PackState.finish.Goals as goal
 use Rattle.tcap_record.proofs.packing.PackState.finish.Goals.{then-not-is_empty+in_ok-end_line, else-not-is_empty}
 
 pub returns-in_err-end_line-clause-refused : goal.returns-in_err-end_line-clause-refused
-returns-in_err-end_line-clause-refused g c fault e untold at_end =
+returns-in_err-end_line-clause-refused g c fault e remaining at_end =
     let p = err_from_is_err_and c.from_residual.result c.from_residual.ensures.1 in
     let why = c.in_err-end_line.ensures.refused fault
     (handed_on c.from_residual.result p.0 (Fault fault) c.in_err-end_line.field-0.0 p.1 p.2 e) in
@@ -22,7 +22,7 @@ returns-in_err-end_line-clause-refused g c fault e untold at_end =
     let more = not_empty c.args.self.line.len c.is_empty.result c.is_empty.ensures c.if-not-is_empty.true in
     let some : line ≢ [] = λ none. absurd (omega (arith, more, c.args.self.line.ok.0, ap length none)) in
     let refused = subst (λ (x : List ℕ). IsLineRefused x (c.args.self.lines + 1) fault) all why.0 in
-    stops_last c.args.self fault untold (g.W.Write.taken c.args.writer.now) (g.W.Write.taken c.end_line.new.writer)
+    stops_last c.args.self fault remaining (g.W.Write.taken c.args.writer.now) (g.W.Write.taken c.end_line.new.writer)
     c.requires.open.within why.1 c.requires.open.plain some at_end refused
 
 pub returns-clause-packed : goal.returns-clause-packed

@@ -8,7 +8,7 @@ use Rattle.tcap_record.proofs.PackLaws.{cut_there, handed_on, packs_line, plain_
 use Rattle.tcap_record.proofs.packing.PackState.pack_line.Goals as goal
 
 pub returns-in-Err-clause-refused : goal.returns-in-Err-clause-refused
-returns-in-Err-clause-refused g c fault e untold =
+returns-in-Err-clause-refused g c fault e remaining =
     let same : c.refused.result ≡ fault = cc in
     let whole : c.split_at.result.0.now ++ c.split_at.result.1.now ≡ c.args.piece.now =
     rw (c.split_at.ensures.front, c.split_at.ensures.back) (take-append-drop c.line_len.result c.args.piece.now) in
@@ -16,7 +16,7 @@ returns-in-Err-clause-refused g c fault e untold =
     let number : c.hold.new.self.lines + 1 ≡ c.args.self.now.lines + 1 = ap (λ (n : ℕ). n + 1) c.hold.ensures.counts.0 in
     rw (← same, c.refused.ensures, ← whole)
     (stops_long c.args.self.now c.split_at.result.0.now c.split_at.result.1.now (c.hold.new.self.lines + 1) c.in-Err.fault
-    untold (g.W.Write.taken c.args.writer.now)
+    remaining (g.W.Write.taken c.args.writer.now)
     c.requires.open.within number c.requires.open.plain plain (λ bad. c.hold.ensures.long (c.in-Err.is ∙ ap Err bad)))
 
 pub end_line-requires-clause-within : goal.end_line-requires-clause-within
@@ -24,7 +24,7 @@ end_line-requires-clause-within g c =
     subst (λ (x : List ℕ). c.content_len-len.result ≤ length x) c.deref.ensures.value c.content_len-len.ensures.most
 
 pub returns-in_err-end_line-in-len1-up-clause-refused : goal.returns-in_err-end_line-in-len1-up-clause-refused
-returns-in_err-end_line-in-len1-up-clause-refused g c fault e untold =
+returns-in_err-end_line-in-len1-up-clause-refused g c fault e remaining =
     let p = err_from_is_err_and c.from_residual.result c.from_residual.ensures.1 in
     let why = c.in_err-end_line-in-len1-up.ensures.refused fault
     (handed_on c.from_residual.result p.0 (Fault fault) c.in_err-end_line-in-len1-up.field-0.0 p.1 p.2 e) in
@@ -41,7 +41,7 @@ returns-in_err-end_line-in-len1-up-clause-refused g c fault e untold =
     let refused =
     subst (λ (n : ℕ). IsLineRefused (take c.content_len-len.result line) (n + 1) fault) c.in_default.ensures.counts.0 why.0 in
     rw there (stops_line c.args.self.now front (take (length c.split_at.result.1.now - 1) (drop 1 c.split_at.result.1.now)) line
-    (take c.content_len-len.result line) fault untold (g.W.Write.taken c.args.writer.now)
+    (take c.content_len-len.result line) fault remaining (g.W.Write.taken c.args.writer.now)
     (g.W.Write.taken c.end_line.new.writer) c.requires.open.within why.1 c.in_default.ensures.held plain is refused)
 
 pub returns-in_ok-end_line-in-len1-up-clause-packed : goal.returns-in_ok-end_line-in-len1-up-clause-packed

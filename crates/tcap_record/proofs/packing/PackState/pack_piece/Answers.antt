@@ -5,12 +5,12 @@ use Rattle.tcap_record.proofs.PackLaws.{handed_on, packs_then, stops_then}
 use Rattle.tcap_record.proofs.packing.PackState.pack_piece.Goals as goal
 
 pub returns-in_err-rest-clause-refused : goal.returns-in_err-rest-clause-refused
-returns-in_err-rest-clause-refused g c fault e untold =
+returns-in_err-rest-clause-refused g c fault e remaining =
     let p = err_from_is_err_and c.from_residual.result c.from_residual.ensures.1 in
     let why = c.in_err-rest.ensures.refused fault
-    (handed_on c.from_residual.result p.0 (Fault fault) c.in_err-rest.field-0.0 p.1 p.2 e) untold in
+    (handed_on c.from_residual.result p.0 (Fault fault) c.in_err-rest.field-0.0 p.1 p.2 e) remaining in
     let before = c.loop-rest.invariant in
-    rw before.joined (stops_then c.args.self.now c.loop-rest.self before.octets c.loop-rest.rest.now fault untold
+    rw before.joined (stops_then c.args.self.now c.loop-rest.self before.octets c.loop-rest.rest.now fault remaining
     (g.W.Write.taken c.args.writer.now) (g.W.Write.taken c.loop-rest.writer)
     (g.W.Write.taken c.pack_line.new.writer) before.packs why)
 

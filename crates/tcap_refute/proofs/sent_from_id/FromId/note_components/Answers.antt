@@ -11,13 +11,13 @@ use Rattle.tcap_refute.proofs.sent_from_id.FromId.note_components.Goals as goal
 
 pub loop-component-preserved : goal.loop-component-preserved
 loop-component-preserved c = record {
-  told = λ id fact. one_more (told_at exact_signed id_fact_noted c.loop-component.self.ids.entries id fact)
+  facts = λ id fact. one_more (told_at exact_signed id_fact_noted c.loop-component.self.ids.entries id fact)
       (shows c.args.table.now id fact (component_of c.in-Some.component))
       (list_any (shows c.args.table.now id fact) (components_left c.next.new.self)) _ _
       (c.in_ok-note_component.ensures.ids id fact)
-      (rw c.in-Some.ensures.steps at c.loop-component.invariant.told id fact);
+      (rw c.in-Some.ensures.steps at c.loop-component.invariant.facts id fact);
   head = search rules;
 }
 
 pub returns-clause-ids : goal.returns-clause-ids
-returns-clause-ids c = λ id fact. or_none _ ∙ rw c.in-None.ensures.steps.0 at c.loop-component.invariant.told id fact
+returns-clause-ids c = λ id fact. or_none _ ∙ rw c.in-None.ensures.steps.0 at c.loop-component.invariant.facts id fact

@@ -11,7 +11,7 @@ use Rattle.tcap_refute.proofs.sent_from_id.FromId.note_components.Given as goal
 
 abbrev pub invariant-loop-component : goal.invariant-loop-component
 invariant-loop-component l = record {
-  told : (id : ℤ) (fact : IdFact)
+  facts : (id : ℤ) (fact : IdFact)
       → (told_at exact_signed id_fact_noted l.self.ids.entries id fact
       || list_any (shows l.table id fact) (components_left l.component-iterator))
       ≡ (told_at exact_signed id_fact_noted l.fn.self.ids.entries id fact

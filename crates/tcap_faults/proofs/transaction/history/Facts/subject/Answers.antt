@@ -17,9 +17,9 @@ pub returns-in_default : goal.returns-in_default
 returns-in_default g c = λ items are roomy.
     let side = c.args.side in
     let (own, peer) = c.ends-ends.ensures c.args.table.now items are in
-    let there : (fact : FromFact) → fact_by_from (option_copied c.first_from-there.result) fact
+    let there : (fact : FromFact) → fact_by_from (option_copied c.first_from-peers.result) fact
     ≡ fact_from (fact_in_items c.args.table.now (other side) (since_quiet items)) (dtid_in (g.M.MessageParts.meaning c.args.message.now)) fact
-    = λ fact. rw c.dtid.ensures at (c.first_from-there.ensures c.args.table.now (other side) (since_quiet items) fact peer) in
+    = λ fact. rw c.dtid.ensures at (c.first_from-peers.ensures c.args.table.now (other side) (since_quiet items) fact peer) in
     rw c.or.ensures
     (alone_subject c.args.of_one c.args.table.now c.args.side (since_quiet items) c.args.kind
     (g.M.MessageParts.meaning c.args.message.now) c.faulty_component-first.result c.component.result (c.faulty_component-first.ensures side items there)
@@ -34,13 +34,13 @@ returns g c = λ items are roomy.
     let id = c.to_transaction_id-id.result in
     let few = still_roomy side items m roomy in
     let (own, peer) = c.ends-ends.ensures table items are in
-    let there : (fact : FromFact) → fact_by_from (option_copied c.first_from-there.result) fact
+    let there : (fact : FromFact) → fact_by_from (option_copied c.first_from-peers.result) fact
     ≡ fact_from (fact_in_items table (other side) xs) (dtid_in m) fact
-    = λ fact. rw c.dtid.ensures at (c.first_from-there.ensures table (other side) xs fact peer) in
-    let at = c.there.ensures table side xs own peer in
+    = λ fact. rw c.dtid.ensures at (c.first_from-peers.ensures table (other side) xs fact peer) in
+    let at = c.peer_id.ensures table side xs own peer in
     let half = subst (λ (x : List ℕ). IsHalf table (half_of side xs x) c.in_ok-half.half) at.it
     (IfOk-at_ok _ c.in_ok-half.was
-    (c.half.ensures table side xs own (subst (λ (x : List ℕ). IsPeerId table side xs x c.there.result) (sym at.it) at))) in
+    (c.half.ensures table side xs own (subst (λ (x : List ℕ). IsPeerId table side xs x c.peer_id.result) (sym at.it) at))) in
     let found = IfOk-at_ok _ c.in_ok-faults-2.was (c.faults_of.ensures _ half (incoming_are_few side id xs m few)
     (invoked_are_few side id xs m few) (outgoing_are_few side id xs m few)) in
     rw c.or-2.ensures

@@ -4,7 +4,7 @@ use Rattle.tcap_record.specs.Ends.{other}
 use Rattle.tcap_faults.specs.SentToId.{began, has_ended, has_used}
 use Rattle.tcap_faults.proofs.transaction_laws.LookupLaws.{some_lent}
 use Rattle.tcap_faults.proofs.transaction_laws.HistoryLookupLaws.{used_at}
-use Rattle.tcap_faults.proofs.transaction.lookup.MessageIds.effects.Goals.{in-Some, in-None, in-Some-there, in-None-there}
+use Rattle.tcap_faults.proofs.transaction.lookup.MessageIds.effects.Goals.{in-Some, in-None, in-Some-peer_id, in-None-peer_id}
 use Rattle.tcap_faults.proofs.transaction.lookup.MessageIds.effects.Goals as goal
 
 pub returns : goal.returns
@@ -23,13 +23,13 @@ returns c = λ table side items m is again.
     let there : (id : List ℕ) → dtid_in m ≡ Some id → (c.match-self-2.joins.0 ≡ has_used (other side) items id)
     × (c.match-self-2.joins.1 ≡ has_ended side items id) =
     λ id dtid. elim c.match-self-2.branch [
-      | in-Some-there w ↦
-          let there = rw (dtid, w.in-Some-there.is) at is.there in (
-            ap (λ x. x.0) w.joins-is ∙ w.is_some-in-Some-there.ensures ∙ some_lent _
+      | in-Some-peer_id w ↦
+          let there = rw (dtid, w.in-Some-peer_id.is) at is.peer_id in (
+            ap (λ x. x.0) w.joins-is ∙ w.is_some-in-Some-peer_id.ensures ∙ some_lent _
                 ∙ used_at table (other side) items id _ there.from,
-            ap (λ x. x.1) w.joins-is ∙ w.is_ended-in-Some-there.ensures table side items id there.to,
+            ap (λ x. x.1) w.joins-is ∙ w.is_ended-in-Some-peer_id.ensures table side items id there.to,
           )
-      | in-None-there w ↦ absurd (rw (dtid, w.in-None-there.is) at is.there)
+      | in-None-peer_id w ↦ absurd (rw (dtid, w.in-None-peer_id.is) at is.peer_id)
     ] in
     record {
       again = again;

@@ -8,6 +8,6 @@ returns g c = λ side items is.
     let xs = since_quiet items in
     c.first_kind.ensures side items (record {
       from_own = λ fact. c.first_own-own.ensures table side xs m fact is;
-      from_there = λ fact. c.first_there-there.ensures table side xs m fact is;
+      from_peers = λ fact. c.first_from_peer-peers.ensures table side xs m fact is;
       has_ended = c.has_ended.ensures table side xs m is;
     })

@@ -10,8 +10,8 @@ pub returns-in-None : goal.returns-in-None
 returns-in-None g c = λ side items own peer found plain roomy.
     let m = g.M.MessageParts.meaning c.args.message.now in
     let table = c.args.table.now in
-    let there = c.in-Some.there in
-    let (id, named, at) = there_is table side items (dtid_in m) there (rw c.in-Some.is at found.there) in
+    let there = c.in-Some.peer_id in
+    let (id, named, at) = there_is table side items (dtid_in m) there (rw c.in-Some.is at found.peer_id) in
     let here : IsPeerId table side items there.id.now there =
     subst (λ (x : List ℕ). IsPeerId table side items x there) (sym at.it) at in
     let is_there : dtid_in m ≡ Some there.id.now = named ∙ ap (λ x. Some x) (sym at.it) in
@@ -24,5 +24,5 @@ returns-in_default g c = λ side items own peer found plain roomy.
     let m = g.M.MessageParts.meaning c.args.message.now in
     c.kind_of_faults.ensures
     ∙ alone_found c.args.table.now side items m
-    c.in_ok-first_faults.field-0 (sym (there_none c.args.table.now side items (dtid_in m) (rw c.in_default.is at found.there)))
+    c.in_ok-first_faults.field-0 (sym (there_none c.args.table.now side items (dtid_in m) (rw c.in_default.is at found.peer_id)))
     c.in_ok-first_faults.ensures

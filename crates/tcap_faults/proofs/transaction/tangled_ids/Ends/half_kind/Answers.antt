@@ -9,7 +9,7 @@ use Rattle.tcap_faults.proofs.transaction.tangled_ids.Ends.half_kind.Goals as go
 pub returns-then-is_wrong_dialogue : goal.returns-then-is_wrong_dialogue
 returns-then-is_wrong_dialogue g c = λ side items own is plain roomy.
     let m = g.M.MessageParts.meaning c.args.message.now in
-    let id = c.args.there.id.now in
+    let id = c.args.peer_id.id.now in
     let half = IfOk-at_ok _ c.in_ok-half.was (c.half.ensures c.args.table.now side items own is) in
     kind_of_dialogue c.args.table.now side id items m (half_of side items id)
     (c.if-is_wrong_half.ensures c.args.table.now side items _ own half)
@@ -18,7 +18,7 @@ returns-then-is_wrong_dialogue g c = λ side items own is plain roomy.
 pub returns : goal.returns
 returns g c = λ side items own is plain roomy.
     let m = g.M.MessageParts.meaning c.args.message.now in
-    let id = c.args.there.id.now in
+    let id = c.args.peer_id.id.now in
     let half = IfOk-at_ok _ c.in_ok-half.was (c.half.ensures c.args.table.now side items own is) in
     kind_last c.args.table.now side id items m (half_of side items id) c.kind_of_faults.result
     (c.if-is_wrong_half.ensures c.args.table.now side items _ own half)

@@ -27,7 +27,7 @@ returns-in-Some c = λ items own_is peer_is from.
     let table = c.args.table.now in
     turned _ _ c.is_none.ensures
     ∙ ap not (ap is_some (c.tangled_id-tangled.ensures table items c.in-Some.to (Some own) own_is peer_is
-    (c.there.ensures table side items own_is peer_is) (c.own_at.ensures table side items own_is peer_is))
+    (c.peer_id.ensures table side items own_is peer_is) (c.own_at.ensures table side items own_is peer_is))
     ∙ id_outgoing side items (own ∷ []) c.in-Some.to)
     ∙ left_at table side items own c.in-Some.to (sym c.in-Some.is ∙ from.to.first)
     (sym (c.differ.ensures _ from.to) ∙ c.if-differ.false)

@@ -5,7 +5,7 @@ use Rattle.tcap_faults.proofs.transaction.tangled_ids.Ends.tangled_behind.Goals 
 
 pub returns-in-Some : goal.returns-in-Some
 returns-in-Some c = λ table side items id own_is peer_is is same.
-    c.tangled_peer.ensures table side items c.in-Some.joined own_is peer_is (c.there.ensures table side items own_is peer_is)
+    c.tangled_peer.ensures table side items c.in-Some.joined own_is peer_is (c.peer_id.ensures table side items own_is peer_is)
     ∙ first_one_of c.args.peer (tangle_of_peer side items) (peers_of side items id) c.in-Some.joined
     (c.in-Some.ensures table side items id is) same
 

@@ -24,12 +24,12 @@ returns-then-is_none c = λ side items m was found.
     ] in
     again_not table side items m own named not_over
 
-pub returns-in-Some-there : goal.returns-in-Some-there
-returns-in-Some-there c = λ side items m was found.
+pub returns-in-Some-peer_id : goal.returns-in-Some-peer_id
+returns-in-Some-peer_id c = λ side items m was found.
     let table = c.args.table.now in
     let (own, named, at) = own_is table side items (otid_in m) c.in-Some.own (rw c.in-Some.is at found.own) in
     let (id, there_named, there_at) =
-    there_is table side items (dtid_in m) c.in-Some-there.there (rw c.in-Some-there.is at found.there) in
+    there_is table side items (dtid_in m) c.in-Some-peer_id.peer_id (rw c.in-Some-peer_id.is at found.peer_id) in
     let used : has_used side items own ≡ true =
     sym (used_at table side items own _ at.from) ∙ sym (some_lent c.in-Some.own.from) ∙ c.is_none.ensures
     ∙ ap not c.if-is_none.false in
@@ -46,4 +46,4 @@ returns-in-None c = λ side items m was found.
     ∙ ap not c.if-is_none.false in
     let over = sym (c.may_be_over.ensures side items own was at) ∙ c.if-not-may_be_over.false in
     again_begin table side items m own named
-    (there_none table side items (dtid_in m) (rw c.in-None.is at found.there)) used over
+    (there_none table side items (dtid_in m) (rw c.in-None.is at found.peer_id)) used over

@@ -1,7 +1,7 @@
 use Rattle.std.proofs.Common.{refl}
 use Rattle.std.specs.Prelude.{option_copied}
 use Rattle.tcap_faults.proofs.transaction_laws.JoinTestLaws.{incoming_among}
-use Rattle.tcap_faults.proofs.transaction.tangled_ids.Ends.there.Goals as goal
+use Rattle.tcap_faults.proofs.transaction.tangled_ids.Ends.peer_id.Goals as goal
 
 pub returns : goal.returns
 returns c = λ table side items own_is peer_is. record {

@@ -1,7 +1,7 @@
 use Rattle.std.proofs.Common.{ℕ, Ok, Err, ap, ◌∙◌}
 use Rattle.tcap_judge.specs.declared.outcome.Outcome.TheVariants.{Faulty}
 use Rattle.tcap_judge.proofs.BlamedLaws.{ends_said, found_none, found_said, gives_blame, shown_fault}
-use Rattle.tcap_judge.proofs.blaming.blame_told.Goals as goal
+use Rattle.tcap_judge.proofs.blaming.blame_by_table.Goals as goal
 
 pub returns-in-Ok-blame_record : goal.returns-in-Ok-blame_record
 returns-in-Ok-blame_record g c =

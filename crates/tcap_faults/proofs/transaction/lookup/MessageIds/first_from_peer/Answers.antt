@@ -2,13 +2,13 @@ use Rattle.std.proofs.Common.{refl}
 use Rattle.tcap_msg.specs.Parts.{dtid_in}
 use Rattle.tcap_record.specs.Ends.{other}
 use Rattle.tcap_faults.proofs.transaction_laws.LookupLaws.{there_is, there_none}
-use Rattle.tcap_faults.proofs.transaction.lookup.MessageIds.first_there.Goals as goal
+use Rattle.tcap_faults.proofs.transaction.lookup.MessageIds.first_from_peer.Goals as goal
 
 pub returns-in-Some : goal.returns-in-Some
 returns-in-Some c = λ table side items m fact is.
-    let (id, named, at) = there_is table side items (dtid_in m) c.in-Some.there (rw c.in-Some.is at is.there) in
+    let (id, named, at) = there_is table side items (dtid_in m) c.in-Some.peer_id (rw c.in-Some.is at is.peer_id) in
     rw named (c.first_of.ensures table (other side) items id fact at.from)
 
 pub returns-in-None : goal.returns-in-None
 returns-in-None c = λ table side items m fact is.
-    rw (there_none table side items (dtid_in m) (rw c.in-None.is at is.there)) refl
+    rw (there_none table side items (dtid_in m) (rw c.in-None.is at is.peer_id)) refl
