@@ -38,7 +38,7 @@ STEPS = [
 # The example of the library says what the program says, without the line of the run.
 AGREES = (
     "for it in crossing answered_already; do cp examples/$it.hex trace; tcapjudge test --table examples/operations.json --json said trace "
-    ">/dev/null || true; head -n -1 said > lines; {} --test trace examples/operations.json | cmp - lines; done"
+    ">/dev/null || true; head -n -1 said > wanted; {} --test trace examples/operations.json | cmp - wanted; done"
 )
 LIBRARY_STEPS = [
     ("the C example is linked with the archive", "cc -Wall -Werror clib/example.c clib/out/libtcapjudge.a -o static", 0, ""),
