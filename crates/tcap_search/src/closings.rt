@@ -156,7 +156,8 @@ fn shown_closings(
     let mut kept = Leasts::new(alloc, entries.len())?;
     let mut listed = Vec::new(alloc);
     for tie in ties {
-        let Some((side, transaction)) = shown_by(entries, transactions, &ended, &delivered, tie) else {
+        let Some((side, transaction)) = shown_by(entries, transactions, &ended, &delivered, tie)
+        else {
             continue;
         };
         if kept.get(side, transaction).is_none() {

@@ -197,7 +197,12 @@ impl<'a> Ends<'a> {
 
     /// Returns the first tangled ID: the peer's ID, an own ID near it, or an ID of the peer that is joined with one
     /// of these. `own` is an additional own ID.
-    pub(crate) fn tangled_id(self, end: End, peer_id: PeerId, own: Option<OwnId>) -> Option<TangledId>
+    pub(crate) fn tangled_id(
+        self,
+        end: End,
+        peer_id: PeerId,
+        own: Option<OwnId>,
+    ) -> Option<TangledId>
         ensures { (table : Table) (items : List Item) (id : List ℕ) (near : Option (List ℕ))
             → IsSide table end items self.entry.own.now → IsSide table (other end) items self.entry.peer.now
             → IsPeerId table end items id peer_id.entry → IsOwnIdAt table end items near own.entry
