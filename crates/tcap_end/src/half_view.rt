@@ -108,7 +108,7 @@ impl<'a> OpenHalf<'a> {
         Ok(codes)
     }
 
-    /// Returns whether each received answer with this invoke ID that was not rejected is a Return Result, oldest
+    /// Returns, for each received answer with this invoke ID that was not rejected, whether it is a Return Result, oldest
     /// first.
     ///
     /// # Errors
