@@ -39,7 +39,7 @@ pub(crate) struct Live {
     pub(crate) early: bool,
     /// The number of the first entry of the last dialogue that is done and had one of its IDs.
     pub(crate) earlier: Option<u64>,
-    /// Whether such an ID is not firm (see `IdState`).
+    /// True if such an ID is not firm (see `IdState`).
     pub(crate) unsettled: bool,
 }
 

@@ -64,7 +64,7 @@ pub struct Circumstances {
     /// Whether an earlier dialogue had one of this dialogue's IDs, and a message of the earlier one may have been in
     /// transit.
     pub again: bool,
-    /// Whether the dialogue may have begun before its trace: its first entry is a message with a destination ID that
+    /// True if the dialogue may have begun before its trace: its first entry is a message with a destination ID that
     /// comes after the directive `under way`, and no earlier dialogue of the segment had one of its IDs.
     pub under_way: bool,
     /// Whether the quiet mark before the dialogue may have come too early: the dialogue has IDs that were in use before

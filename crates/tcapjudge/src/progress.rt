@@ -5,7 +5,7 @@ use std::time::Instant;
 use tcap_command_line::Test;
 use tcap_report::{Sum, Watch};
 
-/// What was read when a report was written.
+/// The state of the reading when a report was written.
 #[derive(Clone, Copy)]
 struct Reading {
     time: Instant,

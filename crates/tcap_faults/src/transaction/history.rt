@@ -32,7 +32,7 @@ pub(crate) struct SideFacts {
     pub(crate) from: BTreeMap<TransactionId, SentFrom>,
     /// The messages that it sent, by destination ID.
     pub(crate) to: BTreeMap<TransactionId, SentTo>,
-    /// By originating ID, the destination IDs of its Continues, as far as the other end had used them.
+    /// The destination IDs of its Continues, by originating ID, as far as the other end had used them.
     pub(crate) joined: BTreeMap<TransactionId, Ids>,
     /// Its IDs from which, after a Begin, it sent a Continue to an ID that the other end had not used.
     pub(crate) guessed: BTreeSet<TransactionId>,
