@@ -34,6 +34,8 @@ LEFT_OUT = [f"docs/{name}.md" for name in "CERTIFICATES DECISIONS LAWS PERF PROO
 # What is used as it is, in folders of the same names.
 SHARED = ["clib/example.*", "clib/titan/*", "examples/*.*", "examples/tables/*", "tools/*.py"]
 LINK = re.compile(r"(?<!!)\[([^\[\]]*)\]\(([^)#\s]*)(#[^)\s]*)?\)")
+# Brackets with nothing but links between them, and the blanks before them.
+BRACKETS = re.compile(r"\s+\((\[[^\[\]]*\]\([^)\s]*\)(?:,\s+\[[^\[\]]*\]\([^)\s]*\))*)\)")
 NO_LICENCE = "No licence has been chosen by the owner.\n"
 # The program without glibc, and the text about glibc in it.
 OBJECT = f"lib/{NAME}/{NAME}.o"
@@ -74,13 +76,22 @@ def version_of(program):
 
 
 def page(path, kept):
-    """Returns the octets of a page. A link to what is not in the package, `kept`, becomes its text."""
+    """Returns the octets of a page. A link to what is not in the package, `kept`, becomes its text. If it is in brackets that hold only
+    links, it is left out, and the brackets with the last of their links."""
 
-    def link(found):
-        to = os.path.normpath(os.path.join(os.path.dirname(path), found[2])) if found[2] else path
-        return found[0] if to in kept or found[2].startswith("http") else found[1]
+    def is_kept(link):
+        to = os.path.normpath(os.path.join(os.path.dirname(path), link[2])) if link[2] else path
+        return to in kept or link[2].startswith("http")
 
-    return LINK.sub(link, octets_of(path).decode()).encode()
+    def brackets(found):
+        links = [*LINK.finditer(found[1])]
+        left = [link[0] for link in links if is_kept(link)]
+        if len(left) == len(links):
+            return found[0]
+        return f" ({', '.join(left)})" if left else ""
+
+    text = BRACKETS.sub(brackets, octets_of(path).decode())
+    return LINK.sub(lambda link: link[0] if is_kept(link) else link[1], text).encode()
 
 
 def pages(has_library):

@@ -25,6 +25,17 @@ MANIFEST = f"{SHARE}/MANIFEST"
 SCRIPTS = ["tests/program.py", "tests/words.py"]
 COUNTS = re.compile(r"^(\d+) passed, (\d+) failed$", re.MULTILINE)
 LINK = re.compile(r"\]\(([^)#\s]*)#?[^)\s]*\)")
+# Pages that are not packaged.
+LEFT_OUT = re.compile("CERTIFICATES|CONTRIBUTING|DECISIONS|LAWS|PERF|PROOFS|THEOREM")
+# What packaged pages have in the place of links to such pages.
+READS = {
+    "README.md": ["lists what is proved, what is only tested,", "; in the repository: THEOREM, CERTIFICATES, LAWS |\n"],
+    "docs/EXPLAIN.md": ["\nSome facts are compared and not listed.\n"],
+    "docs/FORMAT.md": ["what happened unseen. It is a JSON object"],
+    "docs/PROMISES.md": ["chosen by this profile ([MODEL.md](MODEL.md)), so each verdict"],
+    "docs/TRACES.md": ["dialogues and tables is only tested.\n", "([all\npromises](PROMISES.md#dialogues-and-traces)). "],
+    "docs/VERDICTS.md": ["that the record is unlawful**.\n"],
+}
 # The time of the packages.
 WHEN = os.environ.get("SOURCE_DATE_EPOCH", "1700000000")
 UNPROVED = "tcapjudge-unproved"
@@ -117,6 +128,19 @@ def pages(top):
     yield f"links lead nowhere: {lost}", not lost
 
 
+def texts(top):
+    """Yields of each page whether each paragraph, row or item that names a page which is not packaged says that it is in the repository;
+    and whether pages read as they have to."""
+    for path in [f"{at}/{name}" for at, _, names in os.walk(f"{top}/{DOC}") for name in names if name.endswith(".md")]:
+        parts = re.split(r"\n\n|\n(?=[|-])", octets_of(path).decode())
+        lost = [part for part in parts if LEFT_OUT.search(part) and "repository" not in part]
+        yield f"{os.path.basename(path)} names pages that are not packaged: {lost}", not lost
+    for path, wanted in READS.items():
+        text = octets_of(f"{top}/{DOC}/{path}").decode()
+        missing = [part for part in wanted if part not in text]
+        yield f"{path} lacks {missing}", not missing
+
+
 def debian(octets, files, room):
     """Yields whether a Debian package has these files below /usr, and is sound."""
     members = members_of(octets)
@@ -178,6 +202,7 @@ def looks(room, made):
     files = files_in(top)
     yield from manifest(files)
     yield from pages(top)
+    yield from texts(top)
     yield from debian(deb, files, f"{room}/deb")
     pack("--install", f"{room}/installed", SOURCE_DATE_EPOCH=WHEN)
     yield "the installed files are those of the package", files_in(f"{room}/installed") == files
