@@ -276,23 +276,32 @@ def is_progress_said(folder):
 
 
 def words_are_refused(folder):
-    """Returns whether wrong words, a folder with files in it, and a missing tshark end with their statuses."""
+    """Returns whether wrong words, a missing capture, a folder with files in it, and a missing tshark end with their statuses, and some
+    of them with these words. For a missing capture no folder is made."""
     with open(f"{folder}/capture", "wb") as file:
         file.write(made.pcap([]))
+    has_files = f"error: {folder} is not empty: name another folder, or remove this one\n"
     runs = [
-        ([f"{folder}/capture"], None, 4),
-        ([f"{folder}/capture", f"{folder}/new", "--by", "name"], None, 4),
-        ([f"{folder}/capture", f"{folder}/new", "--a", "ssn"], None, 4),
-        ([f"{folder}/capture", f"{folder}/new", "--join", "--apart"], None, 4),
-        ([f"{folder}/capture", folder], None, 4),
-        ([f"{folder}/capture", f"{folder}/capture"], None, 4),
-        ([f"{folder}/capture", f"{folder}/new"], os.environ | {"PATH": "/no/such/folder"}, 2),
-        (["--help"], None, 0),
+        ([f"{folder}/capture"], None, 4, None),
+        ([f"{folder}/capture", f"{folder}/new", "--by", "name"], None, 4, None),
+        ([f"{folder}/capture", f"{folder}/new", "--a", "ssn"], None, 4, None),
+        ([f"{folder}/capture", f"{folder}/new", "--join", "--apart"], None, 4, None),
+        ([f"{folder}/capture", folder], None, 4, has_files),
+        ([f"{folder}/capture", f"{folder}/capture"], None, 4, None),
+        ([f"{folder}/gone", f"{folder}/unmade"], None, 3, f"FAULT capture, {folder}/gone: there is no such file\n"),
+        ([f"{folder}/capture", f"{folder}/new"], os.environ | {"PATH": "/no/such/folder"}, 2, None),
+        (["--help"], None, 0, ""),
     ]
-    wrong = [words for words, env, status in runs if run(sys.executable, TOOL, *words, env=env).returncode != status]
-    if wrong:
-        print(f"wrong statuses of {wrong}")
-    return not wrong
+    wrong = [words for words, env, *wanted in runs if not ends_so(run(sys.executable, TOOL, *words, env=env), *wanted)]
+    if wrong or os.path.exists(f"{folder}/unmade"):
+        print(f"wrong statuses or words of {wrong}, or a folder is made")
+        return False
+    return True
+
+
+def ends_so(ran, status, words):
+    """Returns whether a run has this status, and these words on standard error if there are some to compare."""
+    return ran.returncode == status and words in (None, ran.stderr.decode())
 
 
 def main():

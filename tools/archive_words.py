@@ -52,7 +52,7 @@ def words_of(arguments):
         "test": (["--of", "--table", "--ids", "--linger"], ["--complete"]),
         "lines": (["--a", "--by"], ["--join", "--apart", "--under-way", "--whole"]),
     }
-    owners = {"test": "`tcapjudge test`", "lines": "tools/lines_of_capture.py"}
+    owners = {"test": "`tcapjudge test`", "lines": "`lines_of_capture`"}
     for dest, kinds in passed.items():
         group = words.add_argument_group(f"options of {owners[dest]}")
         for names, how in zip(kinds, ({"metavar": "WORD"}, {"nargs": 0})):

@@ -302,10 +302,14 @@ def main(arguments):
     if not shutil.which("tshark"):
         print("missing: tshark, of Wireshark, which reads the layers below", file=sys.stderr)
         return NO_TSHARK
+    # `tshark` takes `-` for the standard input.
+    if words.capture != "-" and not os.path.exists(words.capture):
+        print(f"FAULT capture, {words.capture}: there is no such file", file=sys.stderr)
+        return FAULTY
     try:
         os.makedirs(words.folder, exist_ok=True)
         if os.listdir(words.folder):
-            raise OSError(f"{words.folder} is not empty")
+            raise OSError(f"{words.folder} is not empty: name another folder, or remove this one")
     except OSError as error:
         print(f"error: {error}", file=sys.stderr)
         return WRONG_WORDS

@@ -255,7 +255,7 @@ def captures():
     yield Row("no frames", over([]), status=3, said=["FAULT none"])
     yield Row("another file", b"hello\n" * 30, status=3, said=["FAULT"])
     yield Row("noise", bytes(range(256)) * 9, status=3, said=["FAULT"])
-    yield Row("no file", None, status=3, said=["FAULT capture, frame 1 of none"])
+    yield Row("no file", None, status=3, said=["FAULT capture, /", "/none: there is no such file\n"])
     udp = made.ip(b"\x30\x39\x30\x39\0\x0c\0\0abcd", protocol=17)
     between = over(frames[:1] + udp + frames[1:])
     yield Row("other frames", between, [], [DIALOGUE], 0, ["protocols eth:ethertype:ip:udp"])
