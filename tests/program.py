@@ -74,6 +74,7 @@ def given_twice(first, second):
 LOOKS_LIKE_A_TABLE = b"  hint: this looks like an operation table, which `tcapjudge table` prints\n"
 NO_TABLE = b"error: the standard input: the text is no JSON, or not UTF-8\n"
 NONE = "/no/such/file"
+NO_FILE = b"error: /no/such/file: No such file or directory (os error 2)\n"
 SOME = object()
 
 # The words, the standard input, and then the required standard output, standard error and exit status.
@@ -128,7 +129,10 @@ ROWS = [
     (["pack"], LINES, BEGIN, b"", 0),
     (["pack"], LINES + b"b 6203480101\n", BEGIN, b"FAULT 24 3\n  why: no end; column 1\n", 3),
     (["pack", "LINES"], b"", BEGIN, b"", 0),
-    (["pack", NONE], LINES, b"", SOME, 3),
+    (["pack", NONE], LINES, b"", NO_FILE + b"FAULT 23 0\n", 3),
+    (["pack", "/"], LINES, b"", b"error: /: it is a directory\nFAULT 23 0\n", 3),
+    (["pack", "-o", NONE, "LINES"], b"", b"", NO_FILE, 3),
+    (["pack", "-o", "-", "LINES"], b"", b"", b"error: -o takes the path of a file\n", 4),
     (["pack", "x", "y"], b"", b"", SOME, 4),
     (["check", "DIALOGUE", "TABLE", "CERT"], b"", b"LAWFUL 2\n", b"", 0),
     (["check", "DIALOGUE", "TABLE", "LATE"], b"", b"NOT SHOWN 1 65/40\n", b"", 2),
@@ -435,6 +439,10 @@ def packed_in(folder):
         ("over the lines, by a link", [out], link, LINES, (3, LINES)),
         ("-", [fine], "-", None, (4, None)),
     ]
+    told = {
+        "over the lines": f"error: {out} is both the record to write and a file to read\n",
+        "over the lines, by a link": f"error: {link} is both the record to write and a file to read\n",
+    }
     wrong = 0
     for name, words, path, before, wanted in cases:
         for flag in ["-o", path], ["--output", path], [f"-o{path}"], [f"--output={path}"]:
@@ -444,7 +452,7 @@ def packed_in(folder):
                 with open(out, "wb") as file:
                     file.write(before)
             run = subprocess.run([PROGRAM, "pack", *flag, *words], input=LINES, capture_output=True, check=False)
-            is_said = (run.stderr != b"") == (wanted[0] != 0)
+            is_said = (run.stderr != b"") == (wanted[0] != 0) and told.get(name, run.stderr.decode()) == run.stderr.decode()
             found = None if path == folder else content(path)
             if (run.returncode, found) != wanted or run.stdout or not is_said:
                 wrong += 1
@@ -454,14 +462,15 @@ def packed_in(folder):
     if run.returncode != 3 or not run.stderr or not os.path.exists("/dev/full"):
         wrong += 1
         print(f"pack -o /dev/full: {run.returncode} {run.stderr}")
-    for stream in "stdout", "stderr":
+    for stream, name in ("stdout", "standard output"), ("stderr", "standard error"):
         with open(out, "wb") as file:
             file.write(old)
             file.flush()
             streams = {"stdout": subprocess.PIPE, "stderr": subprocess.PIPE, stream: file}
             run = subprocess.run([PROGRAM, "pack", "-o", out, fine], check=False, **streams)
-        found = content(out)
-        if run.returncode != 3 or not found.startswith(old):
+        # If standard error is the file, it has the fault after what it had.
+        found = content(out) + (run.stderr or b"")
+        if (run.returncode, found) != (3, old + f"error: {out} is both the record to write and {name}\n".encode()):
             wrong += 1
             print(f"pack -o over {stream}: {run.returncode} {found}")
     return 4 * len(cases) + 3, wrong

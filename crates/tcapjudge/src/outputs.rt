@@ -92,25 +92,22 @@ fn taken_by<'a>(
     None
 }
 
-/// Returns the path of the input, or of a standard stream, that is the file `output`.
-pub(crate) fn overwritten_by<'a>(
-    rt: &HostRuntime,
-    input: &'a str,
-    output: &str,
-) -> Option<&'a str> {
-    if let Some(input) = input_of(rt, &[input], output) {
-        return Some(input);
+/// Returns what else the file `output` of a record is: the file `input`, which is read, or a standard stream. None if
+/// it is neither.
+pub(crate) fn other_use(rt: &HostRuntime, input: &str, output: &str) -> Option<&'static str> {
+    if is_input(rt, input, output) {
+        Some("a file to read")
+    } else if is_stream(rt, PRINTED, output) {
+        Some("standard output")
+    } else if is_stream(rt, FAULTS, output) {
+        Some("standard error")
+    } else {
+        None
     }
-    for stream in [PRINTED, FAULTS] {
-        if is_stream(rt, stream, output) {
-            return Some(stream);
-        }
-    }
-    None
 }
 
 /// Reports on standard error that a file is not written, because it is the file `other`.
-pub(crate) fn report_overwritten(rt: &HostRuntime, path: &str, other: &str) {
+fn report_overwritten(rt: &HostRuntime, path: &str, other: &str) {
     let _ = eprint!(rt;
         "error: what is said would be written over a file that is read, or twice into one: {path}"
     );

@@ -2,7 +2,7 @@
 
 use crate::hint;
 use crate::opening::{DASH, WRONG_WORDS, file_path};
-use crate::outputs::{overwritten_by, report_overwritten, stand_ins};
+use crate::outputs::{other_use, stand_ins};
 use crate::source::Source;
 use crate::writing::Output;
 use std::alloc::Global;
@@ -90,8 +90,8 @@ pub(crate) fn pack_into(rt: &HostRuntime, path: Option<&str>, output: &str) -> u
     }
     let _held = stand_ins(rt);
     let input = path.unwrap_or(DASH);
-    if let Some(other) = overwritten_by(rt, input, output) {
-        report_overwritten(rt, output, other);
+    if let Some(other) = other_use(rt, input, output) {
+        let _ = eprintln!(rt; "error: {output} is both the record to write and {other}");
         return Status::Fault.number();
     }
     let source = Source::noted(rt, input);
