@@ -371,7 +371,7 @@ def command(_, folder):
         ran = run(["test", *wrong])
         checks.same(f"{wrong}", (ran.returncode, ran.stdout, ran.stderr != b""), (4, b"", True))
     told, silent = (run(["test", "--table", table, *flags, good]) for flags in (["--progress"], []))
-    checks.same("--progress", (told.stdout, told.returncode, told.stderr != b""), (silent.stdout, 0, True))
+    checks.same("--progress, for less than a second", (told.stdout, told.returncode, told.stderr), (silent.stdout, 0, b""))
     checks.same("one trace that passes", (len(silent.stdout.splitlines()), silent.stderr), (2, b""))
     for linger in "0", "18446744073709551615":
         checks.same(f"--linger {linger}", run(["test", "--table", table, "--linger", linger, good]).returncode, 0)

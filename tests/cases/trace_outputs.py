@@ -23,6 +23,7 @@ FLAGS = ["--json", "--junit", "--html"]
 PATIENCE = 30
 OVER = b"error: what is said would be written over a file that is read, or twice into one: "
 UNPRINTED = "error: standard output can't be written: "
+PIPES = {"stdout": subprocess.PIPE, "stderr": subprocess.PIPE}
 # What a file of JUnit XML has until the run ends.
 NOT_ENDED = b"""<?xml version="1.0" encoding="UTF-8"?>
 <testsuites tests="1" failures="0" errors="1">
@@ -66,14 +67,18 @@ def slow(_, folder):
     return checks
 
 
+def wrong_dialogues(folder):
+    """A trace of 3000 dialogues that fail."""
+    wrong = [[f"A {trace_rows.begin(id)}", f"B {trace_rows.end(id, trace_rows.RESULT)}"] for id in (f"{it:04X}" for it in range(3000))]
+    return put(folder, "x.hex", lines(*itertools.chain(*wrong)).encode())
+
+
 def progress(_, folder):
     """How far the run is is said once a second, also while dialogues are judged: here it lasts since what is said is read slowly."""
     checks, (_, table) = Checks("--progress"), given(folder)
-    wrong = [[f"A {trace_rows.begin(id)}", f"B {trace_rows.end(id, trace_rows.RESULT)}"] for id in (f"{it:04X}" for it in range(3000))]
-    path = put(folder, "x.hex", lines(*itertools.chain(*wrong)).encode())
-    words, pipes = ["test", "--table", table, "--ids", "once", "--progress", path], {"stdout": subprocess.PIPE, "stderr": subprocess.PIPE}
+    words = ["test", "--table", table, "--ids", "once", "--progress", wrong_dialogues(folder)]
     begin = time.monotonic()
-    with subprocess.Popen([PROGRAM, *words], bufsize=0, **pipes) as ran:
+    with subprocess.Popen([PROGRAM, *words], bufsize=0, **PIPES) as ran:
         for _ in range(12):
             # The first one waits until all is read, and a dialogue is judged.
             os.read(ran.stdout.fileno(), 1 << 16)
@@ -83,11 +88,24 @@ def progress(_, folder):
     sums, speeds = ([it for it in said if it.startswith("  ") == is_speed] for is_speed in (False, True))
     judged = [int(found[1]) for found in (re.search("; 6000 messages, ([0-9]+) dialogues: ", it) for it in sums) if found]
     checks.holds(f"it was blocked: {told} more octets", told > 1 << 16)
-    checks.holds(f"{len(sums)} sums in {lasted} seconds", len(sums) <= lasted + 1)
+    checks.holds(f"{len(sums)} sums in {lasted} seconds", len(sums) <= lasted)
     wanted = [f"  0 messages a second, {3000 - count} dialogues not judged yet; 100 % of the trace is read" for count in judged[-len(speeds) + 1:]]
-    checks.same("speeds after the first, each after a sum", (len(speeds), speeds[1:]), (len(sums) - 1, wanted))
+    checks.same("speeds, each after a sum", (len(speeds), speeds[1:]), (len(sums), wanted))
     checks.holds(f"while it judges: {judged}", len(judged) >= 4 and judged == sorted(set(judged)))
     checks.same("status", status, 1)
+    return checks
+
+
+def seconds_left(_, folder):
+    """The seconds to the end of a trace are rounded up, so they are at least 1: here a trace is read slowly since what is said is."""
+    checks, (_, table) = Checks("--progress, to the end"), given(folder)
+    words = ["test", "--table", table, "--linger", "0", "--progress", wrong_dialogues(folder)]
+    with subprocess.Popen([PROGRAM, *words], bufsize=0, **PIPES) as ran:
+        while os.read(ran.stdout.fileno(), 1 << 16):
+            time.sleep(0.1)
+        said = ran.stderr.read().decode()
+    left = [int(it) for it in re.findall("; [0-9]+ % of the trace is read, ([0-9]+) s to its end\n", said)]
+    checks.holds(f"seconds to the end: {said}", left and min(left) > 0)
     return checks
 
 
@@ -267,5 +285,5 @@ def closed(_, folder):
 
 def jobs():
     """Each case, with what it is about."""
-    for case in progress, slow, one_file, hard_links, anew, killed, over_the_first, first_text, unprinted, closed:
+    for case in progress, seconds_left, slow, one_file, hard_links, anew, killed, over_the_first, first_text, unprinted, closed:
         yield case, None

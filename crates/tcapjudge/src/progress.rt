@@ -15,12 +15,12 @@ struct Reading {
     octets: Option<u64>,
 }
 
-/// A progress report on standard error, at most once a second.
+/// A progress report on standard error, at most once a second. The first one comes a second after the first look.
 #[derive(Drop)]
 pub(crate) struct Progress<'a> {
     rt: &'a HostRuntime,
     is_asked: bool,
-    /// The last report, if there was one.
+    /// The last report or, before the first report, the first look.
     last: Option<Reading>,
     /// The number of octets of the trace that were read.
     octets: u64,
@@ -49,19 +49,17 @@ impl<'a> Progress<'a> {
         }
     }
 
-    /// Appends the line of the sum and, if an earlier report was written, the speed since then.
+    /// Appends the line of the sum, and the speed since `last`.
     fn push(
         &self,
         text: &mut String,
         sum: &Sum,
         waiting: usize,
         now: Reading,
+        last: Reading,
     ) -> Result<(), AllocError> {
         sum.push(text)?;
-        match self.last {
-            Some(last) => self.push_speed(text, waiting, now, last),
-            None => Ok(()),
-        }
+        self.push_speed(text, waiting, now, last)
     }
 
     /// Appends a line with the messages a second since `last`, the number of dialogues that are not judged yet and, if
@@ -89,7 +87,7 @@ impl<'a> Progress<'a> {
     }
 
     /// Appends how much of a trace of `size` octets was read. If octets were read in the last `millis` milliseconds,
-    /// appends how many seconds the rest takes at this speed.
+    /// appends how many seconds the rest takes at this speed, rounded up.
     fn push_rest(
         &self,
         text: &mut String,
@@ -105,7 +103,9 @@ impl<'a> Progress<'a> {
         };
         let rest = size.saturating_sub(self.octets);
         if read > 0 && rest > 0 {
-            let left = rest.saturating_mul(millis) / read / 1000;
+            // Rounded up: whole seconds before the last, and the last.
+            let whole = rest.saturating_mul(millis).saturating_sub(1) / read / 1000;
+            let left = whole.saturating_add(1);
             write!(text, ", {left} s to its end")?;
         }
         Ok(())
@@ -124,18 +124,20 @@ impl Watch for Progress<'_> {
         let Ok(time) = Instant::now(self.rt) else {
             return;
         };
-        if let Some(last) = self.last {
-            if time.saturating_duration_since(last.time).as_secs() == 0 {
-                return;
-            }
-        }
         let now = Reading {
             time,
             messages: sum.messages(),
             octets: Some(self.octets),
         };
+        let Some(last) = self.last else {
+            self.last = Some(now);
+            return;
+        };
+        if time.saturating_duration_since(last.time).as_secs() == 0 {
+            return;
+        }
         let mut text = String::new(self.rt.alloc());
-        if self.push(&mut text, sum, waiting, now).is_ok() {
+        if self.push(&mut text, sum, waiting, now, last).is_ok() {
             let _ = eprint!(self.rt; "{text}");
         }
         self.last = Some(now);
