@@ -453,7 +453,7 @@ SAID = [
         SHORT,
         {},
         [],
-        "no table is for a dialogue without an application context name",
+        "no table is for a dialogue without an application context name; give one with --table FILE",
         table=f'{{"tables":[{trace_rows.WIDE}]}}',
     ),
     Said(
@@ -461,7 +461,7 @@ SAID = [
         [f"A {begin('01', asks=request('2C0404'))}"],
         {},
         [],
-        "no table is for this application context name",
+        "no table is for this application context name; give one with --table FILE",
         table=f'{{"tables":[{trace_rows.WIDE}]}}',
     ),
 ]

@@ -218,12 +218,12 @@ fn push_entries(
     Ok(())
 }
 
-/// Returns the words for a dialogue without a table.
+/// Returns the words for a dialogue without a table, with the option that gives one.
 pub(crate) fn no_table_words(judged: &JudgedDialogue) -> &'static str {
     if judged.context.is_some() {
-        "no table is for this application context name"
+        "no table is for this application context name; give one with --table FILE"
     } else {
-        "no table is for a dialogue without an application context name"
+        "no table is for a dialogue without an application context name; give one with --table FILE"
     }
 }
 
