@@ -414,6 +414,8 @@ PRINTED = [
     (["check", "--help"], "Usage: tcapjudge check [OPTIONS] <RECORD> <TABLE> <CERT>"),
     (["check", "--help"], "--end <END>"),
     (["judge", "--help"], "Judges this end alone, whatever its peer sends"),
+    (["judge", "--help"], "Judges a record; `blame` and `test` say which end is at fault\n"),
+    (["--help"], "Judges a record; `blame` and `test` say which end is at fault\n"),
     (["help", "explain"], "--chart <FILE>"),
     (["explain", "-h"], "--end <END>"),
     (["--version"], "tcapjudge 0.1.0"),

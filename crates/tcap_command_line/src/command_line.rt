@@ -200,7 +200,7 @@ fn judge_command<'a>(alloc: Global) -> Result<Command<'a>, AllocError>
     let table = needed_arg(alloc, "TABLE", TABLE_HELP);
     let cert = flag_arg(alloc, "cert", "Prints the certificate after LAWFUL");
     Command::new(alloc, "judge")
-        .about("Judges a record")
+        .about("Judges a record; `blame` and `test` say which end is at fault")
         .after_help("Example: tcapjudge judge record table.json --cert")
         .arg(record)?
         .arg(table)?
