@@ -372,6 +372,25 @@ WRONG = [
     (bytes.fromhex("41620348"), ""),
 ]
 
+# A record with more entries than `judge` takes: quiet marks, and a Begin with an Invoke, and the End with its result.
+LONG = b"Q" * 100_000 + bytes.fromhex("41620d4801016c08a10602010102012d42640a4901016c05a203020101")
+LONG_HINT = "this record has over 100,000 entries; `tcapjudge test` judges the dialogues of a trace of any length\n"
+SEE_SHOW = "  why: the record: `tcapjudge show --why RECORD` says what is wrong\n"
+# Words with that record in the place of `-`, and what is printed after the line of its fault.
+JUDGES_LONG = [
+    ("judge - table", ""),
+    ("judge --end A - table", ""),
+    ("blame - table", ""),
+    ("check - table cert", ""),
+    ("check --end B - table cert", ""),
+    ("explain - table", SEE_SHOW),
+    ("explain - table cert", SEE_SHOW),
+]
+# The last line of `test` of that record.
+LONG_PASSES = (
+    "1 trace: 1 pass, 0 inconc, 0 fail, 0 error; 2 messages, 1 dialogue: 1 pass, 0 inconc, 0 fail, 0 error; 0 pass unheard or unanswered"
+)
+
 STATUSES = """Exit statuses:
   0  nothing is wrong: LAWFUL, or all was printed or packed
   1  REFUTED; for `blame`, only BLAMED
@@ -679,6 +698,21 @@ def mistaken(rows, folder):
         rows.row(f"judge {path}", (told.count("\n"), told_as(paths["record"], LOOKS["record"][1]) in told), (2, True))
 
 
+def too_many(rows, folder):
+    """Gives a record with too many entries to each command that judges one. A hint names `test`, which judges its dialogue."""
+    paths = {name: f"{folder}/{name}" for name in ("-", "table", "cert")}
+    for name, octets in ("-", LONG), ("table", LOOKS["table"][0]), ("cert", LOOKS["cert"][0]):
+        with open(paths[name], "wb") as file:
+            file.write(octets)
+    for asked, behind in JUDGES_LONG:
+        for at, name in (paths["-"], f"{paths['-']}: "), ("-", ""):
+            taken = {**paths, "-": at}
+            found = run([taken.get(word, word) for word in asked.split()], LONG)
+            rows.row(f"{asked}, {at}", found, (f"FAULT 22 100000\n{behind}", f"  hint: {name}{LONG_HINT}", 3))
+    out, error, status = run(["test", "--table", paths["table"], paths["-"]])
+    rows.row("test of that record", (out.splitlines()[-1:], error, status), ([LONG_PASSES], "", 0))
+
+
 def words(rows):
     for asked, end in HELP:
         out, error, status = run(asked)
@@ -750,6 +784,7 @@ def main():
         good_lines(rows, folder)
         tables(rows, folder)
         mistaken(rows, folder)
+        too_many(rows, folder)
     mutated(rows, random.Random(seed), 400)
     print(f"{rows.passed} passed, {rows.failed} failed")
     return int(rows.failed != 0)

@@ -1,6 +1,7 @@
 """Files of each look for tests/words.py, which gives them to each word by mistake, and what has to be told of them. It was worked out by
 hand: Q.773 and RFC 8259 for records and JSON, Q.713 and RFC 4666 for SCCP and M3UA, RFC 1952 for gzip, and RFC 3629 for the byte order mark."""
 
+CAPTURE = "a capture, which `lines_of_capture` reads (in the repository: tools/lines_of_capture.py)"
 # By what a file of a name begins, as what it is told, and the roles that it may have.
 LOOKS = {
     "record": (bytes.fromhex("416203480101"), "a record, which `tcapjudge show` prints", "shown record"),
@@ -20,8 +21,8 @@ LOOKS = {
     ),
     "other": (b'{"x":1}', "JSON, as an operation table or a certificate is", "table book cert"),
     "empty": (b"{}", "JSON, as an operation table or a certificate is", "table book cert"),
-    "pcap": (bytes.fromhex("d4c3b2a102000400"), "a capture, of which tools/lines_of_capture.py makes lines", ""),
-    "pcapng": (bytes.fromhex("0a0d0d0a1c000000"), "a capture, of which tools/lines_of_capture.py makes lines", ""),
+    "pcap": (bytes.fromhex("d4c3b2a102000400"), CAPTURE, ""),
+    "pcapng": (bytes.fromhex("0a0d0d0a1c000000"), CAPTURE, ""),
     "gzip": (bytes.fromhex("1f8b080000000000"), "a compressed file, which `gunzip` unpacks", ""),
     "marked": (
         b"\xef\xbb\xbfA 6203480101\n",

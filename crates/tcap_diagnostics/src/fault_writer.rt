@@ -1,4 +1,4 @@
-//! A writer of faults that remembers whether the last fault was a bad line.
+//! A writer that remembers whether the last fault was a bad line, or a record with too many entries.
 
 ghost use Rattle.std.specs.Prelude.{◌≡◌};
 ghost use Rattle.tcap_diagnostics.specs.Devices.{fault_writer_inner};
@@ -8,12 +8,16 @@ use tcap_ber::{Failed, Write};
 /// The beginning of the fault of a bad line of digits.
 const BAD_LINE: &[u8] = b"FAULT 24 ";
 
-/// A writer that passes octets on to another writer, and notes whether the last ones are the fault of a bad line of
-/// digits.
+/// The beginning of the fault of a record with too many entries.
+const TOO_MANY: &[u8] = b"FAULT 22 ";
+
+/// A writer that passes octets on to another writer, and notes whether the last ones begin with the fault of a bad line
+/// of digits, or of a record with too many entries.
 #[derive(Drop)]
 pub struct FaultWriter<W> {
     writer: W,
     bad_line: bool,
+    too_many: bool,
 }
 
 impl<W> FaultWriter<W> {
@@ -24,12 +28,18 @@ impl<W> FaultWriter<W> {
         FaultWriter {
             writer,
             bad_line: false,
+            too_many: false,
         }
     }
 
     /// Returns whether the last octets written are the fault of a bad line of digits.
     pub(crate) fn is_bad_line(&self) -> bool {
         self.bad_line
+    }
+
+    /// Returns whether the last octets written begin with the fault of a record with too many entries.
+    pub fn is_too_many(&self) -> bool {
+        self.too_many
     }
 }
 
@@ -40,6 +50,7 @@ impl<W: Write> Write for FaultWriter<W> {
 
     fn write_all(&mut self, octets: &[u8]) -> Result<(), Failed> {
         self.bad_line = octets.starts_with(BAD_LINE);
+        self.too_many = octets.starts_with(TOO_MANY);
         self.writer.write_all(octets)
     }
 }

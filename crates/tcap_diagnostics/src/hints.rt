@@ -249,7 +249,7 @@ fn words_of(role: Role, look: FileFormat) -> &'static str {
         FileFormat::M3ua =>
             "this looks like M3UA, and an entry of a record holds the TCAP message in it",
         FileFormat::Capture =>
-            "this looks like a capture, of which tools/lines_of_capture.py makes lines",
+            "this looks like a capture, which `lines_of_capture` reads (in the repository: tools/lines_of_capture.py)",
         FileFormat::Gzip => "this looks like a compressed file, which `gunzip` unpacks",
         FileFormat::Marked => {
             "this looks like a text after a byte order mark, EF BB BF, which is not allowed"

@@ -1,11 +1,13 @@
 //! The subcommand `explain`: a verdict, its reasons, and a chart of the run.
 
-use crate::opening::{DASH, WRONG_WORDS, hint_on, is_fault, is_read_twice, status_of};
+use crate::opening::{
+    DASH, WRONG_WORDS, hint_on, hint_on_record, is_fault, is_read_twice, status_of,
+};
 use crate::outputs::is_input;
 use crate::source::Source;
 use std::{fs, io};
 use tcap_ber::Counted;
-use tcap_diagnostics::{FirstOctets, Role};
+use tcap_diagnostics::{FaultWriter, FirstOctets, Role};
 use tcap_explain::{ExplainOptions, run_explain, run_explain_check};
 use tcap_lines::{Status, WriteFailed};
 
@@ -51,10 +53,10 @@ fn explained(
 ) -> u8 {
     let alloc = rt.alloc();
     let mut chart = String::new(alloc);
-    let mut writer = Counted::new(io::writer(rt));
+    let mut writer = FaultWriter::new(Counted::new(io::writer(rt)));
     let ended = run_explain(alloc, entries, table, asked, &mut chart, &mut writer);
     if is_fault(&ended) {
-        hint_on(rt, Role::Record, paths.entries, entries);
+        hint_on_record(rt, paths.entries, entries, &writer);
         hint_on(rt, Role::Table, paths.table, table);
     }
     finish(rt, paths.chart, &chart, ended)
@@ -72,7 +74,7 @@ fn explained_check(
     let alloc = rt.alloc();
     let mut cert = Source::noted(rt, path);
     let mut chart = String::new(alloc);
-    let mut writer = Counted::new(io::writer(rt));
+    let mut writer = FaultWriter::new(Counted::new(io::writer(rt)));
     let ended = run_explain_check(
         alloc,
         entries,
@@ -83,7 +85,7 @@ fn explained_check(
         &mut writer,
     );
     if is_fault(&ended) {
-        hint_on(rt, Role::Record, paths.entries, entries);
+        hint_on_record(rt, paths.entries, entries, &writer);
         hint_on(rt, Role::Table, paths.table, table);
         hint_on(rt, Role::Certificate, path, &mut cert);
     }

@@ -1,10 +1,10 @@
 //! The words `judge`, `blame` and `check`: verdicts on a record, by an operation table.
 
-use crate::opening::{WRONG_WORDS, hint_on, is_fault, is_read_twice, status_of};
+use crate::opening::{WRONG_WORDS, hint_on, hint_on_record, is_fault, is_read_twice, status_of};
 use crate::source::Source;
 use std::io;
 use tcap_ber::Counted;
-use tcap_diagnostics::Role;
+use tcap_diagnostics::{FaultWriter, Role};
 use tcap_judge::{run_blame, run_check, run_judge};
 use tcap_record::End;
 
@@ -38,7 +38,7 @@ pub(crate) fn check<'a>(
     let mut book = Source::noted(rt, table);
     let mut certificate = Source::noted(rt, cert);
     let mut record = Source::noted(rt, entries);
-    let (alloc, mut writer) = (rt.alloc(), Counted::new(io::writer(rt)));
+    let (alloc, mut writer) = (rt.alloc(), FaultWriter::new(Counted::new(io::writer(rt))));
     let ended = run_check(
         alloc,
         &mut record,
@@ -48,7 +48,7 @@ pub(crate) fn check<'a>(
         &mut writer,
     );
     if is_fault(&ended) {
-        hint_on(rt, Role::Record, entries, &mut record);
+        hint_on_record(rt, entries, &mut record, &writer);
         hint_on(rt, Role::Table, table, &mut book);
         hint_on(rt, Role::Certificate, cert, &mut certificate);
     }
@@ -68,7 +68,7 @@ pub(crate) fn judge<'a>(
     }
     let mut book = Source::noted(rt, table);
     let mut record = Source::noted(rt, entries);
-    let (alloc, mut writer) = (rt.alloc(), Counted::new(io::writer(rt)));
+    let (alloc, mut writer) = (rt.alloc(), FaultWriter::new(Counted::new(io::writer(rt))));
     let ended = match question {
         Question::Verdict(judged, with_certificate) => run_judge(
             alloc,
@@ -81,7 +81,7 @@ pub(crate) fn judge<'a>(
         Question::Blame => run_blame(alloc, &mut record, &mut book, &mut writer),
     };
     if is_fault(&ended) {
-        hint_on(rt, Role::Record, entries, &mut record);
+        hint_on_record(rt, entries, &mut record, &writer);
         hint_on(rt, Role::Table, table, &mut book);
     }
     status_of(ended)

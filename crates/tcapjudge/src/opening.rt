@@ -5,7 +5,7 @@ use std::fs;
 use std::fs::Metadata;
 use std::os::unix::fs::MetadataExt;
 use tcap_ber::{Counted, Read};
-use tcap_diagnostics::{FirstOctets, Role, write_code_hints, write_hint};
+use tcap_diagnostics::{FaultWriter, FirstOctets, Role, write_code_hints, write_hint};
 use tcap_lines::{Status, WriteFailed};
 
 /// The path by which an input is the standard input.
@@ -95,6 +95,27 @@ pub(crate) fn hint_on(rt: &HostRuntime, role: Role, path: &str, reader: &mut Fir
         let _ = reader.read(&mut piece);
     }
     hint_on_text(rt, role, path, reader.first());
+}
+
+/// The hint on a record with too many entries.
+const TOO_MANY: &str =
+    "this record has over 100,000 entries; `tcapjudge test` judges the dialogues of a trace of any length";
+
+/// Writes hints on the record with this path on standard error, after a fault: what the file looks like, if it does not
+/// look like a record; and which command judges it, if the fault that `printed` took is that of too many entries.
+pub(crate) fn hint_on_record<W>(
+    rt: &HostRuntime,
+    path: &str,
+    reader: &mut FirstOctets<Source>,
+    printed: &FaultWriter<W>,
+) {
+    hint_on(rt, Role::Record, path, reader);
+    if printed.is_too_many() {
+        let _ = match file_path(path) {
+            Some(path) => eprintln!(rt; "  hint: {path}: {TOO_MANY}"),
+            None => eprintln!(rt; "  hint: {TOO_MANY}"),
+        };
+    }
 }
 
 /// Writes on standard error what a file that begins with these octets looks like, if that does not fit its role.
