@@ -141,9 +141,8 @@ def is_unheard(it):
 
 
 def as_xml(name):
-    """Returns a name as XML has it in an attribute: U+FFFD for what XML has no sign for, and a space for each
-    blank."""
-    return re.sub("[\x00-\x08\x0b-\x1f\ufffe\uffff]", "\ufffd", name).replace("\n", " ").replace("\t", " ")
+    """Returns a name as readers of XML return it from an attribute: with U+FFFD for what XML has no sign for."""
+    return re.sub("[\x00-\x08\x0b\x0c\x0e-\x1f\ufffe\uffff]", "\ufffd", name)
 
 
 def look_by_schema(checks, report):
@@ -309,8 +308,8 @@ def look_at_trace(checks, trace, dialogues, suite):
     wrong = [it for it in dialogues if it["verdict"] != "pass"]
     names = [f"dialogue {it['dialogue']}" for it in wrong] + ["trace"] * is_wrong + ["dialogues that pass"] * (found["pass"] > 0)
     checks.same("names of testcases", [case.get("name") for case in cases], names)
-    thing = "dialogue" if found["pass"] == 1 else "dialogues"
-    passing = [f"{found['pass']} {thing} that pass, {trace['unheard']} unheard or unanswered"] * (found["pass"] > 0)
+    things = "dialogue that passes" if found["pass"] == 1 else "dialogues that pass"
+    passing = [f"{found['pass']} {things}, {trace['unheard']} unheard or unanswered"] * (found["pass"] > 0)
     checks.same("what passes", [it.text for it in suite.findall("system-out")], passing)
     types = [it["verdict"] for it in wrong] + ["error"] * is_wrong
     checks.same("types of testcases", sorted(it.get("type") for it in told), sorted(types))

@@ -515,13 +515,38 @@ def sums(_, folder):
         "",
     ]
     paths = [put(folder, f"x{number}.hex", text.encode()) for number, text in enumerate(texts)]
-    for of, wanted in ([0, 1, 2, 3, 4], (7, 1, 3)), ([0], (1, 0, 0)), ([2], (2, 1, 0)), ([4], (1, 0, 1)):
-        report = Report(folder, [], [paths[one] for one in of])
+    one, two = "1 dialogue that passes, 0 unheard or unanswered", "2 dialogues that pass, 0 unheard or unanswered"
+    for of, wanted, passing in [
+        ([0, 1, 2, 3, 4], (7, 1, 3), [one, two, one]),
+        ([0], (1, 0, 0), [one]),
+        ([2], (2, 1, 0), [one]),
+        ([4], (1, 0, 1), []),
+    ]:
+        report = Report(folder, [], [paths[at] for at in of])
         agree(checks, report)
         root = xml.etree.ElementTree.fromstring(report.junit)
         checks.same(f"the sums of {of}", tuple(int(root.get(it)) for it in ("tests", "failures", "errors")), wanted)
+        checks.same(f"what passes of {of}", [it.text for it in root.iter("system-out")], passing)
     told = [it.get("message") for it in root.iter("error")]
     checks.same("the message of a trace", told, [trace_rows.NO_TAG])
+    return checks
+
+
+def blanks(_, folder):
+    """A name with a tab, a newline and a carriage return: XML has each by its number, so that its readers return the name."""
+    checks = Checks("blanks in the name of a trace")
+    path = put(folder, "a\tb\nc\rd.hex", lines(SHORT[0], trace_rows.WRONG_END, "Q", *SHORT).encode())
+    report = Report(folder, [], [path])
+    agree(checks, report)
+    name = f"{folder}/a&#9;b&#10;c&#13;d.hex"
+    wanted = [
+        f'  <testsuite name="{name}" tests="2" failures="1" errors="0">',
+        f'    <testcase classname="{name}" name="dialogue 0">',
+        f'    <testcase classname="{name}" name="dialogues that pass"/>',
+    ]
+    checks.same("XML", [line for line in report.junit.decode().split("\n") if "name=" in line], wanted)
+    cases = xml.etree.ElementTree.fromstring(report.junit).iter("testcase")
+    checks.same("as it is read", [it.get("classname") for it in cases], [path, path])
     return checks
 
 
@@ -529,3 +554,4 @@ def jobs():
     """Each case, with what it is about."""
     yield from ((said, case) for case in SAID)
     yield sums, None
+    yield blanks, None

@@ -39,20 +39,37 @@ pub const NOT_ENDED: &str = "<?xml version=\"1.0\" encoding=\"UTF-8\"?>
 </testsuites>
 ";
 
-/// Appends text with XML's special characters escaped. A character that XML does not allow, or a carriage return,
-/// becomes U+FFFD.
-fn push_xml(xml: &mut String, text: &str) -> Result<(), AllocError> {
+/// Appends a character of a text, escaped if it is special in XML. If XML does not allow it, or if it is a carriage
+/// return, U+FFFD is appended.
+fn push_char(xml: &mut String, c: char) -> Result<(), AllocError> {
+    match c {
+        '<' => xml.push_str("&lt;"),
+        '>' => xml.push_str("&gt;"),
+        '&' => xml.push_str("&amp;"),
+        '"' => xml.push_str("&quot;"),
+        '\n' | '\t' => xml.push(c),
+        c if (c as u32) < 0x20 || c as u32 == 0xFFFE || c as u32 == 0xFFFF => xml.push('\u{FFFD}'),
+        c => xml.push(c),
+    }
+}
+
+/// Appends the text of an element.
+fn push_text(xml: &mut String, text: &str) -> Result<(), AllocError> {
     for c in text.chars() {
+        push_char(xml, c)?;
+    }
+    Ok(())
+}
+
+/// Appends the value of an attribute. Readers of XML return a tab, a newline or a carriage return only if it is written
+/// by its number.
+fn push_value(xml: &mut String, value: &str) -> Result<(), AllocError> {
+    for c in value.chars() {
         match c {
-            '<' => xml.push_str("&lt;")?,
-            '>' => xml.push_str("&gt;")?,
-            '&' => xml.push_str("&amp;")?,
-            '"' => xml.push_str("&quot;")?,
-            '\n' | '\t' => xml.push(c)?,
-            c if (c as u32) < 0x20 || c as u32 == 0xFFFE || c as u32 == 0xFFFF => xml.push(
-                '\u{FFFD}',
-            )?,
-            c => xml.push(c)?,
+            '\t' => xml.push_str("&#9;")?,
+            '\n' => xml.push_str("&#10;")?,
+            '\r' => xml.push_str("&#13;")?,
+            c => push_char(xml, c)?,
         }
     }
     Ok(())
@@ -129,17 +146,17 @@ impl Junit {
         self.tally.add(verdict);
         let xml = &mut self.cases;
         xml.push_str("    <testcase classname=\"")?;
-        push_xml(xml, trace)?;
+        push_value(xml, trace)?;
         xml.push_str("\" name=\"")?;
-        push_xml(xml, name)?;
+        push_value(xml, name)?;
         xml.push_str("\">\n      <")?;
         xml.push_str(tag)?;
         xml.push_str(" type=\"")?;
         xml.push_str(verdict.word())?;
         xml.push_str("\" message=\"")?;
-        push_xml(xml, message)?;
+        push_value(xml, message)?;
         xml.push_str("\">")?;
-        push_xml(xml, text)?;
+        push_text(xml, text)?;
         xml.push_str("</")?;
         xml.push_str(tag)?;
         xml.push_str(">\n    </testcase>\n")
@@ -191,20 +208,22 @@ impl Junit {
         self.tally.add_passing(if pass > 0 { 1 } else { 0 });
         let xml = &mut self.suites;
         xml.push_str("  <testsuite name=\"")?;
-        push_xml(xml, trace)?;
+        push_value(xml, trace)?;
         xml.push_str("\"")?;
         self.tally.push(xml)?;
         xml.push_str(">\n")?;
         xml.push_str(&self.cases)?;
         if pass > 0 {
             xml.push_str("    <testcase classname=\"")?;
-            push_xml(xml, trace)?;
+            push_value(xml, trace)?;
             xml.push_str("\" name=\"dialogues that pass\"/>\n    <system-out>")?;
             push_count(xml, pass, "dialogue")?;
-            writeln!(
-                xml,
-                " that pass, {unheard} unheard or unanswered</system-out>"
-            )?;
+            xml.push_str(if pass == 1 {
+                " that passes, "
+            } else {
+                " that pass, "
+            })?;
+            writeln!(xml, "{unheard} unheard or unanswered</system-out>")?;
         }
         xml.push_str("  </testsuite>\n")?;
         self.cases = String::new(self.alloc);
