@@ -21,7 +21,8 @@ from trace_rows import OPERATIONS, SHORT, WRONG_END, lines
 FLAGS = ["--json", "--junit", "--html"]
 # So long a line of JSON is waited for, in seconds.
 PATIENCE = 30
-OVER = b"error: what is said would be written over a file that is read, or twice into one: "
+OVER = "error: {} is given for two outputs, or is an output and a file to read"
+OVER_OTHER = OVER + "; it is also {}\n"
 UNPRINTED = "error: standard output can't be written: "
 PIPES = {"stdout": subprocess.PIPE, "stderr": subprocess.PIPE}
 # What a file of JUnit XML has until the run ends.
@@ -114,7 +115,7 @@ def seconds_left(_, folder):
 
 def is_refused(checks, name, ran, *paths):
     """It ends as an error, prints nothing, and says in one line which paths are one."""
-    told = ran.stderr.startswith(OVER) and all(path.encode() in ran.stderr for path in paths) and ran.stderr.count(b"\n") == 1
+    told = ran.stderr.decode() in [OVER_OTHER.format(*pair) for pair in itertools.permutations(paths)]
     checks.same(f"{name}: status, output, {ran.stderr}", (ran.returncode, ran.stdout, told), (3, b"", True))
 
 
@@ -130,6 +131,8 @@ def one_file(_, folder):
             with contextlib.suppress(FileNotFoundError):
                 os.remove(f"{folder}/new")
             is_refused(checks, f"{one} {other}", run(["test", "--table", table, one, paths[0], other, paths[1], good]), *paths)
+            ran = run(["test", "--table", table, one, paths[0], other, paths[0], good])
+            checks.same(f"{one} {other}, one path", (ran.returncode, ran.stderr.decode()), (3, OVER.format(paths[0]) + "\n"))
     checks.same("what was there stays", content(f"{folder}/old"), b"old")
     return checks
 
@@ -149,7 +152,8 @@ def hard_links(_, folder):
         is_refused(checks, "standard input", ran, f"{folder}/trace", "/dev/stdin")
         with open(f"{folder}/said", "wb") as file:
             ran = subprocess.run([PROGRAM, *words, f"{folder}/said", good], stdout=file, stderr=subprocess.PIPE, check=False)
-        checks.same("standard output", (ran.returncode, ran.stderr), (3, OVER + f"{folder}/said, which is /dev/stdout\n".encode()))
+        wanted = OVER_OTHER.format(f"{folder}/said", "/dev/stdout")
+        checks.same("standard output", (ran.returncode, ran.stderr.decode()), (3, wanted))
     checks.same("what is read stays", (content(good), content(table)), (lines(*SHORT).encode(), OPERATIONS.encode()))
     return checks
 
@@ -174,6 +178,18 @@ def anew(_, folder):
             if other != flag:
                 says(checks, run(["test", "--table", table, flag, path, other, f"{folder}/none/x", good]), "none/x", NO_FILE)
                 checks.same(f"{flag}, no {other}", content(path), NOT_ENDED if flag == "--junit" else b"")
+    return checks
+
+
+def untouched(_, folder):
+    """With a wrong command line the status is 4, and files of an earlier run stay: without a trace, with a word that is not UTF-8, with
+    standard input twice, with a wrong value, and with an option twice."""
+    checks, (good, table) = Checks("files of a run before, and a wrong command line"), given(folder)
+    for flag in FLAGS:
+        path = put(folder, "old", b"old")
+        for wrong in [], [b"\xff"], ["-", "-"], ["--of", "C", good], [flag, path, good]:
+            ran = run(["test", "--table", table, flag, path, *wrong])
+            checks.same(f"{flag}, {wrong}", (ran.returncode, ran.stdout, content(path)), (4, b"", b"old"))
     return checks
 
 
@@ -285,5 +301,5 @@ def closed(_, folder):
 
 def jobs():
     """Each case, with what it is about."""
-    for case in progress, seconds_left, slow, one_file, hard_links, anew, killed, over_the_first, first_text, unprinted, closed:
+    for case in progress, seconds_left, slow, one_file, hard_links, anew, untouched, killed, over_the_first, first_text, unprinted, closed:
         yield case, None

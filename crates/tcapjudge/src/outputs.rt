@@ -109,10 +109,10 @@ pub(crate) fn other_use(rt: &HostRuntime, input: &str, output: &str) -> Option<&
 /// Reports on standard error that a file is not written, because it is the file `other`.
 fn report_overwritten(rt: &HostRuntime, path: &str, other: &str) {
     let _ = eprint!(rt;
-        "error: what is said would be written over a file that is read, or twice into one: {path}"
+        "error: {path} is given for two outputs, or is an output and a file to read"
     );
     if path != other {
-        let _ = eprint!(rt; ", which is {other}");
+        let _ = eprint!(rt; "; it is also {other}");
     }
     let _ = eprintln!(rt; "");
 }
