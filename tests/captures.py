@@ -1,7 +1,7 @@
 """Makes captures (capture_rows.py, made_captures.py), has tools/lines_of_capture.py make lines from them, packs and
 shows these with the built program, and compares. Then it compares the output of `tshark` and of `tcapjudge show` for
-every named vector and for random messages (wireshark.py). If tshark is not installed, it says so and counts
-nothing."""
+every named vector and for random messages (wireshark.py). Last it runs the commands of the pages (capture_recipes.py).
+If tshark is not installed, it says so and counts nothing."""
 
 import concurrent.futures
 import contextlib
@@ -25,6 +25,7 @@ sys.path.insert(0, "tools")
 import capture_answers
 import capture_carried
 import capture_frames
+import capture_recipes
 import capture_shapes
 import capture_rows
 import cut_rows
@@ -320,6 +321,7 @@ def main():
         messages += [bytes.fromhex(line[2:]) for lines in example_lines() for line in lines]
         held += [*wireshark.agreements(PROGRAM, folder, messages), wireshark.addresses_agree(folder)]
         held.append(wireshark.sua_addresses_agree(folder))
+        held += [*capture_recipes.of_one_capture(PROGRAM), *capture_recipes.of_many_captures(PROGRAM)]
     print(f"{sum(held)} passed, {len(held) - sum(held)} failed")
     return int(not all(held))
 

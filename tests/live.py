@@ -1,5 +1,5 @@
-"""Runs the pipes of docs/LIVE.md: over a file that grows, with a feeder that is stopped, and with signals for the
-program; and has systemd look at the unit in examples/."""
+"""Runs the pipes of docs/LIVE.md: over a file that grows, with a feeder that is stopped, with signals for the program,
+and over a ring of captures; and has systemd look at the unit in examples/."""
 
 import contextlib
 import os
@@ -12,6 +12,8 @@ import sys
 import tempfile
 import time
 
+import rooms  # noqa: F401
+import capture_recipes
 from tested import PROGRAM
 
 PAGE, UNIT = "docs/LIVE.md", "examples/tcapjudge-live.service"
@@ -132,6 +134,15 @@ def is_unit_sound():
     yield run.returncode == 0 and not run.stderr
 
 
+def rings():
+    """Yields whether the ring of the page judges each capture, and all its files at once, if tshark is installed."""
+    if shutil.which("tshark"):
+        yield from capture_recipes.of_a_ring(PROGRAM)
+    else:
+        print("skipped: the ring of captures, for want of tshark")
+    yield from capture_recipes.of_many_files(PROGRAM)
+
+
 def looks():
     """Yields what is looked at, with whether it holds."""
     with tempfile.TemporaryDirectory() as folder:
@@ -139,6 +150,7 @@ def looks():
     yield "INT and TERM are ignored", are_signals_ignored()
     yield from (("a message that crosses an End", held) for held in lingers())
     yield from (("the feeder", held) for held in feeds())
+    yield from (("the ring of captures", held) for held in rings())
     yield from (("the unit of systemd", held) for held in is_unit_sound())
 
 
