@@ -1,2 +1,10 @@
+pub mod ShuffledLists
+pub mod AgreeLists
 pub mod CountsLaws
-pub mod TraceLaws
+pub mod KeptLaws
+pub mod EntryLaws
+pub mod TakenLaws
+pub mod JudgedLaws
+pub mod JudgedListLaws
+pub mod EnterLaws
+pub mod ReadLaws

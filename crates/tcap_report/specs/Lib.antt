@@ -1,6 +1,5 @@
 pub mod Counts
-pub mod TraceVerdict
-pub mod Progress
-pub mod SegmentVerdicts
-pub mod FreshTrace
 pub mod TraceReading
+pub mod NotedCase
+pub mod KeptState
+pub mod Answer

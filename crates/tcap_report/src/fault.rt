@@ -40,17 +40,17 @@ pub(crate) enum Halt {
 }
 
 impl From<AllocError> for Halt {
-    fn from(_error: AllocError) -> Halt
-        ensures { result ≡ halts.Stop stops.Memory }
-    {
+    ghost from_gives = { λ _ halt. halt ≡ halts.Stop stops.Memory };
+
+    fn from(_error: AllocError) -> Halt {
         Halt::Stop(Stop::Memory)
     }
 }
 
 impl From<Stop> for Halt {
-    fn from(stop: Stop) -> Halt
-        ensures { result ≡ halts.Stop stop }
-    {
+    ghost from_gives = { λ stop halt. halt ≡ halts.Stop stop };
+
+    fn from(stop: Stop) -> Halt {
         Halt::Stop(stop)
     }
 }

@@ -1,18 +1,27 @@
 //! Reads a trace and judges each of its dialogues as soon as no entry of it can follow.
 
 ghost use Rattle.std.specs.Io.KnownBytes.{IsAtEnd};
-ghost use Rattle.std.specs.Prelude.{◌≡◌, ◌⊎◌, ◌||◌, ◌≤◌, [], ◌∷◌, List, Some, cond, false, not, is_some, length, IfOk, OnOk};
-ghost use Rattle.tcap_dialogues.specs.Course.{Heading, courses_so_far};
-ghost use Rattle.tcap_dialogues.specs.CutDialogues.{AreCompleteDialogues};
+ghost use Rattle.std.specs.Prelude.{◌≡◌, ◌⊎◌, ◌||◌, [], ◌∷◌, ◌++◌, ℕ, Bool, List, Some, Contains, cond, false, true, not, is_some, IfOk, OnOk};
+ghost use Rattle.tcap_dialogues.specs.Course.{Course, Heading, courses_so_far};
+ghost use Rattle.tcap_dialogues.specs.CutDialogues.{AreCompleteDialogues, IsCompleteDialogue};
 ghost use Rattle.tcap_dialogues.specs.CutState.{IsCut};
+ghost use Rattle.tcap_dialogues.specs.DialoguesOfList.{IdOf};
 ghost use Rattle.tcap_dialogues.specs.declared.reuse.Reuse.{Reuse as Reusing};
 ghost use Rattle.tcap_traces.specs.declared.verdict.Verdict.TheVariants as verdicts;
+ghost use Rattle.tcap_traces.specs.Case.{after_of, dialogue_in};
+ghost use Rattle.tcap_traces.specs.IdsBeforeMarks.{Notes};
+ghost use Rattle.tcap_traces.specs.JudgedTrace.{all_in, is_broken, is_fail};
+ghost use Rattle.tcap_traces.specs.PieceReader.{piece_as};
+ghost use Rattle.tcap_traces.specs.Pieces.{Entry, Mark, Piece as Meant};
+ghost use Rattle.tcap_traces.specs.Segments.{may_go_on};
+ghost use Rattle.tcap_traces.specs.TraceProgress.{AreAligned};
+ghost use Rattle.tcap_traces.specs.TraceState.{State, after_piece, after_pieces, start};
+ghost use Rattle.tcap_traces.specs.UnreadableEntries.{notes_in};
 ghost use Rattle.tcap_report.specs.declared.trace.TraceOptions.{TraceOptions as OptionsOf};
+ghost use Rattle.tcap_report.specs.Answer.{Answers};
 ghost use Rattle.tcap_report.specs.Counts.{HasJudged, more, no_counts, with_one};
-ghost use Rattle.tcap_report.specs.TraceVerdict.{IsJudged};
-ghost use Rattle.tcap_report.specs.Progress.{IsBetween, IsStopped, IsWithin, Judges, Reads, UnlessStopped, is_fault};
-ghost use Rattle.tcap_report.specs.SegmentVerdicts.{is_fail};
-ghost use Rattle.tcap_report.specs.FreshTrace.{HasNothing};
+ghost use Rattle.tcap_report.specs.KeptState.{AreSeparate, HoldsEntry, IsAt, IsBefore, IsReading, Keeps, asked_of, before_item, courses_at, no_id};
+ghost use Rattle.tcap_report.specs.TraceReading.{HasRead, IsFormHalt, Reads, ReadsOn};
 
 use crate::fault::{FormFault, Halt, Stop};
 use crate::sinks::{Lines, Sinks};
@@ -76,7 +85,7 @@ pub(crate) struct Trace<'a> {
     // The entries of the segment that wait to be judged, by their numbers in the segment.
     pub(crate) held: BTreeMap<u64, TraceEntry>,
     // The number of entries of the segment and, in `before`, of the trace before the segment, quiet marks included.
-    count: u64,
+    pub(crate) count: u64,
     pub(crate) before: u64,
     pub(crate) unread: Unread,
     // The number in the segment of the first entry after the directive `under way`.
@@ -95,7 +104,7 @@ pub(crate) struct Trace<'a> {
 impl<'a> Trace<'a> {
     /// Creates the state before the first octet.
     pub(crate) fn new(alloc: Global, options: TraceOptions<'a>) -> Trace<'a>
-        ensures between { IsBetween options.entry result }
+        ensures reading { IsReading options.entry start result }
         ensures nothing { (result.readable ≡ 0) × (result.messages ≡ 0) × (result.unheard ≡ 0) × (result.dialogues ≡ no_counts) }
     {
         Trace {
@@ -116,14 +125,10 @@ impl<'a> Trace<'a> {
         }
     }
 
-    /// Takes an entry, and judges the dialogues whose IDs are free after it.
-    fn enter<W: Write, J: Lines, P: Watch>(
-        &mut self,
-        entry: TraceEntry,
-        sinks: &mut Sinks<W, J, P>,
-    ) -> Result<(), Stop>
-        ensures within { (options : OptionsOf) → IsWithin options self.old → OnOk result (IsWithin options self.new) }
-        ensures same_sum { sinks.new.sum ≡ sinks.old.sum }
+    /// Takes an entry, and returns the dialogues whose IDs are free after it.
+    fn hold(&mut self, entry: TraceEntry) -> Result<Vec<CompleteDialogue>, Stop>
+        ensures { (options : OptionsOf) (s : State) → IsReading options s self.old
+            → IfOk result (λ given. HoldsEntry options s entry given.items self.new) }
     {
         let mut done = Vec::new(self.alloc);
         let heading = self.heading_of(&entry);
@@ -133,7 +138,24 @@ impl<'a> Trace<'a> {
         if self.held.insert(self.count, entry).is_err() {
             return Err(Stop::Memory);
         }
-        self.count = self.count.saturating_add(1);
+        let Some(count) = self.count.checked_add(1) else {
+            return Err(Stop::Memory);
+        };
+        self.count = count;
+        Ok(done)
+    }
+
+    /// Takes an entry, and judges the dialogues whose IDs are free after it.
+    fn enter<W: Write, J: Lines, P: Watch>(
+        &mut self,
+        entry: TraceEntry,
+        sinks: &mut Sinks<W, J, P>,
+    ) -> Result<(), Stop>
+        ensures reading { (options : OptionsOf) (s : State) → IsReading options s self.old
+            → OnOk result (IsReading options (after_piece (asked_of options) s (Entry entry)) self.new) }
+        ensures same_sum { sinks.new.sum ≡ sinks.old.sum }
+    {
+        let done = self.hold(entry)?;
         self.judge_all(done, NextItem::More, sinks)
     }
 
@@ -162,79 +184,68 @@ impl<'a> Trace<'a> {
         Ok(given)
     }
 
-    /// Returns what follows a segment that ends: the quiet mark in line `mark`, or the end of the trace.
-    fn ending(&self, mark: Option<u64>) -> NextItem
-        ensures { is_fault result ≡ false }
-    {
-        match mark {
-            Some(line) => NextItem::Mark {
-                line,
-                number: self.before.saturating_add(self.count),
-            },
-            None => NextItem::End,
-        }
-    }
-
-    /// Ends the segment, at the quiet mark in line `mark` or with the trace, and judges its live dialogues.
-    fn end_segment<W: Write, J: Lines, P: Watch>(
+    /// Judges the live dialogues of the segment, which ends before `next`, and begins an empty cut.
+    fn judge_live<W: Write, J: Lines, P: Watch>(
         &mut self,
-        mark: Option<u64>,
+        next: NextItem,
         sinks: &mut Sinks<W, J, P>,
     ) -> Result<(), Stop>
-        ensures between { (options : OptionsOf) → IsWithin options self.old → OnOk result (IsBetween options self.new) }
-        ensures readable { OnOk result (self.new.readable ≡ self.old.readable) }
+        ensures keeps { (options : OptionsOf) (s : State) (names : IdOf → Bool) → IsAt options s names self.old
+            → OnOk result (Keeps options (before_item (after_of next) s) (all_in (courses_at options s)) [] names self.new) }
+        ensures cut { OnOk result (IsCut self.old.options.reuse [] self.new.cut) }
         ensures same_sum { sinks.new.sum ≡ sinks.old.sum }
     {
         let given = self.finished()?;
-        self.judge_all(given, self.ending(mark), sinks)?;
+        self.judge_all(given, next, sinks)
+    }
+
+    /// Begins the segment after a quiet mark.
+    fn begin_segment(&mut self)
+        ensures unread { notes_in self.new.unread ≡ ([], true) }
+        ensures rest { self.new ≡ record self.old { before = self.new.before; count = 0; unread = self.new.unread; under_way = None } }
+    {
         self.before = self.before.saturating_add(self.count).saturating_add(1);
         self.count = 0;
         self.unread = Unread::new(self.alloc);
         self.under_way = None;
-        Ok(())
     }
 
-    /// Takes a quiet mark in this line.
+    /// Takes a quiet mark in this line: judges the live dialogues of the segment, and begins the next one.
     fn pass_mark<W: Write, J: Lines, P: Watch>(
         &mut self,
         line: u64,
         sinks: &mut Sinks<W, J, P>,
     ) -> Result<(), Stop>
-        ensures between { (options : OptionsOf) → IsWithin options self.old → OnOk result (IsBetween options self.new) }
+        ensures reading { (options : OptionsOf) (s : State) → IsReading options s self.old
+            → OnOk result (IsReading options (after_piece (asked_of options) s (Mark line)) self.new) }
         ensures same_sum { sinks.new.sum ≡ sinks.old.sum }
     {
+        let number = self.before.saturating_add(self.count);
         self.marks.note_sent(&self.cut)?;
-        self.end_segment(Some(line), sinks)?;
+        self.judge_live(NextItem::Mark { line, number }, sinks)?;
+        self.begin_segment();
         self.marks.mark()?;
         Ok(())
-    }
-
-    /// Judges the live dialogues after a fault of the trace's form. Those that are not over may lack entries, so they
-    /// are reported only if they fail.
-    fn judge_after_fault<W: Write, J: Lines, P: Watch>(
-        &mut self,
-        sinks: &mut Sinks<W, J, P>,
-    ) -> Result<(), Stop>
-        ensures stopped { (options : OptionsOf) → IsWithin options self.old → OnOk result (IsStopped options self.new) }
-        ensures same_sum { sinks.new.sum ≡ sinks.old.sum }
-    {
-        let given = self.finished()?;
-        self.judge_all(given, NextItem::Fault, sinks)
     }
 
     /// Judges these dialogues, one after another.
     fn judge_all<W: Write, J: Lines, P: Watch>(
         &mut self,
         given: Vec<CompleteDialogue>,
-        behind: NextItem,
+        next: NextItem,
         sinks: &mut Sinks<W, J, P>,
     ) -> Result<(), Stop>
-        ensures judges { OnOk result (Judges (is_fault behind) given.items self.old self.new) }
+        ensures keeps { (options : OptionsOf) (s : State) (names : IdOf → Bool) (done waiting those : List Course)
+            → AreAligned those given.items → AreSeparate options s (those ++ waiting)
+            → ((d : Course) → Contains those d → IsBefore next s d)
+            → Keeps options s done (those ++ waiting) names self.old
+            → OnOk result (Keeps options s (done ++ those) waiting names self.new) }
+        ensures same { OnOk result ((self.new.cut ≡ self.old.cut) × (self.new.count ≡ self.old.count)) }
         ensures same_sum { sinks.new.sum ≡ sinks.old.sum }
     {
         let mut left = given.len();
         for gathered in given {
-            self.judge(gathered, behind, sinks)?;
+            self.judge(gathered, next, sinks)?;
             left = left.saturating_sub(1);
             let waiting = self.cut.live_count().saturating_add(left);
             sinks.watch.look(&self.so_far(sinks.sum), waiting);
@@ -242,34 +253,21 @@ impl<'a> Trace<'a> {
         Ok(())
     }
 
-    /// Takes the entries of a dialogue out of those that wait.
-    pub(crate) fn taken(
-        &mut self,
-        gathered: &CompleteDialogue,
-    ) -> Result<Vec<TraceEntry>, AllocError>
-        ensures few { IfOk result (λ entries. length entries.items ≤ length gathered.now.numbers.items) }
-        ensures rest { self.new ≡ record self.old { held = self.new.held } }
-    {
-        let mut entries = Vec::new(self.alloc);
-        for number in &gathered.numbers {
-            if let Some(held) = self.held.remove(number) {
-                entries.push(held)?;
-            }
-        }
-        Ok(entries)
-    }
-
     /// Judges a dialogue and reports the verdict.
     fn judge<W: Write, J: Lines, P: Watch>(
         &mut self,
         gathered: CompleteDialogue,
-        behind: NextItem,
+        next: NextItem,
         sinks: &mut Sinks<W, J, P>,
     ) -> Result<(), Stop>
-        ensures judges { OnOk result (Judges (is_fault behind) (gathered ∷ []) self.old self.new) }
+        ensures keeps { (options : OptionsOf) (s : State) (names : IdOf → Bool) (done waiting : List Course) (d : Course)
+            → IsCompleteDialogue d gathered → AreSeparate options s (d ∷ waiting) → IsBefore next s d
+            → Keeps options s done (d ∷ waiting) names self.old
+            → OnOk result (Keeps options s (done ++ d ∷ []) waiting names self.new) }
+        ensures same { OnOk result ((self.new.cut ≡ self.old.cut) × (self.new.count ≡ self.old.count)) }
         ensures same_sum { sinks.new.sum ≡ sinks.old.sum }
     {
-        let case = self.case_of(gathered, behind)?;
+        let case = self.case_of(gathered, next)?;
         let judged = judge(self.alloc, &case, self.options.book)?;
         self.report(&case, &judged, sinks)
     }
@@ -282,18 +280,16 @@ impl<'a> Trace<'a> {
         judged: &JudgedDialogue,
         sinks: &mut Sinks<W, J, P>,
     ) -> Result<(), Stop>
-        ensures counted { OnOk result (self.new.dialogues ≡ cond (not (is_fault case.now.behind) || is_fail judged.now.verdict)
+        ensures counted { OnOk result (self.new.dialogues ≡ cond (not (is_broken (after_of case.now.behind)) || is_fail judged.now.verdict)
             (with_one judged.now.verdict self.old.dialogues) self.old.dialogues) }
-        ensures options { self.new.options ≡ self.old.options }
-        ensures cut { self.new.cut ≡ self.old.cut }
-        ensures messages { self.new.messages ≡ self.old.messages }
-        ensures readable { self.new.readable ≡ self.old.readable }
+        ensures marks { OnOk result (Notes (may_go_on (dialogue_in case.now)) case.now.gathered self.old.marks self.new.marks) }
+        ensures rest { OnOk result (self.new ≡ record self.old { marks = self.new.marks; dialogues = self.new.dialogues; unheard = self.new.unheard }) }
         ensures same_sum { sinks.new.sum ≡ sinks.old.sum }
     {
+        self.marks.note(&case.gathered, case.may_go_on())?;
         if !is_reported(case, judged) {
             return Ok(());
         }
-        self.marks.note(&case.gathered, case.may_go_on())?;
         self.count(case, judged);
         sinks.report_case(self.alloc, self.options.name, case, judged, self.options.of)
     }
@@ -317,9 +313,10 @@ impl<'a> Trace<'a> {
         octets: &mut TraceReader,
         sinks: &mut Sinks<W, J, P>,
     ) -> Result<(), Halt>
-        ensures within { (options : OptionsOf) → IsWithin options self.old
-            → UnlessStopped result (IsWithin options self.new) }
-        ensures nothing { HasNothing octets.old → OnOk result (HasNothing octets.new × (self.new.readable ≡ self.old.readable)) }
+        ensures reads { (options : OptionsOf) (read : List ℕ) (ps : List Meant) → HasRead read ps octets.old.pieces
+            → IsReading options (after_pieces (asked_of options) start ps) self.old
+            → ReadsOn options read result octets.new.pieces self.new }
+        ensures ended { octets.new.pieces.ended ≡ octets.old.pieces.ended }
         ensures same_sum { sinks.new.sum ≡ sinks.old.sum }
     {
         for _ in 0..u64::MAX {
@@ -330,7 +327,7 @@ impl<'a> Trace<'a> {
                 None => return Ok(()),
             }
         }
-        Ok(())
+        Err(self.unreadable()?)
     }
 
     /// Takes a piece of the trace.
@@ -339,7 +336,8 @@ impl<'a> Trace<'a> {
         piece: Piece,
         sinks: &mut Sinks<W, J, P>,
     ) -> Result<(), Stop>
-        ensures within { (options : OptionsOf) → IsWithin options self.old → OnOk result (IsWithin options self.new) }
+        ensures reading { (options : OptionsOf) (s : State) → IsReading options s self.old
+            → OnOk result (IsReading options (after_piece (asked_of options) s (piece_as piece)) self.new) }
         ensures same_sum { sinks.new.sum ≡ sinks.old.sum }
     {
         match piece {
@@ -366,10 +364,10 @@ impl<'a> Trace<'a> {
         octets: &mut TraceReader,
         sinks: &mut Sinks<W, J, P>,
     ) -> Result<(), Halt>
-        ensures reads { (options : OptionsOf) → IsWithin options self.old → Reads options result self.new }
-        ensures nothing { R.remaining reader.old ≡ Some [] → HasNothing octets.old
-            → OnOk result (self.new.readable ≡ self.old.readable) }
-        ensures all { OnOk result (IsAtEnd (R.remaining reader.new) × (R.failures reader.new ≡ R.failures reader.old)) }
+        requires fresh { HasRead [] [] octets.old.pieces }
+        requires more { octets.old.pieces.ended ≡ false }
+        ensures reads { (options : OptionsOf) → IsReading options start self.old
+            → Reads options (R.remaining reader.old) (R.remaining reader.new) (R.failures reader.old) (R.failures reader.new) result self.new }
         ensures same_sum { sinks.new.sum ≡ sinks.old.sum }
     {
         let mut piece = [0; PIECE_LEN];
@@ -386,7 +384,7 @@ impl<'a> Trace<'a> {
                 .watch
                 .look(&self.so_far(sinks.sum), self.cut.live_count());
             if returned == 0 {
-                return match self.end_segment(None, sinks) {
+                return match self.judge_live(NextItem::End, sinks) {
                     Ok(()) => Ok(()),
                     Err(stop) => Err(Halt::Stop(stop)),
                 };
@@ -395,8 +393,34 @@ impl<'a> Trace<'a> {
         Err(self.unreadable()?)
     }
 
+    /// Reads the trace to its end, reports the verdict on it, and returns the verdict.
+    fn run<R: Read, W: Write, J: Lines, P: Watch>(
+        &mut self,
+        reader: &mut R,
+        octets: &mut TraceReader,
+        sinks: &mut Sinks<W, J, P>,
+    ) -> Result<Verdict, Stop>
+        requires fresh { HasRead [] [] octets.old.pieces }
+        requires more { octets.old.pieces.ended ≡ false }
+        ensures answers { (options : OptionsOf) → IsReading options start self.old → IfOk result (λ verdict.
+            Answers options (R.remaining reader.old) (R.remaining reader.new) (R.failures reader.old) (R.failures reader.new) verdict
+            sinks.old.sum.now sinks.new.sum.now) }
+        ensures same_sum { sinks.new.sum.ghost_name ≡ sinks.old.sum.ghost_name }
+    {
+        match self.read_all(reader, octets, sinks) {
+            Ok(()) => self.end_whole(sinks),
+            Err(Halt::Form(fault)) => {
+                self.judge_live(NextItem::Fault, sinks)?;
+                self.end(Some(fault), octets.hint(), sinks)
+            }
+            Err(Halt::Stop(stop)) => Err(stop),
+        }
+    }
+
     /// Returns the fault that the trace can't be read.
-    fn unreadable(&self) -> Result<Halt, AllocError> {
+    fn unreadable(&self) -> Result<Halt, AllocError>
+        ensures { IfOk result IsFormHalt }
+    {
         let mut text = String::new(self.alloc);
         text.push_str("it can't be read")?;
         Ok(Halt::Form(FormFault { line: None, text }))
@@ -415,7 +439,7 @@ fn broken_off_text(alloc: Global, line: u64, missing: &[u8]) -> Result<String, A
 /// Returns whether a judged dialogue is reported: always, unless a fault ends the trace before the dialogue is over and
 /// the dialogue does not fail.
 fn is_reported(case: &Case, judged: &JudgedDialogue) -> bool
-    ensures { result ≡ not (is_fault case.now.behind) || is_fail judged.now.verdict }
+    ensures { result ≡ not (is_broken (after_of case.now.behind)) || is_fail judged.now.verdict }
 {
     match (case.behind, judged.verdict) {
         (NextItem::Fault, Verdict::Fail) => true,
@@ -437,8 +461,8 @@ pub fn run_trace<R: Read, W: Write, J: Lines, P: Watch>(
     options: TraceOptions,
     sinks: &mut Sinks<W, J, P>,
 ) -> Result<Verdict, Stop>
-    ensures judged { IfOk result (λ verdict.
-        IsJudged options.entry verdict sinks.old.sum.now sinks.new.sum.now) }
+    ensures answers { IfOk result (λ verdict. Answers options.entry (R.remaining reader.old) (R.remaining reader.new) (R.failures reader.old)
+        (R.failures reader.new) verdict sinks.old.sum.now sinks.new.sum.now) }
     ensures counted { IfOk result (λ verdict. HasJudged (verdict ∷ []) sinks.old.sum.now sinks.new.sum.now) }
     ensures nothing { R.remaining reader.old ≡ Some [] → IfOk result (λ verdict. verdict ≡ verdicts.Error) }
     ensures all { IfOk result (λ verdict. (verdict ≡ verdicts.Error)
@@ -447,12 +471,5 @@ pub fn run_trace<R: Read, W: Write, J: Lines, P: Watch>(
 {
     let mut trace = Trace::new(alloc, options);
     let mut octets = TraceReader::new(alloc);
-    match trace.read_all(reader, &mut octets, sinks) {
-        Ok(()) => trace.end_whole(sinks),
-        Err(Halt::Form(fault)) => {
-            trace.judge_after_fault(sinks)?;
-            trace.end(Some(fault), octets.hint(), sinks)
-        }
-        Err(Halt::Stop(stop)) => Err(stop),
-    }
+    trace.run(reader, &mut octets, sinks)
 }

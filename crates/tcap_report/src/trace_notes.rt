@@ -1,7 +1,20 @@
 //! What a trace notes of an entry and of a dialogue.
 
-ghost use Rattle.std.specs.Prelude.{◌≡◌, ◌≤◌, cond, is_some, length, IfOk};
-ghost use Rattle.tcap_traces.specs.declared.case.NextItem.TheVariants as behinds;
+ghost use Rattle.std.specs.BTreeMap as tree;
+ghost use Rattle.std.specs.List.{filter_map, list_any};
+ghost use Rattle.std.specs.List.Sorted.{IsNonDecreasing, IsStrictlySortedBy};
+ghost use Rattle.std.specs.Ordering.{nat_cmp};
+ghost use Rattle.std.specs.Prelude.{◌≡◌, ◌==◌, ◌&&◌, ℕ, cond, false, is_some, not, option_map, slice_get, IfOk};
+ghost use Rattle.tcap_dialogues.specs.Course.{is_continue};
+ghost use Rattle.tcap_dialogues.specs.HeadingReading.{heading_read};
+ghost use Rattle.tcap_traces.specs.declared.case.NextItem.TheVariants as items;
+ghost use Rattle.tcap_traces.specs.Case.{unread_by};
+ghost use Rattle.tcap_traces.specs.Dialogue.{heading_in};
+ghost use Rattle.tcap_traces.specs.IdsBeforeMarks.{is_sent_to};
+ghost use Rattle.tcap_traces.specs.Segments.{is_under_way};
+ghost use Rattle.tcap_traces.specs.UnreadableEntries.{notes_in};
+ghost use Rattle.tcap_report.specs.KeptState.{asked_of};
+ghost use Rattle.tcap_report.specs.NotedCase.{is_in_use_by, question_by};
 
 use crate::trace::Trace;
 use std::alloc::AllocError;
@@ -10,11 +23,26 @@ use tcap_msg::Kind as Form;
 use tcap_traces::{Case, InUse, NextItem, Rules, TraceEntry, begins};
 
 impl Trace<'_> {
+    /// Returns whether the next entry comes after the directive `under way`.
+    fn is_under_way(&self) -> bool
+        ensures { result ≡ is_under_way self.now.under_way self.now.count }
+    {
+        match self.under_way {
+            Some(first) => first <= self.count,
+            None => false,
+        }
+    }
+
     /// Returns the heading of an entry, with what the trace before it says.
-    pub(crate) fn heading_of<'o>(&self, entry: &'o TraceEntry) -> HeadingView<'o> {
+    pub(crate) fn heading_of<'o>(&self, entry: &'o TraceEntry) -> HeadingView<'o>
+        ensures { heading_read result ≡ record (heading_in entry.now) {
+          under_way = is_under_way self.now.under_way self.now.count;
+          known = is_continue (heading_in entry.now).kind && is_sent_to self.now.marks (heading_in entry.now);
+        } }
+    {
         let heading = entry.heading();
         HeadingView {
-            under_way: self.under_way.is_some(),
+            under_way: self.is_under_way(),
             known: heading.kind == Some(Form::Continue) && self.marks.sent_to(heading).is_some(),
             ..heading
         }
@@ -22,7 +50,9 @@ impl Trace<'_> {
 
     /// Returns the ID that suggests that a dialogue with these entries continues one from before the last quiet mark. None
     /// if one of its IDs was used before in its segment.
-    fn in_use(&self, gathered: &CompleteDialogue, entries: &[TraceEntry]) -> Option<InUse> {
+    fn in_use(&self, gathered: &CompleteDialogue, entries: &[TraceEntry]) -> Option<InUse>
+        ensures { is_some result ≡ is_in_use_by self.now.marks gathered.now (option_map heading_in (slice_get entries.now 0)) }
+    {
         if gathered.earlier.is_some() {
             return None;
         }
@@ -32,7 +62,10 @@ impl Trace<'_> {
     /// Returns the number of the first unreadable entry that may belong to a dialogue with these entries. It is one
     /// after the dialogue's first entry, or any of the segment if the first entry is no Begin. None if no entry of the
     /// dialogue carries an ID.
-    fn unread_for(&self, gathered: &CompleteDialogue, entries: &[TraceEntry]) -> Option<u64> {
+    fn unread_for(&self, gathered: &CompleteDialogue, entries: &[TraceEntry]) -> Option<u64>
+        ensures { IsNonDecreasing (notes_in self.now.unread).0 → result
+            ≡ unread_by (notes_in self.now.unread).0 gathered.now (option_map heading_in (slice_get entries.now 0)) }
+    {
         if gathered.a.is_empty() && gathered.b.is_empty() {
             return None;
         }
@@ -44,9 +77,7 @@ impl Trace<'_> {
 
     /// Returns the options for the trace's dialogues.
     fn rules(&self) -> Rules
-        ensures sides { result.of ≡ self.now.options.of }
-        ensures settled { result.settled ≡ self.now.options.settled }
-        ensures complete { result.complete ≡ self.now.options.complete }
+        ensures { question_by result ≡ (asked_of self.now.options).question }
     {
         Rules {
             of: self.options.of,
@@ -56,18 +87,42 @@ impl Trace<'_> {
         }
     }
 
-    /// Returns a dialogue with its entries and all that is noted of it. Unless the dialogue is over, `behind` comes
-    /// after it.
+    /// Takes the entries of a dialogue out of those that wait.
+    fn taken(&mut self, gathered: &CompleteDialogue) -> Result<Vec<TraceEntry>, AllocError>
+        ensures those { IsStrictlySortedBy nat_cmp gathered.now.numbers.items → IfOk result (λ entries. entries.items
+            ≡ filter_map (tree.get nat_cmp self.old.held) gathered.now.numbers.items) }
+        ensures others { (n : ℕ) → list_any (λ i. i == n) gathered.now.numbers.items ≡ false
+            → tree.get nat_cmp self.new.held n ≡ tree.get nat_cmp self.old.held n }
+        ensures rest { self.new ≡ record self.old { held = self.new.held } }
+    {
+        let mut entries = Vec::new(self.alloc);
+        for number in &gathered.numbers {
+            if let Some(held) = self.held.remove(number) {
+                entries.push(held)?;
+            }
+        }
+        Ok(entries)
+    }
+
+    /// Returns a dialogue with its entries and all that is noted of it. Unless the dialogue is over, `next` comes after
+    /// it.
     pub(crate) fn case_of(
         &mut self,
         gathered: CompleteDialogue,
-        behind: NextItem,
+        next: NextItem,
     ) -> Result<Case, AllocError>
         ensures is { IfOk result (λ case. (case.gathered ≡ gathered)
-            × (case.behind ≡ cond (is_some gathered.over) behinds.More behind)
-            × (case.rules.of ≡ self.old.options.of) × (case.rules.settled ≡ self.old.options.settled)
-            × (case.rules.complete ≡ self.old.options.complete)) }
-        ensures few { IfOk result (λ case. length case.entries.items ≤ length gathered.numbers.items) }
+            × (case.behind ≡ cond (is_some gathered.over) items.More next)
+            × (question_by case.rules ≡ (asked_of self.old.options).question)
+            × (case.under_way ≡ self.old.under_way)) }
+        ensures entries { IsStrictlySortedBy nat_cmp gathered.numbers.items → IfOk result (λ case. case.entries.items
+            ≡ filter_map (tree.get nat_cmp self.old.held) gathered.numbers.items) }
+        ensures in_use { IfOk result (λ case. is_some case.in_use
+            ≡ is_in_use_by self.old.marks gathered (option_map heading_in (slice_get case.entries.items 0))) }
+        ensures unread { IsNonDecreasing (notes_in self.old.unread).0 → IfOk result (λ case. case.unread
+            ≡ unread_by (notes_in self.old.unread).0 gathered (option_map heading_in (slice_get case.entries.items 0))) }
+        ensures others { (n : ℕ) → list_any (λ i. i == n) gathered.numbers.items ≡ false
+            → tree.get nat_cmp self.new.held n ≡ tree.get nat_cmp self.old.held n }
         ensures rest { self.new ≡ record self.old { held = self.new.held } }
     {
         let entries = self.taken(&gathered)?;
@@ -80,7 +135,7 @@ impl Trace<'_> {
             behind: if gathered.over.is_some() {
                 NextItem::More
             } else {
-                behind
+                next
             },
             under_way: self.under_way,
             gathered,

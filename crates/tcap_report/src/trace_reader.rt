@@ -1,9 +1,8 @@
 //! A trace as it is read, and the faults of its form in words.
 
-ghost use Rattle.std.specs.Prelude.{◌≡◌, [], ◌++◌, ℕ, List, None, IfOk, OnOk};
-ghost use Rattle.tcap_traces.specs.Pieces.{pieces_of};
+ghost use Rattle.std.specs.Prelude.{◌≡◌, ◌++◌, ℕ, false, List, OnOk};
+ghost use Rattle.tcap_traces.specs.Pieces.{is_nothing, pieces_of};
 ghost use Rattle.tcap_traces.specs.PieceReader.{pieces_left};
-ghost use Rattle.tcap_report.specs.FreshTrace.{HasNothing};
 ghost use Rattle.tcap_report.specs.TraceReading.{Returns};
 
 use crate::fault::{FormFault, Halt};
@@ -65,6 +64,7 @@ impl TraceReader {
     /// Creates a reader that has no octets yet.
     pub(crate) fn new(alloc: Global) -> TraceReader
         ensures left { (more : List ℕ) → pieces_left result.pieces more ≡ pieces_of more }
+        ensures ended { result.pieces.ended ≡ false }
     {
         TraceReader {
             alloc,
@@ -76,6 +76,7 @@ impl TraceReader {
     /// Takes the next octets, or none if the trace has ended. Fails if memory runs out.
     pub(crate) fn feed(&mut self, octets: &[u8]) -> Result<(), AllocError>
         ensures left { OnOk result ((more : List ℕ) → pieces_left self.new.pieces more ≡ pieces_left self.old.pieces (octets.now ++ more)) }
+        ensures ended { OnOk result (self.new.pieces.ended ≡ is_nothing octets.now) }
     {
         let room = FIRST.saturating_sub(self.first.len()).min(octets.len());
         self.first.extend_from_slice(&octets[..room])?;
@@ -91,7 +92,8 @@ impl TraceReader {
     ///
     /// Returns `Halt::Form` if the trace's form has a fault, and `Halt::Stop` if memory runs out.
     pub(crate) fn next(&mut self) -> Result<Option<Piece>, Halt>
-        ensures { Returns self.old.pieces result self.new.pieces }
+        ensures returns { Returns self.old.pieces result self.new.pieces }
+        ensures ended { self.new.pieces.ended ≡ self.old.pieces.ended }
     {
         match self.pieces.next() {
             Ok(piece) => Ok(piece),

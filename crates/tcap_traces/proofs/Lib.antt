@@ -6,4 +6,15 @@ mod DirectiveLaws
 mod FeedLaws
 mod PieceLaws
 mod ReaderLaws
+pub mod DialoguePairs
+pub mod FirstEntries
+pub mod TakenEntries
+pub mod UnreadLaws
+pub mod MarkLaws
+pub mod CaseFacts
+pub mod DialogueFacts
+pub mod SegmentLaws
+pub mod SegmentState
+pub mod StableVerdicts
+pub mod TraceStateLaws
 mod FirstAbove

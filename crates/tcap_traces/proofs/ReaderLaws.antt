@@ -12,14 +12,14 @@ use Rattle.tcap_traces.specs.declared.pieces.Step.{Step}
 use Rattle.tcap_traces.specs.declared.pieces.Step.TheVariants as steps
 use Rattle.tcap_traces.specs.declared.pieces.Form.TheVariants as forms
 use Rattle.tcap_traces.specs.declared.pieces.FormRule.TheVariants.{InLine}
-use Rattle.tcap_traces.specs.declared.pieces.LineRule.TheVariants.{CutLine, TooLong}
+use Rattle.tcap_traces.specs.declared.pieces.LineRule.TheVariants.{TooLong}
 use Rattle.tcap_traces.specs.declared.pieces.Piece.{Piece as APiece}
 use Rattle.tcap_traces.specs.declared.pieces.PieceReader.{PieceReader}
 use Rattle.tcap_traces.specs.declared.pieces.Progress.{Progress}
 use Rattle.tcap_traces.specs.Directive.{Statement}
-use Rattle.tcap_traces.specs.Pieces.{Directive, Line, LineMeaning, Message, Pieces, QuietMark, Stated, after, directive_fault, entry_fault, message_fault, no_more, unless_at, with_directive, without_return, frames_from, further, goes_on, lines_in, lines_of, meaning_of, pieces_in, stopped, without_end}
+use Rattle.tcap_traces.specs.Pieces.{Line, LineMeaning, Pieces, directive_fault, unless_at, without_return, frames_from, further, goes_on, lines_of, meaning_of, pieces_in, stopped, without_end}
 use Rattle.tcap_traces.specs.PieceReader.{NoMatterWhat, Returns, Steps, Takes, is_record_as, pieces_left, rest}
-use Rattle.tcap_traces.proofs.PieceLaws.{Begins, first_begins}
+use Rattle.tcap_traces.proofs.PieceLaws.{first_begins}
 
 -- a length that is not over the limit
 not_over : (n : ℕ) → n ≤ line_limit → nat_lt line_limit n ≡ false

@@ -1,5 +1,5 @@
 -- Which dialogue does a case describe, and what is asked of it?
-use Rattle.std.specs.Prelude.{ℕ, Bool, List, ◌||◌, Option, is_some, option_copied, option_map, slice_get, unwrap_or}
+use Rattle.std.specs.Prelude.{ℕ, Bool, List, ◌||◌, Option, is_some, option_copied, option_map, slice_get, cond, Some, None, unwrap_or}
 use Rattle.std.specs.BTreeSet.{BTreeSet}
 use Rattle.tcap_dialogues.specs.declared.complete_dialogue.CompleteDialogue.{CompleteDialogue}
 use Rattle.tcap_traces.specs.Pieces.{TraceEntry, further}
@@ -7,7 +7,10 @@ use Rattle.tcap_traces.specs.declared.case.NextItem.{NextItem}
 use Rattle.tcap_traces.specs.declared.case.NextItem.TheVariants as behinds
 use Rattle.tcap_traces.specs.declared.case.Case.{Case}
 use Rattle.tcap_traces.specs.declared.table_choice.ChosenTable.{ChosenTable}
-use Rattle.tcap_traces.specs.Dialogue.{After, Dialogue, EndAfter, FaultAfter, MarkAfter, More, Question}
+use Rattle.tcap_dialogues.specs.Course.{Heading}
+use Rattle.tcap_record.specs.declared.entry.End.{End as Side}
+use Rattle.tcap_traces.specs.Dialogue.{After, Dialogue, EndAfter, FaultAfter, MarkAfter, More, Question, begun_by}
+use Rattle.tcap_traces.specs.UnreadableEntries.{first_above}
 use Rattle.tcap_traces.specs.TableChoice.{Choice}
 
 -- what comes after the entries of a case
@@ -35,6 +38,17 @@ gathered_as g entries after under_way in_use unread = record {
   in_use = in_use;
   unread = unread;
 }
+
+-- The entry after which unreadable entries may belong to a dialogue: its first if that is a Begin, with this number; if it
+-- is none, any of the segment.
+abbrev pub unread_after : Option Side → Option ℕ → Option ℕ
+unread_after None number = None
+unread_after (Some side) number = number
+
+-- the first noted unreadable entry that may belong to a gathered dialogue, given the heading of its first entry
+abbrev pub unread_by : List ℕ → CompleteDialogue → Option Heading → Option ℕ
+unread_by notes g first =
+    cond (has_some g.a || has_some g.b) (first_above (unread_after (begun_by first) (slice_get g.numbers.items 0)) notes) None
 
 -- the dialogue of a case
 abbrev pub dialogue_in : Case → Dialogue

@@ -8,7 +8,7 @@ use Rattle.tcap_record.specs.declared.entry.End.{End as Side}
 use Rattle.tcap_record.specs.Ends.{other}
 use Rattle.tcap_end.specs.Table.{octets_cmp}
 use Rattle.tcap_dialogues.specs.Course.{Heading, own_ids}
-use Rattle.tcap_dialogues.specs.DialoguesOfList.{IdOf, is_among}
+use Rattle.tcap_dialogues.specs.DialoguesOfList.{is_among}
 use Rattle.tcap_dialogues.specs.CutDialogues.{by_end}
 use Rattle.tcap_dialogues.specs.declared.complete_dialogue.CompleteDialogue.{CompleteDialogue}
 use Rattle.tcap_traces.specs.declared.before_marks.Before.{Before}

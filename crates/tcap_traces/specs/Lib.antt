@@ -13,3 +13,5 @@ pub mod UnreadableEntries
 pub mod Segments
 pub mod JudgedTrace
 pub mod WorkedTraces
+pub mod TraceState
+pub mod TraceProgress

@@ -1,6 +1,5 @@
 -- Which pieces does a reader still return?
 use Rattle.std.specs.Prelude.{◌≡◌, ℕ, suc, Bool, true, false, cond, List, [], ◌∷◌, ◌++◌, ◌<◌, ◌≤◌, drop, length, take, Option, Some, None, Result, Ok, Err}
-use Rattle.tcap_traces.specs.declared.directive.Directive.{Directive as ADirective}
 use Rattle.tcap_traces.specs.declared.pieces.Form.{Form}
 use Rattle.tcap_traces.specs.declared.pieces.Form.TheVariants as forms
 use Rattle.tcap_traces.specs.declared.pieces.FormRule.{FormRule}

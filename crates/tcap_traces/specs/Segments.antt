@@ -1,8 +1,8 @@
 -- Which segments does a trace have, and which dialogues does a segment have? A segment is the entries between two quiet
 -- marks.
-use Rattle.std.specs.Prelude.{ℕ, zero, suc, ◌+◌, Bool, true, false, cond, List, [], ◌∷◌, ◌++◌, filter, length, map, ◌&&◌, ◌||◌, not, nat_le, Option, Some, None, is_some, option_map, slice_get}
+use Rattle.std.specs.Prelude.{ℕ, suc, Bool, true, false, cond, List, [], ◌∷◌, ◌++◌, filter, length, ◌&&◌, ◌||◌, not, nat_le, Option, Some, None, is_some, option_map, slice_get}
 use Rattle.std.specs.List.{flat_map, list_any}
-use Rattle.std.specs.Option.{option_or, option_to_list}
+use Rattle.std.specs.Option.{option_or}
 use Rattle.tcap_record.specs.declared.entry.End.{End as Side}
 use Rattle.tcap_record.specs.declared.entry.End.TheVariants as sides
 use Rattle.tcap_model.specs.World.{is_side}
@@ -11,10 +11,9 @@ use Rattle.tcap_msg.specs.declared.kind.Kind.TheVariants as kinds
 use Rattle.tcap_dialogues.specs.declared.reuse.Reuse.{Reuse}
 use Rattle.tcap_dialogues.specs.DialoguesOfList.{IdOf, is_among}
 use Rattle.tcap_dialogues.specs.Course.{Course, Courses, Heading, courses_so_far, has_entry, is_alone, is_begin, is_continue, own_ids, peer_ids}
-use Rattle.tcap_dialogues.specs.HeadingReading.{heading_at}
 use Rattle.tcap_traces.specs.Directive.{UnderWay}
 use Rattle.tcap_traces.specs.Pieces.{Piece, Entry, Mark, Stated, TraceEntry}
-use Rattle.tcap_traces.specs.Dialogue.{After, Dialogue, More, MarkAfter, EndAfter, FaultAfter, heading_in, is_marked}
+use Rattle.tcap_traces.specs.Dialogue.{After, Dialogue, More, MarkAfter, heading_in, is_marked}
 
 -- ---- segments
 

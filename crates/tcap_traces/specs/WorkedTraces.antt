@@ -6,7 +6,7 @@ use Rattle.tcap_msg.specs.Reading.{begin_at, component_portion_at, continue_at, 
 use Rattle.tcap_msg.specs.TransactionId.{transaction_id_of}
 use Rattle.tcap_dialogues.specs.HeadingReading.{begin_heading_at, continue_heading_at, heading_in, last_heading_at}
 use Rattle.tcap_ber.specs.WalkResult.{outer_at}
-use Rattle.std.specs.Prelude.{◌≡◌, ℕ, Bool, true, false, List, [], ◌∷◌, ◌++◌, length, map, Option, Some, None, codes, refl}
+use Rattle.std.specs.Prelude.{◌≡◌, ℕ, true, false, List, [], ◌∷◌, ◌++◌, map, Option, Some, None, codes, refl}
 use Rattle.tcap_record.specs.declared.entry.End.TheVariants as sides
 use Rattle.tcap_books.specs.Book.{NamedTable}
 use Rattle.tcap_dialogues.specs.declared.reuse.Reuse.TheVariants as reuses
@@ -14,14 +14,14 @@ use Rattle.tcap_model.specs.WorkedItems.{prearranged, table}
 use Rattle.tcap_traces.specs.declared.end_result.Circumstances.{Circumstances}
 use Rattle.tcap_traces.specs.declared.verdict.Verdict.{Verdict}
 use Rattle.tcap_traces.specs.declared.verdict.Verdict.TheVariants as verdicts
-use Rattle.tcap_traces.specs.Directive.{About, BrokenOff, UnderWay}
-use Rattle.tcap_traces.specs.Pieces.{Entry, Mark, Piece, Pieces, Stated, TraceEntry, pieces_of}
+use Rattle.tcap_traces.specs.Directive.{UnderWay}
+use Rattle.tcap_traces.specs.Pieces.{Entry, Mark, Piece, Stated, pieces_of}
 use Rattle.tcap_traces.specs.declared.pieces.FormRule.{FormRule}
-use Rattle.tcap_traces.specs.declared.pieces.FormRule.TheVariants.{InLine, NoEnd, CutEntry, BadElement}
+use Rattle.tcap_traces.specs.declared.pieces.FormRule.TheVariants.{InLine, NoEnd, CutEntry}
 use Rattle.tcap_traces.specs.declared.pieces.LineRule.TheVariants.{NoLine, AfterBreak, DirectiveAfterBreak, UnknownDirective, LateDirective, SecondDirective, CutLine}
 use Rattle.tcap_traces.specs.TableChoice.{choice}
-use Rattle.tcap_traces.specs.Dialogue.{Dialogue, EndAfter, Question, circumstances, entry_of, judged_entries}
-use Rattle.tcap_traces.specs.Segments.{Segment, segments_of}
+use Rattle.tcap_traces.specs.Dialogue.{EndAfter, circumstances, judged_entries}
+use Rattle.tcap_traces.specs.Segments.{segments_of}
 use Rattle.tcap_traces.specs.JudgedTrace.{Asked, JudgedDialogue, judged_trace, reported_from}
 use Rattle.tcap_traces.specs.Segments.{nothing_before}
 

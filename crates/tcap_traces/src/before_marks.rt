@@ -1,6 +1,6 @@
 //! The transaction IDs that were in use before the quiet marks of a trace.
 
-ghost use Rattle.std.specs.Prelude.{◌≡◌, ◌&&◌, ◌||◌, ℕ, List, cond, false, true, IfNone, IfSome, OnOk};
+ghost use Rattle.std.specs.Prelude.{◌≡◌, ◌&&◌, ◌||◌, ℕ, List, cond, false, is_some, true, IfNone, IfSome, OnOk};
 ghost use Rattle.std.specs.BTreeSet as set;
 ghost use Rattle.tcap_record.specs.Ends.{other};
 ghost use Rattle.tcap_end.specs.Table.{octets_cmp};
@@ -116,6 +116,7 @@ impl EndMarks {
     fn first_open<'a>(&self, ids: &'a BTreeSet<TransactionId>) -> Option<TransactionIdView<'a>>
         ensures found { IfSome result (λ id. (known_in self.now id.octets.now).open ≡ true) }
         ensures none { IfNone result (has_open self.now ids.now ≡ false) }
+        ensures exact { is_some result ≡ has_open self.now ids.now }
     {
         for id in ids {
             if self.get(id).open {
@@ -204,6 +205,7 @@ impl BeforeMarks {
     pub fn sent_to<'a>(&self, heading: HeadingView<'a>) -> Option<TransactionIdView<'a>>
         ensures found { IfSome result (λ id. (known_in (by_end (other heading.entry.sender) self.now.a self.now.b) id.octets.now).sent ≡ true) }
         ensures none { IfNone result (is_sent_to self.now (heading_read heading.entry) ≡ false) }
+        ensures exact { is_some result ≡ is_sent_to self.now (heading_read heading.entry) }
     {
         let id = heading.dtid?;
         let marks = self.of(heading.sender.other());
@@ -219,6 +221,7 @@ impl BeforeMarks {
     pub fn in_use(&self, first: HeadingView, gathered: &CompleteDialogue) -> Option<InUse>
         ensures found { IfSome result (λ it. IsInUse (known_in (by_end it.«end» self.now.a self.now.b) it.id)) }
         ensures none { IfNone result (is_in_use self.now (heading_read first.entry) gathered.now ≡ false) }
+        ensures exact { is_some result ≡ is_in_use self.now (heading_read first.entry) gathered.now }
     {
         let (end, id) = if let Some(id) = self.sent_to(first) {
             (first.sender.other(), id)

@@ -1,29 +1,18 @@
-use Rattle.std.proofs.Common.{◌≡◌, ap, ◌∙◌}
-use Rattle.std.specs.Prelude.{is_some}
-use Rattle.tcap_report.specs.Counts.{with_read, with_verdict}
-use Rattle.tcap_report.proofs.TraceLaws.{begins, both_ok, broken_is_judged, whole_is_judged}
+use Rattle.std.proofs.lemmas.Result.{IfOk-weaker}
+use Rattle.tcap_report.proofs.ReadLaws.{counted_once, nothing_read, read_whole}
 use Rattle.tcap_report.proofs.trace.run_trace.Goals as goal
 
-pub returns-in-Ok-clause-judged : goal.returns-in-Ok-clause-judged
-returns-in-Ok-clause-judged g c =
-    let options = c.args.options in
-    let trace = c.read_all.new.self in
-    both_ok c.end_whole.result _ _ _
-    (λ verdict is sum.
-    whole_is_judged options trace (is_some trace.broken_off) verdict c.args.sinks.now.sum.now c.end_whole.new.sinks.sum.now
-    (c.in-Ok.ensures.reads options (begins options c.new-trace.result c.new-trace.ensures.between)) is
-    (sum ∙ ap (λ s. with_verdict verdict (with_read trace.dialogues trace.messages trace.unheard s.now)) c.in-Ok.ensures.same_sum))
-    c.end_whole.ensures.is c.end_whole.ensures.sum
+pub returns-clause-counted : goal.returns-clause-counted
+returns-clause-counted g c =
+    IfOk-weaker c.run.result _ _ (λ verdict answers. counted_once c.args.options _ _ _ _ verdict _ _ answers)
+    (c.run.ensures.answers c.args.options c.new-trace.ensures.reading)
 
-pub returns-in-Err-Form-clause-judged : goal.returns-in-Err-Form-clause-judged
-returns-in-Err-Form-clause-judged g c =
-    let options = c.args.options in
-    let trace = c.judge_after_fault.new.self in
-    both_ok c.end.result _ _ _
-    (λ verdict is sum.
-    broken_is_judged options trace verdict c.args.sinks.now.sum.now c.end.new.sinks.sum.now
-    (c.in_ok-judge_after_fault-in-Err-Form.ensures.stopped options
-    (rw c.in-Err-Form.field-0-is at (c.in-Err-Form.ensures.reads options (begins options c.new-trace.result c.new-trace.ensures.between)))) is
-    (sum ∙ ap (λ s. with_verdict verdict (with_read trace.dialogues trace.messages trace.unheard s.now))
-    (c.in_ok-judge_after_fault-in-Err-Form.ensures.same_sum ∙ c.in-Err-Form.ensures.same_sum)))
-    c.end.ensures.is c.end.ensures.sum
+pub returns-clause-nothing : goal.returns-clause-nothing
+returns-clause-nothing g c = λ none.
+    IfOk-weaker c.run.result _ _ (λ verdict answers. nothing_read c.args.options _ _ _ _ verdict _ _ answers none)
+    (c.run.ensures.answers c.args.options c.new-trace.ensures.reading)
+
+pub returns-clause-all : goal.returns-clause-all
+returns-clause-all g c =
+    IfOk-weaker c.run.result _ _ (λ verdict answers. read_whole c.args.options _ _ _ _ verdict _ _ answers)
+    (c.run.ensures.answers c.args.options c.new-trace.ensures.reading)

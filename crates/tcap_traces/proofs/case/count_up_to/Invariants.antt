@@ -1,5 +1,5 @@
 -- The count so far and that of the rest add up.
-use Rattle.std.proofs.Common.{◌≡◌, ◌+◌, ◌≤◌, ℕ, drop}
+use Rattle.std.proofs.Common.{◌≡◌, ◌+◌, ◌≤◌, drop}
 use Rattle.tcap_traces.specs.Dialogue.{first_after}
 use Rattle.tcap_traces.proofs.case.count_up_to.Given as goal
 

@@ -1,9 +1,9 @@
 -- The entry at the front, and the fault of its element.
 use Rattle.std.specs.Prelude.{Ok}
-use Rattle.std.proofs.Common.{◌≡◌, ◌+◌, arith, sym, ap, ◌∙◌}
+use Rattle.std.proofs.Common.{arith, ap, ◌∙◌}
 use Rattle.tcap_record.specs.RecordOctets.{octet_of}
 use Rattle.tcap_traces.specs.declared.pieces.FormRule.TheVariants.{BadElement}
-use Rattle.tcap_traces.specs.Pieces.{further, stopped}
+use Rattle.tcap_traces.specs.Pieces.{stopped}
 use Rattle.tcap_traces.proofs.PieceLaws.{front_entry, front_fault, letter_of, no_mark, whole_within}
 use Rattle.tcap_traces.proofs.pieces.front_entry.Goals as goal
 

@@ -1,4 +1,4 @@
-use Rattle.std.proofs.Common.{◌≡◌, ◌<◌, ℕ, true, List, [], ◌+◌, ◌∷◌, ◌++◌, arith, drop, length, take, refl, sym, ap, subst, ◌∙◌}
+use Rattle.std.proofs.Common.{◌≡◌, true, ◌+◌, ◌∷◌, ◌++◌, arith, drop, length, take, sym, ap, subst, ◌∙◌}
 use Rattle.std.proofs.Math.Seq.{take-length}
 use Rattle.tcap_record.specs.HexLines.{HasNoNewline}
 use Rattle.tcap_traces.specs.Pieces.{lines_of}

@@ -1,4 +1,4 @@
-use Rattle.std.proofs.Common.{◌≡◌, ◌++◌, sym, ap, subst, ◌∙◌}
+use Rattle.std.proofs.Common.{◌++◌, sym, ap, subst, ◌∙◌}
 use Rattle.tcap_dialogues.specs.Course.{courses_so_far}
 use Rattle.tcap_dialogues.specs.CutDialogues.{AreCompleteDialogues}
 use Rattle.tcap_dialogues.specs.CutState.{IsCut}

@@ -1,14 +1,12 @@
-use Rattle.std.proofs.Common.{refl}
-use Rattle.std.proofs.lemmas.Result.{on_ok_weaker}
-use Rattle.tcap_report.proofs.TraceLaws.{begins, still_within}
+use Rattle.std.proofs.Common.{ℕ, [], Some, ap, refl}
+use Rattle.tcap_report.proofs.EntryLaws.{break_read, directive_read}
 use Rattle.tcap_report.proofs.trace.Trace.take_piece.Goals as goal
 
-pub returns-in-UnderWay-clause-within : goal.returns-in-UnderWay-clause-within
-returns-in-UnderWay-clause-within g c = λ options. still_within options c.args.self.now _ refl refl refl refl refl
+pub returns-in-UnderWay-clause-reading : goal.returns-in-UnderWay-clause-reading
+returns-in-UnderWay-clause-reading g c = λ options s reading.
+    rw c.in-UnderWay.is
+    (directive_read options s c.args.self.now _ reading (ap (λ (n : ℕ). record c.args.self.now { under_way = Some n }) c.unwrap_or.ensures))
 
-pub returns-in-BrokenOff-clause-within : goal.returns-in-BrokenOff-clause-within
-returns-in-BrokenOff-clause-within g c = λ options. still_within options c.args.self.now _ refl refl refl refl refl
-
-pub returns-clause-within : goal.returns-clause-within
-returns-clause-within g c = λ options within.
-    on_ok_weaker c.pass_mark.result (begins options c.pass_mark.new.self) (c.pass_mark.ensures.between options within)
+pub returns-in-BrokenOff-clause-reading : goal.returns-in-BrokenOff-clause-reading
+returns-in-BrokenOff-clause-reading g c = λ options s reading.
+    rw c.in-BrokenOff.is (break_read options s c.args.self.now _ [] reading refl refl)

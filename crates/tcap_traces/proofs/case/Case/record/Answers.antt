@@ -1,7 +1,7 @@
 use Rattle.std.proofs.Common.{rules, ◌≡◌, ◌&&◌, ◌++◌, ◌∷◌, [], append-nil, cond, length, map, min, nat_lt, take, true, false, sym, ap, ◌∙◌}
 use Rattle.std.proofs.lemmas.List.{take_min}
 use Rattle.tcap_traces.specs.Case.{dialogue_in}
-use Rattle.tcap_traces.specs.Dialogue.{entry_of, is_marked, judged_entries, most, quiet_mark}
+use Rattle.tcap_traces.specs.Dialogue.{entry_of, is_marked, most, quiet_mark}
 use Rattle.tcap_traces.proofs.case.Case.record.Goals as goal
 use Rattle.tcap_traces.proofs.case.Case.record.Goals.{then-has_judged_mark+in_ok-push, else-has_judged_mark}
 

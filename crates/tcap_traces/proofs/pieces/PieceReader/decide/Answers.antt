@@ -1,4 +1,4 @@
-use Rattle.std.proofs.Common.{◌≡◌, ◌++◌, cond, length, sym, ap, ◌∙◌}
+use Rattle.std.proofs.Common.{◌++◌, cond, length, sym, ap, ◌∙◌}
 use Rattle.tcap_traces.specs.Pieces.{frames_from, lines_of, pieces_in}
 use Rattle.tcap_traces.specs.PieceReader.{is_record_as, rest}
 use Rattle.tcap_traces.proofs.pieces.PieceReader.decide.Goals as goal

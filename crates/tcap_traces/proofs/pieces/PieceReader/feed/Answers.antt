@@ -1,5 +1,5 @@
 -- The octets that belong to no piece are moved to the front, and the new ones come after them.
-use Rattle.std.proofs.Common.{◌≡◌, ◌++◌, ◌-◌, ◌≤◌, List, arith, drop, length, min, take, sym, ap, rules, ◌∙◌}
+use Rattle.std.proofs.Common.{◌≡◌, ◌++◌, ◌-◌, ◌≤◌, arith, drop, length, min, take, ap, rules, ◌∙◌}
 use Rattle.std.specs.List.{copy_within}
 use Rattle.std.proofs.lemmas.List.{append_assoc, drop_min}
 use Rattle.std.proofs.lemmas.Result.{on_ok_weaker}

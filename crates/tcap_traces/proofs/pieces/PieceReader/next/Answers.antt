@@ -1,4 +1,3 @@
-use Rattle.std.proofs.Common.{◌≡◌}
 use Rattle.tcap_traces.proofs.ReaderLaws.{returns_before}
 use Rattle.tcap_traces.proofs.pieces.PieceReader.next.Goals as goal
 

@@ -1,7 +1,6 @@
-use Rattle.std.proofs.Common.{◌≡◌, ◌≤◌, [], ◌++◌, arith, drop, length, refl, sym, ap, ◌∙◌}
+use Rattle.std.proofs.Common.{◌≡◌, [], ◌++◌, arith, drop, length, sym, ap, ◌∙◌}
 use Rattle.std.proofs.lemmas.List.{length-drop}
 use Rattle.std.proofs.lemmas.Result.{err_from_is_err_and}
-use Rattle.tcap_record.specs.HexLines.{line_limit}
 use Rattle.tcap_traces.specs.Directive.{statement_of}
 use Rattle.tcap_traces.specs.Pieces.{Comment, Directive, Line, Stated, after, further, lines_of, meaning_of, pieces_in, with_directive}
 use Rattle.tcap_traces.specs.PieceReader.{line_as, rest}

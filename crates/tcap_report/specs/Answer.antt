@@ -1,0 +1,53 @@
+-- Which report does a trace get, given the octets that its reader returns?
+use Rattle.std.specs.Prelude.{◌≡◌, ◌⊎◌, ◌≤◌, ◌-◌, ◌^◌, ℕ, List, [], ◌++◌, length, map, None, Some, Option}
+use Rattle.std.specs.Io.KnownBytes.{Consumes, IsAtEnd}
+use Rattle.tcap_ber.specs.Device.{one_more}
+use Rattle.tcap_traces.specs.declared.pieces.FormRule.{FormRule}
+use Rattle.tcap_traces.specs.declared.verdict.Verdict.{Verdict}
+use Rattle.tcap_traces.specs.JudgedTrace.{JudgedTrace, judged_pieces, judged_trace, verdict_on}
+use Rattle.tcap_traces.specs.Pieces.{Piece, Pieces, pieces_of, stopped}
+use Rattle.tcap_report.specs.declared.sum.Sum.{Sum}
+use Rattle.tcap_report.specs.declared.trace.TraceOptions.{TraceOptions}
+use Rattle.tcap_report.specs.Counts.{with_read, with_verdict}
+use Rattle.tcap_report.specs.KeptState.{asked_of, counts_of}
+
+-- these pieces, and then the rest
+abbrev pub with_front : List Piece → Pieces → Pieces
+with_front ps rest = record { pieces = ps ++ rest.pieces; fault = rest.fault }
+
+-- P holds no matter which octets the reader may still return: none if it has no more.
+abbrev pub WhateverFollows : Option (List ℕ) → (List ℕ → Type 0) → Type 0
+WhateverFollows remaining P = (more : List ℕ) → (IsAtEnd remaining → more ≡ []) → P more
+
+-- The form of a trace that begins with these octets has a fault after the pieces `ps`.
+abbrev pub Breaks : Option (List ℕ) → List ℕ → List Piece → Type 0
+Breaks remaining read ps = (rule : FormRule) × WhateverFollows remaining (λ more. pieces_of (read ++ more) ≡ with_front ps (stopped rule))
+
+-- The trace could not be read further after these octets: the reader failed, or they or their pieces are 2 ^ 64 - 1 or
+-- more. The pieces `ps` are a beginning of the pieces of the trace.
+abbrev pub IsCutShort : Option (List ℕ) → ℕ → ℕ → List ℕ → List Piece → Type 0
+IsCutShort remaining failures failures' read ps =
+    ((failures' ≡ one_more failures) ⊎ (2 ^ 64 - 1 ≤ length read) ⊎ (2 ^ 64 - 1 ≤ length ps))
+    × WhateverFollows remaining (λ more. (rest : Pieces) × (pieces_of (read ++ more) ≡ with_front ps rest))
+
+-- This verdict was returned, and the sum gained what the report says: the verdict on each dialogue, the number of
+-- entries, and the verdict on the trace. `unheard` of its dialogues pass unheard or unanswered.
+pub record IsReported (options : TraceOptions) (report : JudgedTrace) (verdict : Verdict) (before after : Sum) : Type 0 where
+  pub unheard : ℕ
+  pub is : verdict ≡ report.verdict
+  pub sum : after ≡ with_verdict verdict (with_read (counts_of (map (verdict_on (asked_of options)) report.dialogues)) report.messages unheard before)
+
+-- The report on a trace. `read` are the octets that its reader returned.
+-- All octets of the trace were returned, and the report is that of `judged_trace`. Or the form of the trace has a fault,
+-- and the report is that of `judged_trace`, no matter which octets follow. Or the trace could not be read further, and
+-- the report is that on the pieces so far and a fault after them.
+pub record Answers (options : TraceOptions) (remaining remaining' : Option (List ℕ)) (failures failures' : ℕ) (verdict : Verdict)
+    (before after : Sum) : Type 0 where
+  pub read : List ℕ
+  pub those : Consumes remaining remaining' read
+  pub is : (IsAtEnd remaining' × (failures' ≡ failures) × ((pieces_of read).fault ≡ None)
+      × IsReported options (judged_trace (asked_of options) read) verdict before after)
+      ⊎ ((ps : List Piece) × Breaks remaining' read ps × WhateverFollows remaining' (λ more.
+      IsReported options (judged_trace (asked_of options) (read ++ more)) verdict before after))
+      ⊎ ((ps : List Piece) × IsCutShort remaining' failures failures' read ps × (rule : FormRule)
+      × IsReported options (judged_pieces (asked_of options) (record { pieces = ps; fault = Some rule })) verdict before after)
