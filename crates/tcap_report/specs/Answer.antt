@@ -1,4 +1,4 @@
--- Which report does a trace get, given the octets that its reader returns?
+-- Which verdict and counts does a trace get, given the octets that its reader returns?
 use Rattle.std.specs.Prelude.{◌≡◌, ◌⊎◌, ◌≤◌, ◌-◌, ◌^◌, ℕ, List, [], ◌++◌, length, map, None, Some, Option}
 use Rattle.std.specs.Io.KnownBytes.{Consumes, IsAtEnd}
 use Rattle.tcap_ber.specs.Device.{one_more}
@@ -15,7 +15,7 @@ use Rattle.tcap_report.specs.KeptState.{asked_of, counts_of}
 abbrev pub with_front : List Piece → Pieces → Pieces
 with_front ps rest = record { pieces = ps ++ rest.pieces; fault = rest.fault }
 
--- P holds no matter which octets the reader may still return: none if it has no more.
+-- P holds for all octets that may follow. None follow if the reader is at its end, or if its octets are not known.
 abbrev pub WhateverFollows : Option (List ℕ) → (List ℕ → Type 0) → Type 0
 WhateverFollows remaining P = (more : List ℕ) → (IsAtEnd remaining → more ≡ []) → P more
 
@@ -23,24 +23,24 @@ WhateverFollows remaining P = (more : List ℕ) → (IsAtEnd remaining → more 
 abbrev pub Breaks : Option (List ℕ) → List ℕ → List Piece → Type 0
 Breaks remaining read ps = (rule : FormRule) × WhateverFollows remaining (λ more. pieces_of (read ++ more) ≡ with_front ps (stopped rule))
 
--- The trace could not be read further after these octets: the reader failed, or they or their pieces are 2 ^ 64 - 1 or
--- more. The pieces `ps` are a beginning of the pieces of the trace.
+-- The reading may stop after these octets: the reader failed once, or it returned 2 ^ 64 - 1 octets or pieces, or more.
+-- `ps` are first pieces of the trace, maybe not all that were read.
 abbrev pub IsCutShort : Option (List ℕ) → ℕ → ℕ → List ℕ → List Piece → Type 0
 IsCutShort remaining failures failures' read ps =
     ((failures' ≡ one_more failures) ⊎ (2 ^ 64 - 1 ≤ length read) ⊎ (2 ^ 64 - 1 ≤ length ps))
     × WhateverFollows remaining (λ more. (rest : Pieces) × (pieces_of (read ++ more) ≡ with_front ps rest))
 
--- This verdict was returned, and the sum gained what the report says: the verdict on each dialogue, the number of
--- entries, and the verdict on the trace. `unheard` of its dialogues pass unheard or unanswered.
+-- This verdict was returned, and the sum gained the verdict on each reported dialogue, the number of entries, and the
+-- verdict on the trace. `unheard` is any number.
 pub record IsReported (options : TraceOptions) (report : JudgedTrace) (verdict : Verdict) (before after : Sum) : Type 0 where
   pub unheard : ℕ
   pub is : verdict ≡ report.verdict
   pub sum : after ≡ with_verdict verdict (with_read (counts_of (map (verdict_on (asked_of options)) report.dialogues)) report.messages unheard before)
 
--- The report on a trace. `read` are the octets that its reader returned.
--- All octets of the trace were returned, and the report is that of `judged_trace`. Or the form of the trace has a fault,
--- and the report is that of `judged_trace`, no matter which octets follow. Or the trace could not be read further, and
--- the report is that on the pieces so far and a fault after them.
+-- `read` are the octets that the reader returned, or any octets if these are not known. Either they are the whole trace,
+-- no read failed, the form has no fault, and the report is that of `judged_trace`. Or the form has a fault, and the report
+-- is that of `judged_trace`, no matter which octets follow. Or the reading stopped early, and the report is that on first
+-- pieces of the trace and a fault after them.
 pub record Answers (options : TraceOptions) (remaining remaining' : Option (List ℕ)) (failures failures' : ℕ) (verdict : Verdict)
     (before after : Sum) : Type 0 where
   pub read : List ℕ

@@ -49,12 +49,12 @@ courses_at options s = courses_so_far options.reuse (headings_of s)
 abbrev pub dialogue_at : State → Course → Dialogue
 dialogue_at s d = dialogue_of s.before s.segment d
 
--- those of these dialogues that are reported, judged
+-- these dialogues, judged, without those that are not reported
 abbrev pub reported_of : TraceOptions → State → List Course → List JudgedDialogue
 reported_of options s ds =
     filter (is_reported (asked_of options)) (map (λ d. judged (asked_of options) s.count (dialogue_at s d)) ds)
 
--- the state of a trace whose segment has this after it
+-- the state of a trace if this comes after its segment
 abbrev pub before_item : After → State → State
 before_item end s = record s { segment = record s.segment { end = end } }
 
@@ -65,7 +65,7 @@ no_id id = false
 -- ---- what is kept
 
 -- What is kept of a trace in state `s`. Of the segment, the dialogues `done` were judged, and the entries of those in
--- `waiting` are held. `names` is true for the IDs that are noted as sent from by their owner.
+-- `waiting` are held. `names` is true for the IDs that are noted as sent from in this segment by their owner.
 pub record Keeps (options : TraceOptions) (s : State) (done waiting : List Course) (names : IdOf → Bool) (t : Trace) : Type 0 where
   pub asks : t.options ≡ options
   -- The verdicts so far are counted.
@@ -76,20 +76,20 @@ pub record Keeps (options : TraceOptions) (s : State) (done waiting : List Cours
   pub under_way : t.under_way ≡ s.segment.under_way
   -- The entries of the dialogues that wait are held by their numbers.
   pub held : (n : ℕ) → list_any (λ d. has_entry d n) waiting ≡ true → tree.get nat_cmp t.held n ≡ slice_get s.segment.entries n
-  -- It is noted which IDs are in use.
+  -- The notes on IDs are those of the earlier segments and of the dialogues `done`.
   pub marks : AreMarked s.before.sent s.before.open (λ d. may_go_on (dialogue_at s d)) names done t.marks
-  -- The unreadable entries are noted. `begun`: a dialogue with IDs begins with the entry with this number.
+  -- The unreadable entries are noted. `begun`: a dialogue with IDs began with the entry with this number.
   pub begun : ℕ → Bool
   pub noted : AreNoted (headings_of s) begun (notes_in t.unread)
   pub tracked : AreTracked options.reuse (headings_of s) begun
 
--- The segment is divided into its dialogues so far. Those that are done were judged.
+-- What is kept between two pieces: the dialogues that are done were judged, and the live ones wait.
 pub record IsAt (options : TraceOptions) (s : State) (names : IdOf → Bool) (t : Trace) : Type 0 where
   pub keeps : Keeps options s (courses_at options s).done (courses_at options s).live names t
   pub cut : IsCut options.reuse (headings_of s) t.cut
   pub count : t.count ≡ length s.segment.entries
 
--- the same, while entries may follow
+-- the same, while no ID of the segment is noted as sent from
 abbrev pub IsReading : TraceOptions → State → Trace → Type 0
 IsReading options s t = IsAt options s no_id t
 

@@ -1,4 +1,4 @@
--- What does a trace note of a dialogue?
+-- What is asked of a dialogue, and does it seem to continue one from before its segment?
 use Rattle.std.specs.Prelude.{Bool, false, ◌&&◌, not, Option, Some, None, is_some}
 use Rattle.tcap_dialogues.specs.Course.{Heading}
 use Rattle.tcap_dialogues.specs.declared.complete_dialogue.CompleteDialogue.{CompleteDialogue}
@@ -12,7 +12,7 @@ abbrev pub question_by : Rules → Question
 question_by rules = record { of = rules.of; settled = rules.settled; complete = rules.complete }
 
 -- Whether a gathered dialogue seems to continue one from before the quiet mark before its segment, given the heading of
--- its first entry. It does not if an earlier dialogue of the segment has one of its IDs.
+-- its first entry. It does not if an earlier dialogue of the segment had one of its IDs.
 abbrev pub is_in_use_by : BeforeMarks → CompleteDialogue → Option Heading → Bool
 is_in_use_by marks g None = false
 is_in_use_by marks g (Some first) = not (is_some g.earlier) && is_in_use marks first g

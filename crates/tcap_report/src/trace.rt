@@ -50,7 +50,7 @@ pub struct TraceOptions<'a> {
     pub reuse: Reuse,
     /// True if none of a dialogue's messages is in transit when one of its IDs is used again.
     pub settled: bool,
-    /// True if a dialogue that is open at the end of the trace, or at a quiet mark, is inconclusive.
+    /// True if a dialogue that is open at the end of the trace, or at a quiet mark, does not pass, but is inconclusive.
     pub complete: bool,
     /// The operation tables.
     pub book: &'a Book,
