@@ -14,6 +14,7 @@ mod traces;
 ghost use Rattle.std.specs.Prelude.{◌≡◌, ◌≢◌, ◌<◌, length, Option, None, Some};
 ghost use Rattle.tcap_record.specs.declared.entry.End.{End as Side};
 ghost use Rattle.tcap_c.specs.InMemory.{AreRight, Gives, GivesBlame, IsRight, IsWrongCall, MayBeSentBy, SaysChecked, SaysJudged, judged_by};
+ghost use Rattle.tcap_c.specs.declared.options.Rules.{Rules};
 ghost use Rattle.tcap_c.specs.Traces.{IsClearBook, WritesReport, WritesNothing, rules_of};
 
 use crate::options::end_of_number;
@@ -145,7 +146,8 @@ pub extern "C" fn tcapjudge_test(
     lines: &mut [u8],
     len: &mut usize,
 ) -> u8
-    ensures tells { rules_of asked.now ≢ None → WritesReport lines.old lines.new len.new result }
+    ensures tells { (rules : Rules) → rules_of asked.now ≡ Some rules
+        → WritesReport trace.now book.now rules lines.old lines.new len.new result }
     ensures book { rules_of asked.now ≢ None → result ≢ 3 → 0 < length book.now → IsClearBook book.now }
     ensures wrong { rules_of asked.now ≡ None → WritesNothing lines.old lines.new len.new result }
 {

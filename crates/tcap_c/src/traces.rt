@@ -1,10 +1,13 @@
 //! Judges a trace in memory.
 
-ghost use Rattle.std.specs.Prelude.{◌≡◌, ◌≢◌, ◌<◌, length, Some, None, IfOk, IsErr, MatchResult};
+ghost use Rattle.std.specs.Prelude.{◌≡◌, ◌≢◌, ◌⊎◌, ◌<◌, length, Some, None, Ok, IfOk, IsErr, MatchResult};
+ghost use Rattle.tcap_books.specs.BookText.{IsBookOf};
 ghost use Rattle.tcap_traces.specs.declared.verdict.Verdict.TheVariants as Verdict;
 ghost use Rattle.tcap_traces.specs.Verdict.{status_of};
 ghost use Rattle.tcap_ber.specs.Device.{CountsFailure, Takes};
-ghost use Rattle.tcap_c.specs.Traces.{IsClearBook, WritesReport};
+ghost use Rattle.tcap_traces.specs.JudgedTrace.{judged_trace};
+ghost use Rattle.tcap_report.specs.KeptState.{asked_of};
+ghost use Rattle.tcap_c.specs.Traces.{IsClearBook, IsVerdictOn, WritesReport, asked_for};
 
 use crate::caller_buffer::copy_to_front;
 use crate::octets::Octets;
@@ -45,7 +48,8 @@ impl Write for NoText {
 /// Reads a table set, or the carried set if the text is empty. Returns the fault if it has one, in words, and
 /// `AllocError` if memory runs out.
 fn book_of(alloc: Global, text: &[u8]) -> Result<Result<Book, String>, AllocError>
-    ensures { IfOk result (λ found. IfOk found (λ _. 0 < length text.now → IsClearBook text.now)) }
+    ensures tables { IfOk result (λ found. IfOk found (λ tables. 0 < length text.now → IsBookOf text.now (Ok tables))) }
+    ensures clear { IfOk result (λ found. IfOk found (λ _. 0 < length text.now → IsClearBook text.now)) }
 {
     let text = if text.is_empty() {
         CARRIED_BOOK.as_bytes()
@@ -75,7 +79,9 @@ fn write_lines(
     asked: TraceOptions,
     lines: &mut Lines,
 ) -> Result<Verdict, Stop>
-    ensures { IsErr trace.entry → IfOk result (λ verdict. verdict ≡ Verdict.Error) }
+    ensures means { IfOk trace.entry (λ octets. IfOk result (λ verdict. (verdict ≡ Verdict.Error)
+        ⊎ (verdict ≡ (judged_trace (asked_of asked.entry) octets.now).verdict))) }
+    ensures unread { IsErr trace.entry → IfOk result (λ verdict. verdict ≡ Verdict.Error) }
 {
     let (mut text, mut watch, mut sum) = (NoText, NoWatch, Sum::new());
     let mut sinks = Sinks {
@@ -97,11 +103,7 @@ fn write_lines(
 
 /// Returns the options for a trace, with the tables of `book`.
 fn asked_by(rules: Rules, book: &Book) -> TraceOptions<'_>
-    ensures of { result.of ≡ rules.of }
-    ensures reuse { result.reuse ≡ rules.reuse }
-    ensures settled { result.settled ≡ rules.settled }
-    ensures complete { result.complete ≡ rules.complete }
-    ensures book { result.book.now ≡ book.now }
+    ensures { asked_of result ≡ asked_for rules book.now }
 {
     TraceOptions {
         name: NAME,
@@ -120,7 +122,8 @@ fn lines_of(
     book: &[u8],
     rules: Rules,
 ) -> Result<(Vec<u8>, Verdict), Stop>
-    ensures { IfOk result (λ said. said.1 ≢ Verdict.Error → 0 < length book.now → IsClearBook book.now) }
+    ensures means { IfOk result (λ said. IsVerdictOn trace.now book.now rules said.1) }
+    ensures clear { IfOk result (λ said. said.1 ≢ Verdict.Error → 0 < length book.now → IsClearBook book.now) }
 {
     let mut lines = Counted::new(Vec::new(alloc));
     let verdict = match book_of(alloc, book)? {
@@ -145,7 +148,7 @@ pub(crate) fn test(
     room: &mut [u8],
     len: &mut usize,
 ) -> u8
-    ensures tells { WritesReport room.old room.new len.new result }
+    ensures tells { WritesReport trace.now book.now rules room.old room.new len.new result }
     ensures book { result ≢ 3 → 0 < length book.now → IsClearBook book.now }
 {
     match lines_of(alloc, trace, book, rules) {
