@@ -93,12 +93,12 @@ judged_lawful : (judged : Option Side) (octets text : List ℕ) (outcome : Outco
 judged_lawful judged octets text outcome says fine = by says.given.0 says.given.1 says.given.2
   where
     by : (given : Result Table Outcome) → ReadsTable (in_memory text says.left_of_text) given
-        → GivesVerdictWith judged given false (in_memory octets says.left) outcome says.behind
+        → GivesVerdictWith judged given false (in_memory octets says.left) outcome says.after
         → MayBeSentBy judged octets text
     by (Err said) reads gives =
         absurd (fine_fault outcome said gives.0 (table_fault (in_memory text says.left_of_text) said reads) fine)
     by (Ok operations) reads gives =
-        let (found, behind) = lawful_record judged operations false (in_memory octets says.left) outcome says.behind gives fine
+        let (found, after) = lawful_record judged operations false (in_memory octets says.left) outcome says.after gives fine
         in may_be_sent judged octets text says.left says.left_of_text operations outcome reads found
 
 judged_refuted : (judged : Option Side) → NamesRightly judged → (octets text : List ℕ) (r : Refutation)
@@ -106,14 +106,14 @@ judged_refuted : (judged : Option Side) → NamesRightly judged → (octets text
 judged_refuted judged rightly octets text r says = by says.given.0 says.given.1 says.given.2
   where
     by : (given : Result Table Outcome) → ReadsTable (in_memory text says.left_of_text) given
-        → GivesVerdictWith judged given false (in_memory octets says.left) (Refuted r) says.behind
+        → GivesVerdictWith judged given false (in_memory octets says.left) (Refuted r) says.after
         → IsAtFaultIn judged octets text (refutation_answer 1 r)
     by (Err said) reads gives =
         let bad : statuses.Refuted ≡ statuses.Fault =
         no_fault (Refuted r) said statuses.Refuted gives.0 (table_fault (in_memory text says.left_of_text) said reads) refl
         in cc
     by (Ok operations) reads gives =
-        let (named, none) = refuted_record judged operations false (in_memory octets says.left) r says.behind gives in
+        let (named, none) = refuted_record judged operations false (in_memory octets says.left) r says.after gives in
         is_at_fault judged octets text says.left says.left_of_text operations named.entries named.end r
         (refutation_answer 1 r) reads named.reads (rightly operations named.entries r named.named) refl refl
 
@@ -186,11 +186,11 @@ told_right rightly octets text left left_of_text operations entries end outcome 
     judged end read is = judged_right None rightly octets text outcome (record {
       left = left;
       left_of_text = left_of_text;
-      behind = certificate_line None false entries outcome;
+      after = certificate_line None false entries outcome;
       given = (
         Ok operations,
         reads,
-        inr (record { entries = entries; end = end; reads = read; says = is; behind_is = refl; shown = shown }),
+        inr (record { entries = entries; end = end; reads = read; says = is; after_is = refl; shown = shown }),
       );
     })
 
@@ -220,13 +220,13 @@ both_right rightly octets text outcome ends says = by says.given.0 says.given.1 
     by (Err said) reads (is, none, untouched) = judged_right None rightly octets text outcome (record {
       left = says.left;
       left_of_text = says.left_of_text;
-      behind = [];
+      after = [];
       given = (Err said, reads, (is, refl, untouched));
     })
     by (Ok operations) reads (inl (is, none)) = judged_right None rightly octets text outcome (record {
       left = says.left;
       left_of_text = says.left_of_text;
-      behind = [];
+      after = [];
       given = (Ok operations, reads, inl (is, refl));
     })
     by (Ok operations) reads (inr returned) =

@@ -44,8 +44,8 @@ in_memory octets left = record { before = Some octets; after = Some left; failed
 pub record SaysJudged (judged : Option Side) (octets text : List ℕ) (outcome : Outcome) : Type 0 where
   pub left : List ℕ
   pub left_of_text : List ℕ
-  pub behind : List ℕ
-  pub given : IsJudged judged false (in_memory octets left) (in_memory text left_of_text) outcome behind
+  pub after : List ℕ
+  pub given : IsJudged judged false (in_memory octets left) (in_memory text left_of_text) outcome after
 
 -- the outcome of `check` for a record, a table and a certificate
 pub record SaysChecked (judged : Option Side) (octets text certificate : List ℕ) (outcome : Outcome) : Type 0 where

@@ -27,7 +27,7 @@ trait Piece: Sized + Drop {
 }
 
 /// Returns the octets after a text with which they begin.
-fn behind<'o>(octets: &'o [u8], text: &[u8]) -> Option<&'o [u8]>
+fn after<'o>(octets: &'o [u8], text: &[u8]) -> Option<&'o [u8]>
     ensures { IfSome result (λ rest. octets.now ≡ text.now ++ rest.now) }
 {
     octets.strip_prefix(text)
@@ -64,11 +64,11 @@ fn read_number(octets: &[u8]) -> Option<(u32, &[u8])>
 }
 
 /// Reads this text and a number from the front of the octets, and returns the number with the rest.
-fn number_behind<'o>(octets: &'o [u8], text: &[u8]) -> Option<(u32, &'o [u8])>
+fn number_after<'o>(octets: &'o [u8], text: &[u8]) -> Option<(u32, &'o [u8])>
     ensures text { IfSome result (λ x. octets.now ≡ text.now ++ (decimal x.0 ++ x.1.now)) }
     ensures fits { IfSome result (λ x. x.0 ≤ number_limit) }
 {
-    read_number(behind(octets, text)?)
+    read_number(after(octets, text)?)
 }
 
 /// Reads the letter of an end, in quotes, from the front of the octets, and returns the end with the rest.
@@ -76,10 +76,10 @@ fn number_behind<'o>(octets: &'o [u8], text: &[u8]) -> Option<(u32, &'o [u8])>
 fn read_side(octets: &[u8]) -> Option<(End, &[u8])>
     ensures { IfSome result (λ x. octets.now ≡ compact_text (side_data x.0) ++ x.1.now) }
 {
-    if let Some(rest) = behind(octets, b"\"A\"") {
+    if let Some(rest) = after(octets, b"\"A\"") {
         return Some((End::A, rest));
     }
-    let rest = behind(octets, b"\"B\"")?;
+    let rest = after(octets, b"\"B\"")?;
     Some((End::B, rest))
 }
 
@@ -89,7 +89,7 @@ fn read_lost(octets: &[u8]) -> Option<(Fate, &[u8])>
     ensures text { IfSome result (λ x. octets.now ≡ compact_text (fate_data x.0) ++ x.1.now) }
     ensures fits { IfSome result (λ x. FateFits x.0) }
 {
-    let rest = behind(octets, b"\"lost\"")?;
+    let rest = after(octets, b"\"lost\"")?;
     Some((Fate::Lost, rest))
 }
 
@@ -99,8 +99,8 @@ fn read_by(octets: &[u8]) -> Option<(Fate, &[u8])>
     ensures text { IfSome result (λ x. octets.now ≡ compact_text (fate_data x.0) ++ x.1.now) }
     ensures fits { IfSome result (λ x. FateFits x.0) }
 {
-    let (reply, rest) = number_behind(octets, b"{\"by\":")?;
-    let rest = behind(rest, b"}")?;
+    let (reply, rest) = number_after(octets, b"{\"by\":")?;
+    let rest = after(rest, b"}")?;
     Some((Fate::By(reply), rest))
 }
 
@@ -128,10 +128,10 @@ impl Piece for Closing {
 
     #[tactic(auto, unfolding(json::specs::Print::escape_byte))]
     fn read(octets: &[u8]) -> Option<(Closing, &[u8])> {
-        let (gap, rest) = number_behind(octets, b"{\"at\":")?;
-        let (side, rest) = read_side(behind(rest, b",\"end\":")?)?;
-        let (entry, rest) = number_behind(rest, b",\"entry\":")?;
-        let rest = behind(rest, b"}")?;
+        let (gap, rest) = number_after(octets, b"{\"at\":")?;
+        let (side, rest) = read_side(after(rest, b",\"end\":")?)?;
+        let (entry, rest) = number_after(rest, b",\"entry\":")?;
+        let rest = after(rest, b"}")?;
         Some((Closing { gap, side, entry }, rest))
     }
 }
@@ -143,11 +143,11 @@ impl Piece for Expiry {
 
     #[tactic(auto, unfolding(json::specs::Print::escape_byte))]
     fn read(octets: &[u8]) -> Option<(Expiry, &[u8])> {
-        let (gap, rest) = number_behind(octets, b"{\"at\":")?;
-        let (component, rest) = number_behind(rest, b",\"component\":")?;
-        let (side, rest) = read_side(behind(rest, b",\"end\":")?)?;
-        let (entry, rest) = number_behind(rest, b",\"entry\":")?;
-        let rest = behind(rest, b"}")?;
+        let (gap, rest) = number_after(octets, b"{\"at\":")?;
+        let (component, rest) = number_after(rest, b",\"component\":")?;
+        let (side, rest) = read_side(after(rest, b",\"end\":")?)?;
+        let (entry, rest) = number_after(rest, b",\"entry\":")?;
+        let rest = after(rest, b"}")?;
         let expiry = Expiry {
             gap,
             component,
@@ -165,10 +165,10 @@ fn read_list<T: Piece>(alloc: Global, octets: &[u8]) -> Result<Option<(Vec<T>, &
     ensures fits { IfOk result (λ found. IfSome found (λ x. AllByRecursion T.piece_fits x.0.items)) }
 {
     let mut parts = Vec::new(alloc);
-    let Some(mut left) = behind(octets, b"[") else {
+    let Some(mut left) = after(octets, b"[") else {
         return Ok(None);
     };
-    if let Some(rest) = behind(left, b"]") {
+    if let Some(rest) = after(left, b"]") {
         return Ok(Some((parts, rest)));
     }
     loop {
@@ -186,7 +186,7 @@ fn read_list<T: Piece>(alloc: Global, octets: &[u8]) -> Result<Option<(Vec<T>, &
 
 /// Reads this text and a list of items from the front of the octets, and returns the list with the rest. Fails if
 /// memory runs out.
-fn list_behind<'o, T: Piece>(
+fn list_after<'o, T: Piece>(
     alloc: Global,
     octets: &'o [u8],
     text: &[u8],
@@ -195,7 +195,7 @@ fn list_behind<'o, T: Piece>(
         (λ x. octets.now ≡ text.now ++ (compact_text (list_data T.piece_data x.0.items) ++ x.1.now))) }
     ensures fits { IfOk result (λ found. IfSome found (λ x. AllByRecursion T.piece_fits x.0.items)) }
 {
-    match behind(octets, text) {
+    match after(octets, text) {
         Some(list) => read_list(alloc, list),
         None => Ok(None),
     }
@@ -213,13 +213,13 @@ fn is_end(octets: &[u8]) -> bool
 pub(crate) fn read_compact(alloc: Global, octets: &[u8]) -> Result<Option<Certificate>, AllocError>
     ensures { IfOk result (λ found. IfSome found (λ c. IsCertificateText octets.now c)) }
 {
-    let Some((close, rest)) = list_behind(alloc, octets, b"{\"close\":")? else {
+    let Some((close, rest)) = list_after(alloc, octets, b"{\"close\":")? else {
         return Ok(None);
     };
-    let Some((expire, rest)) = list_behind(alloc, rest, b",\"expire\":")? else {
+    let Some((expire, rest)) = list_after(alloc, rest, b",\"expire\":")? else {
         return Ok(None);
     };
-    let Some((fates, rest)) = list_behind(alloc, rest, b",\"fates\":")? else {
+    let Some((fates, rest)) = list_after(alloc, rest, b",\"fates\":")? else {
         return Ok(None);
     };
     if fates.len() > FATES_LIMIT || !is_end(rest) {

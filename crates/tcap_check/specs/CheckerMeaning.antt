@@ -14,7 +14,7 @@ use Rattle.tcap_model.specs.declared.reason.Reason.{Reason}
 use Rattle.tcap_model.specs.declared.reason.Reason.TheVariants.{BadMessage, FateCount, FateRange, OutOfOrder}
 use Rattle.tcap_check.specs.declared.outline.Outline.{Outline}
 use Rattle.tcap_check.specs.declared.progress.Progress.{Progress}
-use Rattle.tcap_check.specs.declared.progress.Seat.{Seat}
+use Rattle.tcap_check.specs.declared.progress.SideState.{SideState}
 use Rattle.tcap_check.specs.declared.progress.Waiting.{Waiting}
 use Rattle.tcap_check.specs.declared.checker.Report.{Report}
 use Rattle.tcap_record.specs.Ends.{other}
@@ -25,7 +25,7 @@ use Rattle.tcap_certificate.specs.DescribedRun.{taken_by}
 use Rattle.tcap_check.specs.ReplaySteps.{gap_kept, mark_taken, message_taken, sent_among}
 use Rattle.tcap_check.specs.EntryOutlines.{is_named, outline_of, outlines_from, since_from}
 pub use Rattle.tcap_check.specs.Progress.{map_ok}
-use Rattle.tcap_check.specs.Progress.{count_kept, greater, last_lost, overtakes, seat_at, time_or_zero}
+use Rattle.tcap_check.specs.Progress.{count_kept, greater, last_lost, overtakes, side_at, time_or_zero}
 use Rattle.tcap_certificate.specs.Replay.{Replay, certificate_fits, entry_by, fault_at, gap_by, is_gap, is_received_from, next_entry, nothing_replayed, refused}
 use Rattle.tcap_check.specs.ReportedSteps.{listed_run_if}
 use Rattle.tcap_certificate.specs.LossCounts.{steps_of, unheard_of}
@@ -90,8 +90,8 @@ abbrev pub latest_at : Option Side → Side → List Fate → List Item → ℕ
 latest_at judged side fates items = cond (is_alone judged side) 0 (latest_of side fates items)
 
 -- what is kept of an end and of the messages on their way from it
-abbrev pub seat_of : Option Side → Certificate → Side → Replay → Seat
-seat_of judged c side r = record {
+abbrev pub side_of : Option Side → Certificate → Side → Replay → SideState
+side_of judged c side r = record {
   end = end_at side r.world;
   waiting = waiting_at judged side c.fates (channel_from side r.world);
   latest = latest_at judged side c.fates r.world.sent;
@@ -105,8 +105,8 @@ reported (Some judged) events = record { moves = steps_of judged events; unheard
 -- both ends, the messages on their way, the counts, and, if they are listed, the steps
 abbrev pub progress_of : Bool → Option Side → Certificate → Replay → Progress
 progress_of listed judged c r = record {
-  a = seat_of judged c sides.A r;
-  b = seat_of judged c sides.B r;
+  a = side_of judged c sides.A r;
+  b = side_of judged c sides.B r;
   moves = (reported judged r.events).moves;
   unheard = (reported judged r.events).unheard;
   steps = listed_run_if listed r.events r.discards;
@@ -176,7 +176,7 @@ tied_now (Some judged) c k = sent_among (other judged) k.entries (taken_by (leng
 -- the progress after the next entry, with this fate, and the gap before it
 abbrev pub item_kept : Option Side → Table → Certificate → Fate → Item → ReplayState → Result Progress CheckFault
 item_kept judged table c fate (Sent side message) k =
-    needs (is_alone judged side || not (overtakes fate (seat_at side k.progress))) (fault_at OutOfOrder (length k.entries))
+    needs (is_alone judged side || not (overtakes fate (side_at side k.progress))) (fault_at OutOfOrder (length k.entries))
     >> gap_before judged table c k
     >>= message_taken judged table side fate (length k.entries) message (tied_now judged c k)
 item_kept judged table c fate Item.Quiet k =
@@ -213,7 +213,7 @@ report_of p = record { moves = p.moves; unheard = p.unheard }
 -- the count of kept messages on their way to a judged end
 abbrev pub count_waiting : Option Side → Progress → ℕ
 count_waiting None p = count_kept p.a.waiting + count_kept p.b.waiting
-count_waiting (Some judged) p = count_kept (seat_at (other judged) p).waiting
+count_waiting (Some judged) p = count_kept (side_at (other judged) p).waiting
 
 -- whether a message is delivered in a gap, or taken by an entry, of this number or later
 abbrev pub is_ahead : ℕ → Fate → Bool

@@ -25,7 +25,7 @@ use Rattle.tcap_check.specs.declared.listed_steps.ListedStep.{ListedStep}
 use Rattle.tcap_check.specs.declared.listed_steps.ListedStep.TheVariants as listings
 use Rattle.tcap_check.specs.declared.outline.Outline.{Outline}
 use Rattle.tcap_check.specs.declared.progress.Progress.{Progress}
-use Rattle.tcap_check.specs.declared.progress.Seat.{Seat}
+use Rattle.tcap_check.specs.declared.progress.SideState.{SideState}
 use Rattle.tcap_check.specs.declared.progress.Waiting.{Waiting}
 use Rattle.tcap_record.specs.Ends.{other}
 use Rattle.tcap_model.specs.Run.{Event, Closes, Expires, Loses, Quiet, Replies, Sends, Tells, may_refuse}
@@ -58,30 +58,30 @@ IsMemory (Err fault) = fault ≡ fault_at Memory 0
 -- ---- an end, and the messages on their way from it
 
 -- what is kept of this end
-abbrev pub seat_at : Side → Progress → Seat
-seat_at sides.A p = p.a
-seat_at sides.B p = p.b
+abbrev pub side_at : Side → Progress → SideState
+side_at sides.A p = p.a
+side_at sides.B p = p.b
 
--- the progress with this seat for this end
-abbrev pub with_seat : Side → Seat → Progress → Progress
-with_seat sides.A seat p = record p { a = seat }
-with_seat sides.B seat p = record p { b = seat }
+-- the progress in which this is kept of this end
+abbrev pub with_side : Side → SideState → Progress → Progress
+with_side sides.A state p = record p { a = state }
+with_side sides.B state p = record p { b = state }
 
 -- the progress with this state for this end
-abbrev pub with_seat_end : Side → End → Progress → Progress
-with_seat_end side e p = with_seat side (record (seat_at side p) { end = e }) p
+abbrev pub with_side_end : Side → End → Progress → Progress
+with_side_end side e p = with_side side (record (side_at side p) { end = e }) p
 
 -- the progress with these messages on their way from this end
 abbrev pub with_waiting : Side → List Waiting → Progress → Progress
-with_waiting side messages p = with_seat side (record (seat_at side p) { waiting = messages }) p
+with_waiting side messages p = with_side side (record (side_at side p) { waiting = messages }) p
 
 -- an end before the first step
-abbrev pub empty_seat : Seat
-empty_seat = record { end = nothing; waiting = []; latest = 0 }
+abbrev pub empty_side : SideState
+empty_side = record { end = nothing; waiting = []; latest = 0 }
 
 -- two ends before the first step, with this report of their steps
 abbrev pub nothing_kept : Option ListedRun → Progress
-nothing_kept report = record { a = empty_seat; b = empty_seat; moves = 0; unheard = 0; steps = report }
+nothing_kept report = record { a = empty_side; b = empty_side; moves = 0; unheard = 0; steps = report }
 
 -- the progress with these further steps, if steps are listed
 abbrev pub with_steps : List Event → Progress → Progress
@@ -93,7 +93,7 @@ moved event p = record (with_steps (event ∷ []) p) { moves = p.moves + 1 }
 
 -- the progress after an end's step with this result, or this fault if the end refuses the step
 abbrev pub end_moved : {F : Type 0} → Side → Event → F → Progress → Result End EndFault → Result Progress F
-end_moved side event fault p (Ok e) = Ok (moved event (with_seat_end side e p))
+end_moved side event fault p (Ok e) = Ok (moved event (with_side_end side e p))
 end_moved side event fault p (Err reason) = Err fault
 
 -- ---- losses
@@ -136,7 +136,7 @@ losing_kept judged side (first ∷ more) p =
 
 -- the progress after the messages that will be lost at the front of this end's channel are lost
 abbrev pub front_lost : Option Side → Side → Progress → Progress
-front_lost judged side p = losing_kept judged side (seat_at side p).waiting p
+front_lost judged side p = losing_kept judged side (side_at side p).waiting p
 
 -- the progress after the losses before a quiet mark, or at the end of the record: those of messages to a judged end
 abbrev pub last_lost : Option Side → Progress → Progress
@@ -178,7 +178,7 @@ HasNoMore p q = (load q ≤ load p) × (unheard_load q ≤ unheard_load p)
 abbrev pub half_closes : Table → Closing → HalfName → Progress → Result Progress CheckFault
 half_closes table x name p =
     end_moved x.side (Closes x.side name) (fault_at (HiddenRefused faults.CannotClose) x.entry) p
-    (close table (seat_at x.side p).end name)
+    (close table (side_at x.side p).end name)
 
 -- the progress after a listed closing
 abbrev pub closing_kept : Table → List Outline → ℕ → Closing → Progress → Result Progress CheckFault
@@ -189,7 +189,7 @@ closing_kept table entries since x p =
 abbrev pub invocation_ends : Table → Expiry → HalfName × ℤ → Progress → Result Progress CheckFault
 invocation_ends table x invocation p =
     end_moved x.side (Expires x.side invocation.0 invocation.1) (fault_at (HiddenRefused faults.CannotExpire) x.entry) p
-    (expire table (seat_at x.side p).end invocation.0 invocation.1)
+    (expire table (side_at x.side p).end invocation.0 invocation.1)
 
 -- the progress after a listed expiry
 abbrev pub expiry_kept : Table → List Outline → ℕ → Expiry → Progress → Result Progress CheckFault
@@ -219,20 +219,20 @@ abbrev pub greater : ℕ → ℕ → ℕ
 greater m n = cond (nat_lt m n) n m
 
 -- whether a message with this fate would overtake an earlier message of its end
-abbrev pub overtakes : Fate → Seat → Bool
-overtakes Lost seat = false
-overtakes fate seat = nat_lt (time_or_zero fate) seat.latest
+abbrev pub overtakes : Fate → SideState → Bool
+overtakes Lost state = false
+overtakes fate state = nat_lt (time_or_zero fate) state.latest
 
 -- the message, unless its fate is a loss
 abbrev pub unless_lost : Fate → Message → Option Message
 unless_lost Lost message = None
 unless_lost fate message = Some message
 
--- the seat after a message with this fate joins its channel
-abbrev pub seat_with : Fate → ℕ → Message → Seat → Seat
-seat_with fate number message seat = record seat {
-  waiting = seat.waiting ++ (record { number = number; message = unless_lost fate message }) ∷ [];
-  latest = greater seat.latest (time_or_zero fate);
+-- the state of an end after a message with this fate joins its channel
+abbrev pub side_with : Fate → ℕ → Message → SideState → SideState
+side_with fate number message state = record state {
+  waiting = state.waiting ++ (record { number = number; message = unless_lost fate message }) ∷ [];
+  latest = greater state.latest (time_or_zero fate);
 }
 
 -- the event by which a message is sent
@@ -243,16 +243,16 @@ sending (ways.Replies number) side message = Replies side number
 
 -- the progress after this event sends a message
 abbrev pub sent_by : Event → Side → Fate → ℕ → Message → Progress → Progress
-sent_by event side fate number message p = moved event (with_seat side (seat_with fate number message (seat_at side p)) p)
+sent_by event side fate number message p = moved event (with_side side (side_with fate number message (side_at side p)) p)
 
 -- the progress after a step with this result, or unchanged if the end refuses the step
 abbrev pub or_still : Side → Event → Progress → Result End EndFault → Progress
-or_still side event p (Ok e) = moved event (with_seat_end side e p)
+or_still side event p (Ok e) = moved event (with_side_end side e p)
 or_still side event p (Err reason) = p
 
 -- the progress after this invocation expires, if it can
 abbrev pub end_tried : Table → Side → HalfName → ℤ → Progress → Progress
-end_tried table side name id p = or_still side (Expires side name id) p (expire table (seat_at side p).end name id)
+end_tried table side name id p = or_still side (Expires side name id) p (expire table (side_at side p).end name id)
 
 -- the progress after these invocations of a half expire, each if it can
 abbrev pub ids_ended : Table → Side → HalfName → List ℤ → Progress → Progress
@@ -272,14 +272,14 @@ ids_ended_over table side (Some name) ids p = ids_ended table side name ids p
 
 -- the progress after an end sends a message with this result, or the reason why it may not
 abbrev pub sent_or_not : Side → Fate → ℕ → Message → Progress → Result End EndFault → Result Progress CheckFault
-sent_or_not side fate number message p (Ok e) = Ok (sent_by (Sends side message) side fate number message (with_seat_end side e p))
+sent_or_not side fate number message p (Ok e) = Ok (sent_by (Sends side message) side fate number message (with_side_end side e p))
 sent_or_not side fate number message p (Err reason) = refused (SendRefused reason) number
 
 -- the progress after an end sends a message, and after the expiries that the message implies
 abbrev pub send_kept : Table → Side → Fate → ℕ → Message → Progress → Result Progress CheckFault
 send_kept table side fate number message p =
     let before = ids_ended_over table side (invoking_half message) (filter_map invoke_id (components_in message)) p in
-    sent_or_not side fate number message before (send table (seat_at side before).end message)
+    sent_or_not side fate number message before (send table (side_at side before).end message)
 
 -- whether the provider of an end may answer a message by this Abort; it never answers a message that will be lost
 abbrev pub may_be_answered : End → Option Message → Message → Bool
@@ -290,20 +290,20 @@ may_be_answered e (Some message) abort = may_refuse e message abort
 abbrev pub first_may_be_answered : Side → Message → ℕ → List Waiting → Progress → Bool
 first_may_be_answered side abort taken [] p = false
 first_may_be_answered side abort taken (first ∷ more) p =
-    (first.number == taken) && may_be_answered (seat_at side p).end first.message abort
+    (first.number == taken) && may_be_answered (side_at side p).end first.message abort
 
 -- the progress after the provider of an end answers the first of these messages, which must have number `taken`
 abbrev pub first_answered : Side → Fate → ℕ → Message → ℕ → List Waiting → Progress → Result Progress CheckFault
 first_answered side fate number abort taken [] p = refused BadReply number
 first_answered side fate number abort taken (first ∷ more) p = do
-  needs ((first.number == taken) && may_be_answered (seat_at side p).end first.message abort) (fault_at BadReply number)
+  needs ((first.number == taken) && may_be_answered (side_at side p).end first.message abort) (fault_at BadReply number)
   Ok (sent_by (Replies side taken) side fate number abort (with_waiting (other side) more p))
 
 -- the progress after a provider's answer, and after the losses before it
 abbrev pub reply_kept : Option Side → Side → Fate → ℕ → Message → ℕ → Progress → Result Progress CheckFault
 reply_kept judged side fate number abort taken p =
     let before = front_lost judged (other side) p in
-    first_answered side fate number abort taken (seat_at (other side) before).waiting before
+    first_answered side fate number abort taken (side_at (other side) before).waiting before
 
 -- The progress after a message that takes these messages. A provider's Abort takes exactly one message; any other
 -- message takes none.
@@ -323,7 +323,7 @@ is_empty (first ∷ more) = false
 
 -- the progress after a quiet mark, if both ends are quiet
 abbrev pub both_quiet : ℕ → Progress → Result End EndFault → Result End EndFault → Result Progress CheckFault
-both_quiet number p (Ok a) (Ok b) = Ok (moved Quiet (with_seat_end sides.B b (with_seat_end sides.A a p)))
+both_quiet number p (Ok a) (Ok b) = Ok (moved Quiet (with_side_end sides.B b (with_side_end sides.A a p)))
 both_quiet number p _ _ = refused NotQuiet number
 
 -- the progress after a quiet mark: nothing is on its way, and both ends are quiet

@@ -24,7 +24,7 @@ use Rattle.tcap_check.specs.declared.progress.Progress.{Progress}
 use Rattle.tcap_check.specs.CheckerMeaning.{ReplayState, gap_before, is_alone, tied_now}
 use Rattle.tcap_check.specs.ReplaySteps.{delivery_kept, halves_shut, received_sender}
 use Rattle.tcap_check.specs.ListedSteps.{listed_for}
-use Rattle.tcap_check.specs.Progress.{all_kept, end_moved, front_lost, ids_ended_over, last_lost, listed_kept, overtakes, seat_at}
+use Rattle.tcap_check.specs.Progress.{all_kept, end_moved, front_lost, ids_ended_over, last_lost, listed_kept, overtakes, side_at}
 use Rattle.tcap_check.specs.PartialReplay.{as_far, behind_or}
 
 -- A refused call leaves this progress, unless memory ran out.
@@ -80,14 +80,14 @@ taken_left judged table side message takes p = cond (is_judged judged side) (mes
 -- the progress after these halves close before a quiet mark, up to the first that cannot close
 abbrev pub halves_left : Side → Table → ℕ → List HalfName → Progress → Progress
 halves_left side table number =
-    as_far (λ name p. end_moved side (Closes side name) (fault_at NotQuiet number) p (close table (seat_at side p).end name))
+    as_far (λ name p. end_moved side (Closes side name) (fault_at NotQuiet number) p (close table (side_at side p).end name))
 
 -- the progress after the closings and losses before a quiet mark, up to the first closing that cannot happen
 abbrev pub quiet_left : Option Side → Table → ℕ → Progress → Progress
 quiet_left None table number p = last_lost None p
 quiet_left (Some side) table number p =
-    behind_or (halves_shut side table number (open_halves (seat_at side p).end) p)
-    (halves_left side table number (open_halves (seat_at side p).end) p) (last_lost (Some side))
+    behind_or (halves_shut side table number (open_halves (side_at side p).end) p)
+    (halves_left side table number (open_halves (side_at side p).end) p) (last_lost (Some side))
 
 -- the progress before a quiet mark, if steps are listed; then the halves close one by one
 abbrev pub mark_left : Option Side → Table → ℕ → List ℕ → Progress → Progress
@@ -97,7 +97,7 @@ mark_left judged table number takes p = cond (is_nothing takes) (quiet_left judg
 -- comes before the entry
 abbrev pub item_left : Option Side → Table → Certificate → Fate → Item → ReplayState → Progress
 item_left judged table c fate (Sent side message) k =
-    cond (is_alone judged side || not (overtakes fate (seat_at side k.progress)))
+    cond (is_alone judged side || not (overtakes fate (side_at side k.progress)))
     (behind_or (gap_before judged table c k) (gap_left judged table c k.entries k.since k.progress)
     (taken_left judged table side message (tied_now judged c k))) k.progress
 item_left judged table c fate Item.Quiet k =

@@ -25,7 +25,7 @@ use Rattle.tcap_certificate.specs.Certificate.{Certificate}
 pub use Rattle.tcap_certificate.specs.Replay.{is_received_from, is_judged}
 use Rattle.tcap_certificate.specs.Replay.{fault_at, is_nothing, refused, due_in}
 use Rattle.tcap_check.specs.ListedSteps.{listed_for}
-use Rattle.tcap_check.specs.Progress.{all_kept, discard_listed, end_moved, front_lost, last_lost, lost_counted, map_ok, message_kept, moved, quiet_kept, seat_at, sent_by, with_seat_end, with_steps, with_waiting}
+use Rattle.tcap_check.specs.Progress.{all_kept, discard_listed, end_moved, front_lost, last_lost, lost_counted, map_ok, message_kept, moved, quiet_kept, side_at, sent_by, with_side_end, with_steps, with_waiting}
 
 -- ---- who is judged
 
@@ -48,7 +48,7 @@ sent_among side entries numbers = filter (λ n. is_sent_by_end side (slice_get e
 -- The progress after an end receives a message with this result. If the end cannot receive the message, this is an
 -- error if both ends are judged, and a discard if the end is judged alone.
 abbrev pub received_or_not : Option Side → Side → ℕ → Progress → Result End EndFault → Result Progress CheckFault
-received_or_not judged side number p (Ok e) = Ok (moved (Receives side number) (with_seat_end side e p))
+received_or_not judged side number p (Ok e) = Ok (moved (Receives side number) (with_side_end side e p))
 received_or_not None side number p (Err reason) = refused BadReply number
 received_or_not (Some judged) side number p (Err reason) =
     Ok (lost_counted (Some judged) (other side) (discard_listed (other side) number reason p))
@@ -75,14 +75,14 @@ DeliversMessage before step (Err fault) left = fault ≢ fault_at Memory 0 → s
 -- the progress after the first of these messages leaves its channel and the end receives it
 abbrev pub first_received : Option Side → Table → Side → ℕ → List Waiting → Progress → Result Progress CheckFault
 first_received judged table sender number messages p =
-    first_delivered table number messages (seat_at (other sender) p).end
+    first_delivered table number messages (side_at (other sender) p).end
     >>= received_or_not judged (other sender) number (with_waiting sender (drop 1 messages) p)
 
 -- the progress after a judged end receives the message with this number, and the losses before it
 abbrev pub message_received : Option Side → Table → Side → ℕ → Progress → Result Progress CheckFault
 message_received judged table sender number p =
     let before = front_lost judged sender p in
-    first_received judged table sender number (seat_at sender before).waiting before
+    first_received judged table sender number (side_at sender before).waiting before
 
 -- the progress after a delivery; if there is no sender, nothing is delivered
 abbrev pub delivery_kept : Option Side → Table → ℕ → Option Side → Progress → Result Progress CheckFault
@@ -134,7 +134,7 @@ message_taken judged table side fate number message takes p =
 
 -- the progress with this end, and one more step for each half that was open
 abbrev pub quieted : Side → End → Progress → Progress
-quieted side e p = record (with_seat_end side e p) { moves = p.moves + length (open_halves (seat_at side p).end) }
+quieted side e p = record (with_side_end side e p) { moves = p.moves + length (open_halves (side_at side p).end) }
 
 -- the progress after all open halves of an end close with this result, or the refusal of the mark
 abbrev pub closed_or_not : Side → ℕ → Progress → Result End EndFault → Result Progress CheckFault
@@ -143,27 +143,27 @@ closed_or_not side number p (Err reason) = refused NotQuiet number
 
 -- the progress after all open halves of an end close without a message, which leaves it quiet
 abbrev pub halves_quieted : Side → Table → ℕ → Progress → Result Progress CheckFault
-halves_quieted side table number p = closed_or_not side number p (quiet_after_closings table (seat_at side p).end)
+halves_quieted side table number p = closed_or_not side number p (quiet_after_closings table (side_at side p).end)
 
 -- the progress after the halves of an end that is judged alone close, with the closings listed as steps
 abbrev pub halves_closed : Option Side → Table → ℕ → Progress → Result Progress CheckFault
 halves_closed None table number p = Ok p
 halves_closed (Some judged) table number p =
-    map_ok (with_steps (map (Closes judged) (open_halves (seat_at judged p).end)))
+    map_ok (with_steps (map (Closes judged) (open_halves (side_at judged p).end)))
     (halves_quieted judged table number p)
 
 -- the progress after these halves of an end close, one by one, before the mark with this number
 abbrev pub halves_shut : Side → Table → ℕ → List HalfName → Progress → Result Progress CheckFault
 halves_shut side table number [] p = Ok p
 halves_shut side table number (name ∷ more) p =
-    end_moved side (Closes side name) (fault_at NotQuiet number) p (close table (seat_at side p).end name)
+    end_moved side (Closes side name) (fault_at NotQuiet number) p (close table (side_at side p).end name)
     >>= halves_shut side table number more
 
 -- the progress after a quiet mark, if this end is judged alone: its open halves close, messages are lost, and all is
 -- quiet
 abbrev pub alone_marked : Side → Table → ℕ → Progress → Result Progress CheckFault
 alone_marked side table number p =
-    halves_shut side table number (open_halves (seat_at side p).end) p >>= λ closed. quiet_kept number (last_lost (Some side) closed)
+    halves_shut side table number (open_halves (side_at side p).end) p >>= λ closed. quiet_kept number (last_lost (Some side) closed)
 
 -- the progress after a quiet mark, which takes no message: after the closings and losses before it, all is quiet
 abbrev pub mark_taken : Option Side → Table → ℕ → List ℕ → Progress → Result Progress CheckFault

@@ -19,7 +19,7 @@ use Rattle.tcap_certificate.specs.declared.fault.CheckFault.{CheckFault}
 use Rattle.tcap_check.specs.declared.progress.Progress.{Progress}
 use Rattle.tcap_check.specs.declared.step.Step.{Step}
 use Rattle.tcap_certificate.specs.Certificate.{Certificate}
-use Rattle.tcap_check.specs.Progress.{seat_at}
+use Rattle.tcap_check.specs.Progress.{side_at}
 use Rattle.tcap_check.specs.CheckerMeaning.{kept_of, map_ok, progress_of, taken}
 use Rattle.tcap_check.specs.OneEndRun.{IsGivenTo}
 use Rattle.tcap_check.specs.GivenRun.{IsAt}
@@ -66,7 +66,7 @@ refusal_to_send reason = None
 abbrev pub ShowsSend : Table → Side → ℕ → Message → Result (Unit {0}) CheckFault → Progress → Type 0
 ShowsSend table side number message (Ok done) left = Unit {0}
 ShowsSend table side number message (Err fault) left =
-    IfSome (refusal_to_send fault.reason) (λ reason. (fault.entry ≡ number) × (send table (seat_at side left).end message ≡ Err reason))
+    IfSome (refusal_to_send fault.reason) (λ reason. (fault.entry ≡ number) × (send table (side_at side left).end message ≡ Err reason))
 
 -- `ShowsSend` for an entry that may be no message. If it is no message, no send is refused.
 abbrev pub ShowsItem : Table → ℕ → Result Item Reason → Result (Unit {0}) CheckFault → Progress → Type 0

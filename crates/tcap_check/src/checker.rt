@@ -218,7 +218,7 @@ impl<'a> Checker<'a> {
         let progress = &self.replaying.progress;
         match self.replaying.judged {
             None => progress.a.count_kept() + progress.b.count_kept(),
-            Some(judged) => progress.seat(judged.other()).count_kept(),
+            Some(judged) => progress.side_state(judged.other()).count_kept(),
         }
     }
 

@@ -6,7 +6,7 @@ ghost use Rattle.tcap_check.specs.ReplaySteps.{DeliversMessage, deliveries_kept,
 ghost use Rattle.tcap_check.specs.ReplaySteps.{sent_among};
 ghost use Rattle.tcap_check.specs.Plan.{IsPlan};
 ghost use Rattle.tcap_check.specs.RefusedReplay.{Leaves, deliveries_left, gap_left};
-ghost use Rattle.tcap_check.specs.Progress.{GrewBy, HasNoMore, YieldsInMemory, front_lost, load, seat_at, unheard_load};
+ghost use Rattle.tcap_check.specs.Progress.{GrewBy, HasNoMore, YieldsInMemory, front_lost, load, side_at, unheard_load};
 
 use crate::outline::Outline;
 use crate::plan::Plan;
@@ -69,7 +69,7 @@ fn deliver_message(
     waiting: &LinkedList<Waiting>,
     number: u32,
 ) -> Result<Option<EndFault>, CheckFault>
-    ensures heard { DeliversMessage end.old (first_delivered table.now number waiting.now end.old) result end.new }
+    ensures received { DeliversMessage end.old (first_delivered table.now number waiting.now end.old) result end.new }
     ensures kept { OnErr result (end.new ≡ end.old) }
 {
     let refused = CheckFault {
@@ -102,9 +102,9 @@ impl<'r> Progress<'r> {
         sender: End,
         number: u32,
     ) -> Result<(), CheckFault>
-        requires room { self.old.moves + 1 < 2 ^ 128 }
+        requires no_overflow { self.old.moves + 1 < 2 ^ 128 }
         requires count { self.old.unheard + 1 < 2 ^ 64 }
-        ensures delivered { YieldsInMemory (first_received judged table.now sender number (seat_at sender self.old).waiting self.old)
+        ensures delivered { YieldsInMemory (first_received judged table.now sender number (side_at sender self.old).waiting self.old)
             result self.new }
         ensures left { Leaves self.old result self.new }
     {
@@ -122,7 +122,7 @@ impl<'r> Progress<'r> {
         match refused {
             None => {
                 self.moves += 1;
-                self.tell(Step::Receives(sender.other(), u64::from(number)))
+                self.list_step(Step::Receives(sender.other(), u64::from(number)))
             }
             Some(reason) => self.discard(judged, sender, u64::from(number), reason),
         }
@@ -137,8 +137,8 @@ impl<'r> Progress<'r> {
         sender: End,
         number: u32,
     ) -> Result<(), CheckFault>
-        requires heard { is_received_from judged sender ≡ true }
-        requires room { load self.old + 1 < 2 ^ 128 }
+        requires received { is_received_from judged sender ≡ true }
+        requires no_overflow { load self.old + 1 < 2 ^ 128 }
         requires count { unheard_load self.old + 1 < 2 ^ 64 }
         ensures delivered { YieldsInMemory (message_received judged table.now sender number self.old) result self.new }
         ensures left { Leaves (front_lost judged sender self.old) result self.new }
@@ -157,7 +157,7 @@ impl<'r> Progress<'r> {
         entries: &[Outline],
         numbers: &[u32],
     ) -> Result<(), CheckFault>
-        requires room { load self.old + 1 < 2 ^ 128 }
+        requires no_overflow { load self.old + 1 < 2 ^ 128 }
         requires count { unheard_load self.old + 1 < 2 ^ 64 }
         ensures delivered { YieldsInMemory (deliveries_kept judged table.now entries.now numbers.now self.old) result self.new }
         ensures left { Leaves (deliveries_left judged table.now entries.now numbers.now self.old) result self.new }
@@ -186,7 +186,7 @@ impl<'r> Progress<'r> {
         requires plan { IsPlan certificate.now plan.now }
         requires within { length entries.now ≤ length certificate.now.fates }
         requires few { length certificate.now.fates ≤ 100000 }
-        requires room { load self.old < 2 ^ 127 }
+        requires no_overflow { load self.old < 2 ^ 127 }
         requires count { unheard_load self.old < 2 ^ 63 }
         ensures passed { YieldsInMemory (gap_kept judged table.now certificate.now entries.now since self.old) result self.new }
         ensures left { Leaves (gap_left judged table.now certificate.now entries.now since self.old) result self.new }

@@ -28,7 +28,7 @@ impl<'r> Progress<'r> {
         lent: Option<&'r Message>,
         takes: &[u32],
     ) -> Result<(), CheckFault>
-        requires room { self.old.moves < 2 ^ 127 }
+        requires no_overflow { self.old.moves < 2 ^ 127 }
         requires same { IfSome lent (λ lent. lent.now ≡ M.meaning message.now) }
         ensures taken { YieldsInMemory (peer_message_taken side fate number
             (M.meaning message.now) takes.now self.old) result self.new }
@@ -61,7 +61,7 @@ impl<'r> Progress<'r> {
         lent: Option<&'r Message>,
         takes: &[u32],
     ) -> Result<(), CheckFault>
-        requires room { load self.old < 2 ^ 127 }
+        requires no_overflow { load self.old < 2 ^ 127 }
         requires count { unheard_load self.old < 2 ^ 63 }
         requires same { IfSome lent (λ lent. lent.now ≡ M.meaning message.now) }
         ensures taken { YieldsInMemory (message_taken judged table.now side fate number (M.meaning message.now) takes.now self.old)

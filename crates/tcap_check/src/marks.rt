@@ -4,7 +4,7 @@ ghost use Rattle.std.specs.Prelude.{◌≡◌, ◌<◌, ◌+◌, ◌^◌, length
 ghost use Rattle.tcap_end.specs.HiddenSteps.{close};
 ghost use Rattle.tcap_model.specs.Run.{Closes};
 ghost use Rattle.tcap_check.specs.ReplaySteps.{alone_marked, halves_closed, halves_quieted, halves_shut, mark_taken};
-ghost use Rattle.tcap_check.specs.Progress.{GrewBy, Yields, YieldsInMemory, end_moved, load, quiet_kept, seat_at, unheard_load};
+ghost use Rattle.tcap_check.specs.Progress.{GrewBy, Yields, YieldsInMemory, end_moved, load, quiet_kept, side_at, unheard_load};
 ghost use Rattle.tcap_certificate.specs.Replay.{fault_at};
 ghost use Rattle.tcap_check.specs.RefusedReplay.{IsListing, Leaves, halves_left, mark_left, quiet_left};
 ghost use Rattle.tcap_model.specs.declared.reason.Reason.TheVariants.{NotQuiet};
@@ -31,7 +31,7 @@ impl Progress<'_> {
     /// Closes all open halves of an end, without messages, before the mark with this number. Fails with `NotQuiet` if
     /// one of them may not close.
     fn quiet_halves(&mut self, table: &Table, side: End, number: u64) -> Result<(), CheckFault>
-        requires room { self.old.moves < 2 ^ 126 }
+        requires no_overflow { self.old.moves < 2 ^ 126 }
         ensures closed { Yields (halves_quieted side table.now number self.old) result self.new }
         ensures grows { OnOk result (GrewBy (2 ^ 65) 0 self.old self.new) }
     {
@@ -50,7 +50,7 @@ impl Progress<'_> {
     /// them may not close.
     fn close_unlisted(&mut self, table: &Table, alone: End, number: u64) -> Result<(), CheckFault>
         requires unlisted { self.old.steps ≡ None }
-        requires room { self.old.moves < 2 ^ 126 }
+        requires no_overflow { self.old.moves < 2 ^ 126 }
         ensures closed { Yields (halves_closed (Some «alone») table.now number self.old) result self.new }
         ensures grows { OnOk result (GrewBy (2 ^ 65) 0 self.old self.new) }
     {
@@ -65,9 +65,9 @@ impl Progress<'_> {
         name: HalfName,
         number: u64,
     ) -> Result<(), CheckFault>
-        requires room { self.old.moves + 1 < 2 ^ 128 }
+        requires no_overflow { self.old.moves + 1 < 2 ^ 128 }
         ensures closed { YieldsInMemory (end_moved «side» (Closes «side» name) (fault_at NotQuiet number) self.old
-            (close table.now (seat_at «side» self.old).end name)) result self.new }
+            (close table.now (side_at «side» self.old).end name)) result self.new }
         ensures left { Leaves self.old result self.new }
         ensures grows { OnOk result (self.new.moves ≡ self.old.moves + 1) }
     {
@@ -80,7 +80,7 @@ impl Progress<'_> {
             return Err(not_quiet(number));
         }
         self.moves += 1;
-        self.tell(Step::Closes(side, name))
+        self.list_step(Step::Closes(side, name))
     }
 
     /// Closes these halves of an end, one by one, before the mark with this number. Fails with `NotQuiet` at the first
@@ -92,7 +92,7 @@ impl Progress<'_> {
         names: &[HalfName],
         number: u64,
     ) -> Result<(), CheckFault>
-        requires room { self.old.moves + length names.now < 2 ^ 128 }
+        requires no_overflow { self.old.moves + length names.now < 2 ^ 128 }
         ensures closed { YieldsInMemory (halves_shut side table.now number names.now self.old) result self.new }
         ensures left { Leaves (halves_left side table.now number names.now self.old) result self.new }
     {
@@ -105,7 +105,7 @@ impl Progress<'_> {
     /// Takes the mark with this number. Fails with `NotQuiet` if a message is on its way or a half is open, or with
     /// `Memory`.
     fn be_quiet(&mut self, number: u64) -> Result<(), CheckFault>
-        requires room { self.old.moves + 1 < 2 ^ 128 }
+        requires no_overflow { self.old.moves + 1 < 2 ^ 128 }
         ensures quiet { YieldsInMemory (quiet_kept number self.old) result self.new }
         ensures left { Leaves self.old result self.new }
         ensures grows { OnOk result (GrewBy 1 0 self.old self.new) }
@@ -119,7 +119,7 @@ impl Progress<'_> {
             return Err(not_quiet(number));
         }
         self.moves += 1;
-        self.tell(Step::Quiet)
+        self.list_step(Step::Quiet)
     }
 
     /// Takes a quiet mark if one end is judged alone and steps are listed. Its open halves close one by one, which
@@ -132,13 +132,13 @@ impl Progress<'_> {
         alone: End,
         number: u64,
     ) -> Result<(), CheckFault>
-        requires room { load self.old < 2 ^ 126 }
+        requires no_overflow { load self.old < 2 ^ 126 }
         requires count { unheard_load self.old < 2 ^ 63 }
         ensures taken { YieldsInMemory (alone_marked alone table.now number self.old) result self.new }
         ensures left { Leaves (quiet_left (Some «alone») table.now number self.old) result self.new }
         ensures grows { OnOk result (GrewBy (2 ^ 66) 0 self.old self.new) }
     {
-        let Ok(names) = self.seat(alone).end.open_halves(alloc) else {
+        let Ok(names) = self.side_state(alone).end.open_halves(alloc) else {
             return Err(OUT_OF_MEMORY);
         };
         self.close_each(table, alone, &names, number)?;
@@ -157,7 +157,7 @@ impl Progress<'_> {
         number: u64,
         takes: &[u32],
     ) -> Result<(), CheckFault>
-        requires room { load self.old < 2 ^ 126 }
+        requires no_overflow { load self.old < 2 ^ 126 }
         requires count { unheard_load self.old < 2 ^ 63 }
         ensures taken { YieldsInMemory (mark_taken judged table.now number takes.now self.old) result self.new }
         ensures left { IsListing self.old → Leaves (mark_left judged table.now number takes.now self.old) result self.new }

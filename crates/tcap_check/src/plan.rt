@@ -29,7 +29,7 @@ pub struct Plan {
 }
 
 /// Returns whether the fate of an entry is a gap or a reply after the entry, within this count of entries, or a loss.
-fn fits_behind(count: usize, entry: usize, fate: Fate) -> bool
+fn fits_after(count: usize, entry: usize, fate: Fate) -> bool
     ensures { result ≡ fate_fits count entry fate }
 {
     match fate {
@@ -44,7 +44,7 @@ fn check_fates(fates: &[Fate]) -> Result<(), CheckFault>
     ensures { result ≡ fates_fit (length fates.now) 0 fates.now }
 {
     for (entry, fate) in fates.iter().enumerate() {
-        if !fits_behind(fates.len(), entry, *fate) {
+        if !fits_after(fates.len(), entry, *fate) {
             return Err(CheckFault {
                 reason: Reason::FateRange,
                 entry: entry as u64,

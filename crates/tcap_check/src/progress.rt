@@ -6,8 +6,8 @@ ghost use Rattle.tcap_end.specs.Step.{AnswersInMemory};
 ghost use Rattle.tcap_end.specs.Message.{receive};
 ghost use Rattle.tcap_check.specs.ReplaySteps.{is_judged};
 ghost use Rattle.tcap_check.specs.ListedSteps.{listed_judged};
-ghost use Rattle.tcap_check.specs.Progress.{IsMemory, YieldsInMemory, all_kept, count_kept, discard_listed, empty_seat};
-ghost use Rattle.tcap_check.specs.Progress.{half_closes, invocation_ends, listed_kept, nothing_kept, seat_at, with_steps};
+ghost use Rattle.tcap_check.specs.Progress.{IsMemory, YieldsInMemory, all_kept, count_kept, discard_listed, empty_side};
+ghost use Rattle.tcap_check.specs.Progress.{half_closes, invocation_ends, listed_kept, nothing_kept, side_at, with_steps};
 ghost use Rattle.tcap_record.specs.declared.entry.End.{End as Side};
 ghost use Rattle.tcap_check.specs.RefusedReplay.{Leaves, listed_left};
 ghost use Rattle.tcap_check.specs.ReportedSteps.{discard_of, event_of, listed_run_if, listed_run_of};
@@ -34,7 +34,7 @@ pub(crate) struct Waiting<'r> {
 
 /// The state of one end, the messages on their way from it, and the latest time of a message from it.
 #[derive(Debug, Drop)]
-pub(crate) struct Seat<'r> {
+pub(crate) struct SideState<'r> {
     pub(crate) end: EndState,
     pub(crate) waiting: LinkedList<Waiting<'r>>,
     pub(crate) latest: u64,
@@ -43,8 +43,8 @@ pub(crate) struct Seat<'r> {
 /// The state of a replay: both ends, the messages on their way, and counts of the steps so far.
 #[derive(Debug, Drop)]
 pub(crate) struct Progress<'r> {
-    pub(crate) a: Seat<'r>,
-    pub(crate) b: Seat<'r>,
+    pub(crate) a: SideState<'r>,
+    pub(crate) b: SideState<'r>,
     // The number of steps; losses of messages from an end that is judged alone do not count.
     pub(crate) moves: u128,
     // The number of lost messages from the peer of an end that is judged alone, else 0.
@@ -53,12 +53,12 @@ pub(crate) struct Progress<'r> {
     pub(crate) steps: Option<Steps>,
 }
 
-impl<'r> Seat<'r> {
+impl<'r> SideState<'r> {
     /// Creates an end before the first step.
-    fn new(alloc: Global) -> Seat<'r>
-        ensures { result ≡ empty_seat }
+    fn new(alloc: Global) -> SideState<'r>
+        ensures { result ≡ empty_side }
     {
-        Seat {
+        SideState {
             end: EndState::new(alloc),
             waiting: LinkedList::new(alloc),
             latest: 0,
@@ -132,8 +132,8 @@ impl<'r> Progress<'r> {
             None
         };
         Progress {
-            a: Seat::new(alloc),
-            b: Seat::new(alloc),
+            a: SideState::new(alloc),
+            b: SideState::new(alloc),
             moves: 0,
             unheard: 0,
             steps,
@@ -142,7 +142,7 @@ impl<'r> Progress<'r> {
 
     /// Appends a step, which is no discard, to the list of steps, if there is one. Fails if memory runs out.
     #[inline(always)]
-    pub(crate) fn tell(&mut self, step: Step) -> Result<(), CheckFault>
+    pub(crate) fn list_step(&mut self, step: Step) -> Result<(), CheckFault>
         requires plain { discard_of step ≡ None }
         ensures steps { OnOk result (self.new ≡ with_steps (event_of step ∷ []) self.old) }
         ensures memory { IsMemory result }
@@ -157,7 +157,7 @@ impl<'r> Progress<'r> {
 
     /// Appends the discard of the message with this number to the list of steps, if there is one. Fails if memory runs
     /// out.
-    pub(crate) fn tell_discard(
+    pub(crate) fn list_discard(
         &mut self,
         sender: End,
         number: u64,
@@ -175,8 +175,8 @@ impl<'r> Progress<'r> {
     }
 
     /// Returns the state of this end, and of the channel from it.
-    pub(crate) fn seat(&self, side: End) -> &Seat<'r>
-        ensures { result.now ≡ seat_at side self.now }
+    pub(crate) fn side_state(&self, side: End) -> &SideState<'r>
+        ensures { result.now ≡ side_at side self.now }
     {
         match side {
             End::A => &self.a,
@@ -186,7 +186,7 @@ impl<'r> Progress<'r> {
 
     /// Closes a half of an end without a message. Fails with `HiddenRefused` or `Memory`.
     fn close(&mut self, table: &Table, x: &Closing, name: HalfName) -> Result<(), CheckFault>
-        requires room { self.old.moves + 1 < 2 ^ 128 }
+        requires no_overflow { self.old.moves + 1 < 2 ^ 128 }
         ensures closed { YieldsInMemory (half_closes table.now x.now name self.old) result self.new }
         ensures left { Leaves self.old result self.new }
     {
@@ -202,7 +202,7 @@ impl<'r> Progress<'r> {
             });
         }
         self.moves += 1;
-        self.tell(Step::Closes(x.side, name))
+        self.list_step(Step::Closes(x.side, name))
     }
 
     /// Expires an own invocation of an end. Fails with `HiddenRefused` or `Memory`.
@@ -213,7 +213,7 @@ impl<'r> Progress<'r> {
         name: HalfName,
         id: i8,
     ) -> Result<(), CheckFault>
-        requires room { self.old.moves + 1 < 2 ^ 128 }
+        requires no_overflow { self.old.moves + 1 < 2 ^ 128 }
         ensures ended { YieldsInMemory (invocation_ends table.now x.now (name, id) self.old) result self.new }
         ensures left { Leaves self.old result self.new }
     {
@@ -229,7 +229,7 @@ impl<'r> Progress<'r> {
             });
         }
         self.moves += 1;
-        self.tell(Step::Expires(x.side, name, id))
+        self.list_step(Step::Expires(x.side, name, id))
     }
 
     /// Makes a listed event: closes the half, or expires the invocation, that it names. Fails with `FateRange` if it
@@ -241,7 +241,7 @@ impl<'r> Progress<'r> {
         since: usize,
         x: &ListedStep,
     ) -> Result<(), CheckFault>
-        requires room { self.old.moves + 1 < 2 ^ 128 }
+        requires no_overflow { self.old.moves + 1 < 2 ^ 128 }
         ensures hidden { YieldsInMemory (listed_kept table.now entries.now since x.now self.old) result self.new }
         ensures left { Leaves self.old result self.new }
         ensures grows { OnOk result (self.new.moves ≡ self.old.moves + 1) }
@@ -268,7 +268,7 @@ impl<'r> Progress<'r> {
         since: usize,
         listed: &[ListedStep],
     ) -> Result<(), CheckFault>
-        requires room { self.old.moves + length listed.now < 2 ^ 128 }
+        requires no_overflow { self.old.moves + length listed.now < 2 ^ 128 }
         ensures hidden { YieldsInMemory (all_kept table.now entries.now since (listed_judged judged listed.now) self.old) result self.new }
         ensures left { Leaves (listed_left table.now entries.now since (listed_judged judged listed.now) self.old) result self.new }
     {

@@ -6,7 +6,7 @@ ghost use Rattle.tcap_model.specs.declared.reason.Reason.{Reason as Why};
 ghost use Rattle.tcap_model.specs.declared.reason.Reason.TheVariants as reasons;
 ghost use Rattle.tcap_model.specs.World.{Item, Sent};
 ghost use Rattle.tcap_check.specs.EntryOutlines.{outline_of};
-ghost use Rattle.tcap_check.specs.Progress.{GrewBy, YieldsInMemory, load, overtakes, seat_at, unheard_load};
+ghost use Rattle.tcap_check.specs.Progress.{GrewBy, YieldsInMemory, load, overtakes, side_at, unheard_load};
 ghost use Rattle.tcap_certificate.specs.Replay.{certificate_fits, discards_by, fault_at, is_gap, run_by};
 ghost use Rattle.tcap_check.specs.ReportedSteps.{discards_of, events_of};
 ghost use Rattle.tcap_check.specs.CheckerMeaning.{HasTakenListing, gap_before, is_alone, kept_ended, kept_next, map_ok, reading, reported, tied_now};
@@ -113,9 +113,9 @@ impl<'a, 'r> Replaying<'a, 'r> {
     /// Returns whether a message with this fate overtakes no earlier message of its end. Messages of an end that is
     /// judged alone are always in order, since nobody receives them.
     fn is_in_order(&self, side: End, fate: Fate) -> bool
-        ensures { result ≡ is_alone self.now.judged side || not (overtakes fate (seat_at side self.now.progress)) }
+        ensures { result ≡ is_alone self.now.judged side || not (overtakes fate (side_at side self.now.progress)) }
     {
-        self.judged == Some(side) || !self.progress.seat(side).overtakes(fate)
+        self.judged == Some(side) || !self.progress.side_state(side).overtakes(fate)
     }
 
     /// Returns the peer's messages that the next entry takes, if this end is judged alone. Fails if memory runs out.
@@ -190,7 +190,7 @@ impl<'a, 'r> Replaying<'a, 'r> {
         requires plan { IsPlan self.old.certificate.now self.old.plan }
         requires within { length self.old.entries.items ≤ length self.old.certificate.now.fates }
         requires few { length self.old.certificate.now.fates ≤ 100000 }
-        requires room { load self.old.progress < 2 ^ 127 }
+        requires no_overflow { load self.old.progress < 2 ^ 127 }
         requires count { unheard_load self.old.progress < 2 ^ 63 }
         requires same { IfSome lent (λ lent. lent.now ≡ M.meaning message.now) }
         ensures taken { YieldsInMemory (message_taken self.old.judged self.old.table.now side fate (length self.old.entries.items)
@@ -268,7 +268,7 @@ impl<'a, 'r> Replaying<'a, 'r> {
         requires plan { IsPlan self.old.certificate.now self.old.plan }
         requires within { length self.old.entries.items ≤ length self.old.certificate.now.fates }
         requires few { length self.old.certificate.now.fates ≤ 100000 }
-        requires room { load self.old.progress < 2 ^ 126 }
+        requires no_overflow { load self.old.progress < 2 ^ 126 }
         requires count { unheard_load self.old.progress < 2 ^ 63 }
         ensures quiet { YieldsInMemory (mark_taken self.old.judged self.old.table.now (length self.old.entries.items)
             (tied_now self.old.judged self.old.certificate.now (kept_in self.old)) self.old.progress) result self.new.progress }
@@ -304,7 +304,7 @@ impl<'a, 'r> Replaying<'a, 'r> {
     {
         let fate = self.fate()?;
         let entry = self.entries.len();
-        if !is_gap_behind(fate, entry) {
+        if !is_gap_after(fate, entry) {
             return Err(self.refusal(Reason::FateRange));
         }
         self.pass_gap()?;
@@ -387,8 +387,8 @@ impl<'a, 'r> Replaying<'a, 'r> {
 }
 
 /// Returns whether a fate is the gap after this entry.
-pub(crate) fn is_gap_behind(fate: Fate, entry: usize) -> bool
-    requires room { entry < 2 ^ 63 }
+pub(crate) fn is_gap_after(fate: Fate, entry: usize) -> bool
+    requires no_overflow { entry < 2 ^ 63 }
     ensures { result ≡ is_gap (entry + 1) fate }
 {
     match fate {

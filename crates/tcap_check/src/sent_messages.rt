@@ -10,14 +10,14 @@ ghost use Rattle.tcap_model.specs.declared.reason.Reason.TheVariants.{Memory};
 ghost use Rattle.tcap_certificate.specs.DescribedRun.{invoke_id, invoking_half};
 ghost use Rattle.tcap_check.specs.Progress.{GrewBy, IsAsMany, IsMemory, YieldsInMemory, end_tried, first_answered, first_may_be_answered, front_lost};
 ghost use Rattle.tcap_check.specs.Progress.{ids_ended_over, invoked_ended, load, may_be_answered, message_kept, overtakes, reply_kept};
-ghost use Rattle.tcap_check.specs.Progress.{seat_at, seat_with, send_kept, sending, sent_by, time_or_zero, unheard_load, with_seat};
-ghost use Rattle.tcap_check.specs.Progress.{with_seat_end, with_steps};
+ghost use Rattle.tcap_check.specs.Progress.{side_at, side_with, send_kept, sending, sent_by, time_or_zero, unheard_load, with_side};
+ghost use Rattle.tcap_check.specs.Progress.{with_side_end, with_steps};
 ghost use Rattle.tcap_certificate.specs.Replay.{fault_at};
 ghost use Rattle.tcap_check.specs.RefusedReplay.{Leaves, implied_left, message_left};
 ghost use Rattle.tcap_check.specs.RunSoFar.{ShowsSend};
 
 use crate::held_message::WaitingMessage;
-use crate::progress::{OUT_OF_MEMORY, Progress, Seat, Waiting, copy_name};
+use crate::progress::{OUT_OF_MEMORY, Progress, SideState, Waiting, copy_name};
 use crate::step::Step;
 use std::alloc::{AllocError, Global};
 use tcap_certificate::{CheckFault, Fate};
@@ -64,17 +64,18 @@ fn invoking_half<M: MessageParts>(message: &M) -> Option<HalfName>
 
 /// Returns whether the provider of an end may answer a message by this Abort. It never answers a message that will be
 /// lost.
-fn may_refuse<A: MessageParts>(seat: &Seat, first: &Waiting, abort: &A) -> bool
-    ensures { result ≡ may_be_answered seat.now.end first.now.message (A.meaning abort.now) }
+fn may_refuse<A: MessageParts>(state: &SideState, first: &Waiting, abort: &A) -> bool
+    ensures { result ≡ may_be_answered state.now.end first.now.message (A.meaning abort.now) }
 {
     let Some(first) = &first.message else {
         return false;
     };
     let first = first.view();
-    seat.end.refuse_begin(&first, abort).is_ok() || seat.end.refuse_continue(&first, abort).is_ok()
+    state.end.refuse_begin(&first, abort).is_ok()
+        || state.end.refuse_continue(&first, abort).is_ok()
 }
 
-impl<'r> Seat<'r> {
+impl<'r> SideState<'r> {
     /// Returns whether a message with this fate leaves the channel before an earlier message of its end.
     pub(crate) fn overtakes(&self, fate: Fate) -> bool
         ensures { result ≡ overtakes fate self.now }
@@ -96,7 +97,7 @@ impl<'r> Seat<'r> {
         lent: Option<&'r Message>,
     ) -> Result<(), AllocError>
         requires same { IfSome lent (λ lent. lent.now ≡ M.meaning message.now) }
-        ensures { OnOk result (self.new ≡ seat_with fate number (M.meaning message.now) self.old) }
+        ensures { OnOk result (self.new ≡ side_with fate number (M.meaning message.now) self.old) }
     {
         let message = match fate {
             Fate::Lost => None,
@@ -121,7 +122,7 @@ fn copied<M: MessageParts>(alloc: Global, message: &M) -> Result<Message, CheckF
 
 impl<'r> Progress<'r> {
     /// Appends the step that sends a message to the list of steps, if there is one. Fails if memory runs out.
-    fn tell_sent<M: MessageParts>(
+    fn list_sent<M: MessageParts>(
         &mut self,
         alloc: Global,
         way: SendKind,
@@ -139,7 +140,7 @@ impl<'r> Progress<'r> {
             SendKind::Tells => Step::Tells(side, copied(alloc, message)?),
             SendKind::Replies(number) => Step::Replies(side, number),
         };
-        self.tell(step)
+        self.list_step(step)
     }
 
     /// Appends a message to its end's channel. Fails if memory runs out.
@@ -154,7 +155,7 @@ impl<'r> Progress<'r> {
     ) -> Result<(), CheckFault>
         requires same { IfSome lent (λ lent. lent.now ≡ M.meaning message.now) }
         ensures put { OnOk result (self.new
-            ≡ with_seat side (seat_with fate number (M.meaning message.now) (seat_at side self.old)) self.old) }
+            ≡ with_side side (side_with fate number (M.meaning message.now) (side_at side self.old)) self.old) }
         ensures memory { IsMemory result }
     {
         let joined = match side {
@@ -175,7 +176,7 @@ impl<'r> Progress<'r> {
         message: &M,
         lent: Option<&'r Message>,
     ) -> Result<(), CheckFault>
-        requires room { self.old.moves + 1 < 2 ^ 128 }
+        requires no_overflow { self.old.moves + 1 < 2 ^ 128 }
         requires same { IfSome lent (λ lent. lent.now ≡ M.meaning message.now) }
         ensures sent { OnOk result (self.new
             ≡ sent_by (sending way side (M.meaning message.now)) side fate number (M.meaning message.now) self.old) }
@@ -184,7 +185,7 @@ impl<'r> Progress<'r> {
     {
         self.put(alloc, side, fate, number, message, lent)?;
         self.moves += 1;
-        self.tell_sent(alloc, way, side, message)
+        self.list_sent(alloc, way, side, message)
     }
 
     /// Expires an own invocation of an end, if it may expire. Fails if memory runs out.
@@ -195,7 +196,7 @@ impl<'r> Progress<'r> {
         name: HalfName,
         id: i8,
     ) -> Result<(), CheckFault>
-        requires room { self.old.moves + 1 < 2 ^ 128 }
+        requires no_overflow { self.old.moves + 1 < 2 ^ 128 }
         ensures ended { OnOk result (self.new ≡ end_tried table.now side name id self.old) }
         ensures memory { IsMemory result }
     {
@@ -208,7 +209,7 @@ impl<'r> Progress<'r> {
             return Ok(());
         }
         self.moves += 1;
-        self.tell(Step::Expires(side, name, id))
+        self.list_step(Step::Expires(side, name, id))
     }
 
     /// Expires the earlier invocation whose ID this component invokes again, if it may expire. Fails if memory runs
@@ -220,7 +221,7 @@ impl<'r> Progress<'r> {
         message: &M,
         component: ComponentView,
     ) -> Result<(), CheckFault>
-        requires room { self.old.moves + 1 < 2 ^ 128 }
+        requires no_overflow { self.old.moves + 1 < 2 ^ 128 }
         ensures ended { OnOk result (self.new ≡ invoked_ended table.now side (invoking_half (M.meaning message.now))
             (invoke_id (component_of component.entry)) self.old) }
         ensures memory { IsMemory result }
@@ -241,7 +242,7 @@ impl<'r> Progress<'r> {
         side: End,
         message: &M,
     ) -> Result<(), CheckFault>
-        requires room { self.old.moves + length (components_in (M.meaning message.now)) < 2 ^ 128 }
+        requires no_overflow { self.old.moves + length (components_in (M.meaning message.now)) < 2 ^ 128 }
         ensures ended { OnOk result (self.new ≡ ids_ended_over table.now side (invoking_half (M.meaning message.now))
             (filter_map invoke_id (components_in (M.meaning message.now))) self.old) }
         ensures memory { IsMemory result }
@@ -261,9 +262,9 @@ impl<'r> Progress<'r> {
         side: End,
         message: &M,
     ) -> Result<(), EndFault>
-        ensures step { AnswersInMemory (send table.now (seat_at side self.old).end (M.meaning message.now)) result
-            (seat_at side self.new).end }
-        ensures rest { self.new ≡ with_seat_end side (seat_at side self.new).end self.old }
+        ensures step { AnswersInMemory (send table.now (side_at side self.old).end (M.meaning message.now)) result
+            (side_at side self.new).end }
+        ensures rest { self.new ≡ with_side_end side (side_at side self.new).end self.old }
         ensures kept { OnErr result (self.new ≡ self.old) }
         ensures stays { self.new.moves ≡ self.old.moves }
         ensures still { IsAsMany self.old self.new }
@@ -288,7 +289,7 @@ impl<'r> Progress<'r> {
         message: &M,
         lent: Option<&'r Message>,
     ) -> Result<(), CheckFault>
-        requires room { self.old.moves < 2 ^ 127 }
+        requires no_overflow { self.old.moves < 2 ^ 127 }
         requires same { IfSome lent (λ lent. lent.now ≡ M.meaning message.now) }
         ensures sent { YieldsInMemory (send_kept table.now side fate number (M.meaning message.now) self.old) result
             self.new }
@@ -318,11 +319,11 @@ impl<'r> Progress<'r> {
     /// this Abort.
     fn may_answer<A: MessageParts>(&self, side: End, abort: &A, taken: u32) -> bool
         ensures { result ≡ first_may_be_answered side (A.meaning abort.now) taken
-            (seat_at (other side) self.now).waiting self.now }
+            (side_at (other side) self.now).waiting self.now }
     {
-        match self.seat(side.other()).waiting.front() {
+        match self.side_state(side.other()).waiting.front() {
             Some(first) => {
-                first.number == u64::from(taken) && may_refuse(self.seat(side), first, abort)
+                first.number == u64::from(taken) && may_refuse(self.side_state(side), first, abort)
             }
             None => false,
         }
@@ -341,10 +342,10 @@ impl<'r> Progress<'r> {
         lent: Option<&'r Message>,
         taken: u32,
     ) -> Result<(), CheckFault>
-        requires room { self.old.moves < 2 ^ 127 }
+        requires no_overflow { self.old.moves < 2 ^ 127 }
         requires same { IfSome lent (λ lent. lent.now ≡ A.meaning abort.now) }
         ensures answered { YieldsInMemory (first_answered side fate number (A.meaning abort.now) taken
-            (seat_at (other side) self.old).waiting self.old) result self.new }
+            (side_at (other side) self.old).waiting self.old) result self.new }
         ensures left { Leaves self.old result self.new }
     {
         if !self.may_answer(side, abort, taken) {
@@ -371,7 +372,7 @@ impl<'r> Progress<'r> {
         lent: Option<&'r Message>,
         taken: u32,
     ) -> Result<(), CheckFault>
-        requires room { load self.old < 2 ^ 127 }
+        requires no_overflow { load self.old < 2 ^ 127 }
         requires count { unheard_load self.old < 2 ^ 63 }
         requires same { IfSome lent (λ lent. lent.now ≡ A.meaning abort.now) }
         ensures answered { YieldsInMemory (reply_kept judged side fate number (A.meaning abort.now) taken self.old) result self.new }
@@ -398,7 +399,7 @@ impl<'r> Progress<'r> {
         lent: Option<&'r Message>,
         taken: &[u32],
     ) -> Result<(), CheckFault>
-        requires room { load self.old < 2 ^ 127 }
+        requires no_overflow { load self.old < 2 ^ 127 }
         requires count { unheard_load self.old < 2 ^ 63 }
         requires same { IfSome lent (λ lent. lent.now ≡ M.meaning message.now) }
         ensures taken { YieldsInMemory (message_kept judged table.now side fate number (M.meaning message.now) taken.now self.old)

@@ -60,7 +60,7 @@ fn is_digit(octet: u8) -> bool {
 }
 
 /// Returns the octets after the first line.
-fn behind_line(octets: &[u8]) -> &[u8] {
+fn after_line(octets: &[u8]) -> &[u8] {
     match octets.iter().position(|octet| *octet == b'\n') {
         Some(end) => &octets[end.saturating_add(1).min(octets.len())..],
         None => &[],
@@ -72,7 +72,7 @@ fn are_lines(octets: &[u8]) -> bool {
     let mut rest = octets;
     for _ in 0..octets.len() {
         match rest {
-            [b'#' | b'\n', ..] | [b'\r', b'\n', ..] => rest = behind_line(rest),
+            [b'#' | b'\n', ..] | [b'\r', b'\n', ..] => rest = after_line(rest),
             [b'Q', b'\n', ..] | [b'Q', b'\r', b'\n', ..] => return true,
             [b'A' | b'B', b' ', digit, ..] => return is_digit(*digit),
             // As far as the octets go, there are only lines to skip.
@@ -84,7 +84,7 @@ fn are_lines(octets: &[u8]) -> bool {
 }
 
 /// Returns the octets after quiet marks.
-fn behind_marks(octets: &[u8]) -> &[u8] {
+fn after_marks(octets: &[u8]) -> &[u8] {
     let mut rest = octets;
     while let [b'Q', more @ ..] = rest {
         rest = more;
@@ -110,7 +110,7 @@ fn is_message(octets: &[u8]) -> bool {
 
 /// Returns whether octets begin like a record: quiet marks, then the octet of an end and a message.
 fn is_record(octets: &[u8]) -> bool {
-    match behind_marks(octets) {
+    match after_marks(octets) {
         [b'A' | b'B', message @ ..] => is_message(message),
         _ => false,
     }
@@ -118,7 +118,7 @@ fn is_record(octets: &[u8]) -> bool {
 
 /// Returns the octets that should be a message: those after quiet marks and the octet of an end, if there are any.
 fn message_in(octets: &[u8]) -> &[u8] {
-    match behind_marks(octets) {
+    match after_marks(octets) {
         [b'A' | b'B', message @ ..] => message,
         rest => rest,
     }

@@ -15,7 +15,7 @@ fn push_before(text: &mut String, octets: &[u8]) -> Result<(), AllocError> {
 }
 
 /// Appends octets, with a space before each.
-fn push_behind(text: &mut String, octets: &[u8]) -> Result<(), AllocError> {
+fn push_after(text: &mut String, octets: &[u8]) -> Result<(), AllocError> {
     for octet in octets {
         let octet = *octet;
         write!(text, " {octet:02x}")?;
@@ -32,7 +32,7 @@ pub(crate) fn push_around(text: &mut String, octets: &[u8], at: usize) -> Result
         [marked, behind @ ..] => {
             let marked = *marked;
             write!(text, "[{marked:02x}]")?;
-            push_behind(text, &behind[..SIDE.min(behind.len())])
+            push_after(text, &behind[..SIDE.min(behind.len())])
         }
         [] => text.push_str("[]"),
     }

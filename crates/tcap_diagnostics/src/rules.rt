@@ -45,7 +45,7 @@ pub struct BrokenRule {
 }
 
 /// Returns a rule that is broken after `before` columns.
-fn broken_behind(rule: Rule, before: usize) -> BrokenRule {
+fn broken_after(rule: Rule, before: usize) -> BrokenRule {
     BrokenRule {
         rule,
         column: before.saturating_add(1),
@@ -76,28 +76,28 @@ fn octets_of(alloc: Global, digits: &[u8]) -> Result<Vec<u8>, AllocError> {
 }
 
 /// Returns a rule that is broken after the end, the space and `count` octets.
-fn behind_octets(rule: Rule, count: u64) -> BrokenRule {
+fn after_octets(rule: Rule, count: u64) -> BrokenRule {
     let before = count.min(LINE_LIMIT as u64) as usize;
-    broken_behind(rule, before * 2 + 2)
+    broken_after(rule, before * 2 + 2)
 }
 
 /// Returns the rule that the digits after an end and a space break, if any.
 fn broken_digits(alloc: Global, digits: &[u8]) -> Result<Option<BrokenRule>, AllocError> {
     if let Some(at) = digits.iter().position(|digit| value_of(*digit).is_none()) {
-        return Ok(Some(broken_behind(Rule::Digit, at.saturating_add(2))));
+        return Ok(Some(broken_after(Rule::Digit, at.saturating_add(2))));
     }
     if digits.is_empty() {
-        return Ok(Some(broken_behind(Rule::Digit, 2)));
+        return Ok(Some(broken_after(Rule::Digit, 2)));
     }
     if digits.len() % 2 == 1 {
-        return Ok(Some(broken_behind(Rule::Count, digits.len().saturating_add(1))));
+        return Ok(Some(broken_after(Rule::Count, digits.len().saturating_add(1))));
     }
     let octets = octets_of(alloc, digits)?;
     match outer(&octets) {
         Ok(Outer::Whole(len)) if len == octets.len() => Ok(None),
-        Ok(Outer::Whole(len)) => Ok(Some(behind_octets(Rule::Behind, len as u64))),
-        Ok(Outer::Need(_)) => Ok(Some(behind_octets(Rule::Cut, octets.len() as u64))),
-        Err(fault) => Ok(Some(behind_octets(Rule::Element(fault.reason), fault.place))),
+        Ok(Outer::Whole(len)) => Ok(Some(after_octets(Rule::Behind, len as u64))),
+        Ok(Outer::Need(_)) => Ok(Some(after_octets(Rule::Cut, octets.len() as u64))),
+        Err(fault) => Ok(Some(after_octets(Rule::Element(fault.reason), fault.place))),
     }
 }
 
@@ -108,14 +108,14 @@ fn broken_digits(alloc: Global, digits: &[u8]) -> Result<Option<BrokenRule>, All
 /// `AllocError` if memory runs out.
 pub fn broken_by(alloc: Global, content: &[u8]) -> Result<Option<BrokenRule>, AllocError> {
     if content.len() > LINE_LIMIT {
-        return Ok(Some(broken_behind(Rule::Long, LINE_LIMIT)));
+        return Ok(Some(broken_after(Rule::Long, LINE_LIMIT)));
     }
     match content {
         [] | [b'#', ..] | [b'Q'] => Ok(None),
-        [b'Q', ..] => Ok(Some(broken_behind(Rule::Mark, 1))),
+        [b'Q', ..] => Ok(Some(broken_after(Rule::Mark, 1))),
         [b'A' | b'B', b' ', digits @ ..] => broken_digits(alloc, digits),
-        [b'A' | b'B', ..] => Ok(Some(broken_behind(Rule::Space, 1))),
-        _ => Ok(Some(broken_behind(Rule::End, 0))),
+        [b'A' | b'B', ..] => Ok(Some(broken_after(Rule::Space, 1))),
+        _ => Ok(Some(broken_after(Rule::End, 0))),
     }
 }
 
@@ -139,7 +139,7 @@ fn broken_in(alloc: Global, tail: &Tail) -> Result<Option<BrokenRule>, AllocErro
     let mut lines = tail.lines;
     for _ in 0..tail.octets.len() {
         if lines >= LINES_LIMIT {
-            return Ok(Some(broken_behind(Rule::Many, 0)));
+            return Ok(Some(broken_after(Rule::Many, 0)));
         }
         let Some((line, more)) = first_line(rest) else {
             break;

@@ -13,7 +13,7 @@ use Rattle.tcap_dialogues.specs.DialoguesOfList.{IdOf, is_among, is_same}
 use Rattle.tcap_dialogues.specs.CutState.{AreApart, HasValuesOf, HoldsLive, earlier_of, higher, is_named, is_unsettled}
 use Rattle.tcap_dialogues.specs.CutUpdate.{HasEntry, ids_at}
 use Rattle.tcap_dialogues.specs.declared.known_ids.IdState.{IdState}
-use Rattle.tcap_dialogues.specs.declared.live.Live.{Live}
+use Rattle.tcap_dialogues.specs.declared.live.LiveDialogue.{LiveDialogue}
 use Rattle.tcap_dialogues.proofs.CourseJoins.{hit_by, ids_more}
 use Rattle.tcap_dialogues.proofs.CutLists.{finds}
 use Rattle.tcap_dialogues.proofs.HeldLaws.{one_name}
@@ -27,7 +27,7 @@ pub any_part : {A : Type 0} (p : A → Bool) (f : Course → List A) (ds : List 
     → list_any p (flat_map f ds ++ more) ≡ (list_any (λ d. list_any p (f d)) ds || list_any p more)
 any_part p f ds more = list_any-append p (flat_map f ds) more ∙ ap (λ b. b || list_any p more) (any_flat p f ds)
 
-module _ (live : List Course) (names : Course → ℕ) (lives : Rattle.std.specs.BTreeMap.BTreeMap ℕ Live) (apart : AreApart live)
+module _ (live : List Course) (names : Course → ℕ) (lives : Rattle.std.specs.BTreeMap.BTreeMap ℕ LiveDialogue) (apart : AreApart live)
     (are : HoldsLive live names lives) where
   -- A dialogue has one of these IDs if it has the name that is known.
   pub owned_is : (ids : List IdOf) (known : IdState) → Owns live names ids known known.dialogue → (d : Course)
@@ -117,7 +117,7 @@ some_begun ds more = some_more (flat_map (λ d. d.begun) ds) more ∙ ap (λ b. 
     by [] = refl
     by (e ∷ es) = some_more e.begun (flat_map (λ d. d.begun) es) ∙ ap (λ b. has_begin e || b) (by es)
 
-pub entry_kept : (earlier : Earlier) (n : ℕ) (h : Heading) (live : List Course) (own peer : IdState) (old new : Live)
+pub entry_kept : (earlier : Earlier) (n : ℕ) (h : Heading) (live : List Course) (own peer : IdState) (old new : LiveDialogue)
     → HasValuesOf (hit_by h live) old → HasEntry n h own peer old new
     → share_id (ids_more h live) earlier.ids ≡ is_some (higher (earlier_of own) (earlier_of peer))
     → list_any (unsettled_by earlier) (ids_more h live) ≡ (is_unsettled own || is_unsettled peer)

@@ -12,7 +12,7 @@ use Rattle.tcap_dialogues.specs.DialoguesOfList.{IdOf, is_among, is_same}
 use Rattle.tcap_dialogues.specs.CutState.{AreApart, HoldsLive, is_used_anew}
 use Rattle.tcap_dialogues.specs.CutUpdate.{ids_at}
 use Rattle.tcap_dialogues.specs.declared.known_ids.IdState.{IdState}
-use Rattle.tcap_dialogues.specs.declared.live.Live.{Live}
+use Rattle.tcap_dialogues.specs.declared.live.LiveDialogue.{LiveDialogue}
 use Rattle.tcap_dialogues.proofs.CutLists.{finds, found}
 use Rattle.tcap_dialogues.proofs.HeldLaws.{one_name}
 use Rattle.tcap_dialogues.proofs.HeldLists.{any_flat, any_none, any_only, both_so, or_none}
@@ -47,7 +47,7 @@ accepts_none live h not_one =
     any_none (accepts_one h) live
     (λ x has. ap (λ b. (b && share_id (peer_ids h) x.begun && not (list_any (is_side h.sender) x.senders)) && not (share_id (own_ids h) x.ids)) not_one)
 
-module _ (live : List Course) (names : Course → ℕ) (lives : Rattle.std.specs.BTreeMap.BTreeMap ℕ Live) (apart : AreApart live)
+module _ (live : List Course) (names : Course → ℕ) (lives : Rattle.std.specs.BTreeMap.BTreeMap ℕ LiveDialogue) (apart : AreApart live)
     (are : HoldsLive live names lives) (h : Heading) where
   module _ (peer : IdState) where
     pub accepts_nobody : IsNobodys live (peer_ids h) peer → list_any (accepts_one h) live ≡ false
@@ -207,7 +207,7 @@ as_known last begun word none is = by none word begun ∙ ap (λ b. begun && wor
 
 -- ---- the result of the code
 
-module _ (s : Courses) (names : Course → ℕ) (lives : Rattle.std.specs.BTreeMap.BTreeMap ℕ Live) (apart : AreApart s.live)
+module _ (s : Courses) (names : Course → ℕ) (lives : Rattle.std.specs.BTreeMap.BTreeMap ℕ LiveDialogue) (apart : AreApart s.live)
     (are : HoldsLive s.live names lives) (h : Heading) (own : IdState) where
   -- If no live dialogue has the own ID, none is given up.
   pub gives_up_nobody : IsNobodys s.live (own_ids h) own → (d : Course) → Contains s.live d → (is_some d.over && is_used_anew s h d) ≡ false

@@ -15,7 +15,7 @@ use Rattle.tcap_dialogues.specs.DialoguesOfList.{IdOf}
 use Rattle.tcap_dialogues.specs.CutState.{AreApart, HasValuesOf, HoldsLive, HoldsOver, AreTakenOut, IsCutState, IsIdState, IsJoinedLive, IsTakenOut, Lingers, has_sent, is_named, known_at, nothing, without_name, with_name}
 use Rattle.tcap_dialogues.specs.CutUpdate.{is_over_at}
 use Rattle.tcap_dialogues.specs.declared.cut.Cut.{Cut}
-use Rattle.tcap_dialogues.specs.declared.live.Live.{Live}
+use Rattle.tcap_dialogues.specs.declared.live.LiveDialogue.{LiveDialogue}
 use Rattle.tcap_dialogues.specs.declared.reuse.Reuse.TheVariants as reuses
 use Rattle.tcap_dialogues.proofs.CutLists.{finds, first_in, in_cases, kept_in, left_in, none_in}
 use Rattle.tcap_dialogues.proofs.HeldLists.{AreSame, any_same, both_so, or_none}
@@ -28,7 +28,7 @@ at_number a b = unsigned_tied a b
 
 -- ---- the same dialogues in another order
 
-pub same_kept : (ds es : List Course) (l : Live) → AreSame ds es → HasValuesOf ds l → HasValuesOf es l
+pub same_kept : (ds es : List Course) (l : LiveDialogue) → AreSame ds es → HasValuesOf ds l → HasValuesOf es l
 same_kept ds es l same kept = record {
   numbers = λ n. kept.numbers n ∙ any_same (λ d. has_entry d n) ds es same;
   ids = λ id. kept.ids id ∙ any_same (λ d. Rattle.tcap_dialogues.specs.DialoguesOfList.is_among d.ids id) ds es same;
@@ -42,9 +42,9 @@ same_kept ds es l same kept = record {
 
 -- ---- a dialogue by its name
 
-module _ (live : List Course) (names : Course → ℕ) (lives : BTreeMap ℕ Live) (are : HoldsLive live names lives) where
+module _ (live : List Course) (names : Course → ℕ) (lives : BTreeMap ℕ LiveDialogue) (are : HoldsLive live names lives) where
   -- The values found under a name are those of the dialogue.
-  pub found_live : (d : Course) (number : ℕ) (l : Live) → Contains live d → names d ≡ number → Some l ≡ tree.get nat_cmp lives number
+  pub found_live : (d : Course) (number : ℕ) (l : LiveDialogue) → Contains live d → names d ≡ number → Some l ≡ tree.get nat_cmp lives number
       → (l.name ≡ number) × HasValuesOf (d ∷ []) l
   found_live d number l has named there =
       let (kept, at, name, is) = are.there d has in
@@ -63,18 +63,18 @@ module _ (live : List Course) (names : Course → ℕ) (lives : BTreeMap ℕ Liv
   one_name apart d e has hers same =
       apart.one_number d e (names d) has hers (are.entry d has) (ap (has_entry e) same ∙ are.entry e hers)
 
-pub over_one : (d : Course) (l : Live) → HasValuesOf (d ∷ []) l → l.over ≡ d.over
+pub over_one : (d : Course) (l : LiveDialogue) → HasValuesOf (d ∷ []) l → l.over ≡ d.over
 over_one d l kept = kept.over ∙ lower_none d.over
 
-pub begun_one : (d : Course) (l : Live) → HasValuesOf (d ∷ []) l → l.begun ≡ has_begin d
+pub begun_one : (d : Course) (l : LiveDialogue) → HasValuesOf (d ∷ []) l → l.begun ≡ has_begin d
 begun_one d l kept = kept.begun ∙ or_none (has_begin d)
 
-pub senders_one : (d : Course) (l : Live) (side : Side) → HasValuesOf (d ∷ []) l → has_sent l side ≡ list_any (is_side side) d.senders
+pub senders_one : (d : Course) (l : LiveDialogue) (side : Side) → HasValuesOf (d ∷ []) l → has_sent l side ≡ list_any (is_side side) d.senders
 senders_one d l side kept = kept.senders side ∙ or_none (list_any (is_side side) d.senders)
 
 -- ---- a dialogue that has been over for so long
 
-module _ (live : List Course) (names : Course → ℕ) (lives : BTreeMap ℕ Live) (overs : BTreeMap ℕ ℕ) (apart : AreApart live)
+module _ (live : List Course) (names : Course → ℕ) (lives : BTreeMap ℕ LiveDialogue) (overs : BTreeMap ℕ ℕ) (apart : AreApart live)
     (are : HoldsLive live names lives) (ends : HoldsOver live names overs) (linger n number : ℕ) (at : (number + linger) + 1 ≡ n)
     (lasts : (d : Course) → Contains live d → Lingers (reuses.Again linger) n d.over) where
   -- It is over with this number.
@@ -112,7 +112,7 @@ module _ (live : List Course) (names : Course → ℕ) (lives : BTreeMap ℕ Liv
 
 -- ---- a dialogue is taken out
 
-module _ (live : List Course) (names : Course → ℕ) (lives : BTreeMap ℕ Live) (overs : BTreeMap ℕ ℕ) (apart : AreApart live)
+module _ (live : List Course) (names : Course → ℕ) (lives : BTreeMap ℕ LiveDialogue) (overs : BTreeMap ℕ ℕ) (apart : AreApart live)
     (are : HoldsLive live names lives) (ends : HoldsOver live names overs) where
   -- If none has this name, the others are all.
   module _ (number : Option ℕ) (none : (d : Course) → Contains live d → is_named names number d ≡ false) where
@@ -159,7 +159,7 @@ module _ (live : List Course) (names : Course → ℕ) (lives : BTreeMap ℕ Liv
     differs_at : (k : ℕ) → (k ≡ number → ⊥) → is_at (nat_cmp number) k ≡ false
     differs_at k differs = false_from_ne_true _ (λ is. differs (sym (eqb-true number k (sym (at_number number k) ∙ is))))
 
-    pub others_lives : (new : BTreeMap ℕ Live)
+    pub others_lives : (new : BTreeMap ℕ LiveDialogue)
         → ((k : ℕ) → tree.get nat_cmp new k ≡ cond (is_at (nat_cmp number) k) None (tree.get nat_cmp lives k))
         → HoldsLive (without_name names (Some number) live) names new
     others_lives new removed = record {
@@ -175,7 +175,7 @@ module _ (live : List Course) (names : Course → ℕ) (lives : BTreeMap ℕ Liv
       entry = λ e there. are.entry e (is_other e there).0;
     }
       where
-        by : (k : ℕ) (l : Live) → (is_at (nat_cmp number) k ≡ true) ⊎ (is_at (nat_cmp number) k ≡ false) → tree.get nat_cmp new k ≡ Some l
+        by : (k : ℕ) (l : LiveDialogue) → (is_at (nat_cmp number) k ≡ true) ⊎ (is_at (nat_cmp number) k ≡ false) → tree.get nat_cmp new k ≡ Some l
             → (e : Course) × Contains (without_name names (Some number) live) e × (names e ≡ k)
         by k l (inl is) at =
             let bad : None ≡ Some l = sym (removed k ∙ ap (λ b. cond b None (tree.get nat_cmp lives k)) is) ∙ at in cc
@@ -245,7 +245,7 @@ module _ (live : List Course) (names : Course → ℕ) (lives : BTreeMap ℕ Liv
             (left_in (is_named names (Some number)) live d has (eq-eqb (names d) number named))
         by e (inr bad) = absurd (none_in e bad)
 
-    pub those_taken : (l : Live) → (l.name ≡ number) × HasValuesOf (d ∷ []) l → AreTakenOut (with_name names (Some number) live) names (Some l)
+    pub those_taken : (l : LiveDialogue) → (l.name ≡ number) × HasValuesOf (d ∷ []) l → AreTakenOut (with_name names (Some number) live) names (Some l)
     those_taken l (name, kept) = (
       same_kept (d ∷ []) (with_name names (Some number) live) l those_one kept,
       λ e there.
@@ -257,18 +257,18 @@ module _ (live : List Course) (names : Course → ℕ) (lives : BTreeMap ℕ Liv
 -- ---- the code
 
 -- The number is removed if the dialogue is over.
-pub number_out : (l : Live) (number : ℕ) (old new : BTreeMap ℕ ℕ) → l.over ≡ Some number
+pub number_out : (l : LiveDialogue) (number : ℕ) (old new : BTreeMap ℕ ℕ) → l.over ≡ Some number
     → ((k : ℕ) → tree.get nat_cmp new k ≡ cond (is_at (nat_cmp number) k) None (tree.get nat_cmp old k)) → (k : ℕ)
     → tree.get nat_cmp new k ≡ cond (is_over_at l.over k) None (tree.get nat_cmp old k)
 number_out l number old new over removed k =
     removed k ∙ ap (λ b. cond b None (tree.get nat_cmp old k)) (at_number number k ∙ ap (λ o. is_over_at o k) (sym over))
 
-pub no_number_out : (l : Live) (old : BTreeMap ℕ ℕ) → l.over ≡ None → (k : ℕ)
+pub no_number_out : (l : LiveDialogue) (old : BTreeMap ℕ ℕ) → l.over ≡ None → (k : ℕ)
     → tree.get nat_cmp old k ≡ cond (is_over_at l.over k) None (tree.get nat_cmp old k)
 no_number_out l old over k = ap (λ o. cond (is_over_at o k) None (tree.get nat_cmp old k)) (sym over)
 
 -- Equal maps keep the same dialogues.
-lives_same : (ds : List Course) (names : Course → ℕ) (old new : BTreeMap ℕ Live) → new.entries ≡ old.entries → HoldsLive ds names old
+lives_same : (ds : List Course) (names : Course → ℕ) (old new : BTreeMap ℕ LiveDialogue) → new.entries ≡ old.entries → HoldsLive ds names old
     → HoldsLive ds names new
 lives_same ds names old new same are = record {
   there = λ d has.
@@ -303,7 +303,7 @@ nothing_held names kept no_live no_overs no_ids = record {
 }
 
 -- An empty dialogue keeps none.
-pub none_in_one : (n : ℕ) (ds : List Course) (names : Course → ℕ) (l : Live) → ((d : Course) → Contains ds d → ⊥) → HasValuesOf [] l
+pub none_in_one : (n : ℕ) (ds : List Course) (names : Course → ℕ) (l : LiveDialogue) → ((d : Course) → Contains ds d → ⊥) → HasValuesOf [] l
     → l.name ≡ n → IsJoinedLive n ds names l
 none_in_one n ds names l none kept name = record {
   kept = same_kept [] ds l (record { there = λ d has. absurd (none_in d has); back = λ d has. absurd (none d has) }) kept;
@@ -314,7 +314,7 @@ none_in_one n ds names l none kept name = record {
 module _ (live : List Course) (names : Course → ℕ) (old new : Cut) (apart : AreApart live) (are : HoldsLive live names old.live)
     (ends : HoldsOver live names old.overs) (rest : new ≡ record old { live = new.live; overs = new.overs }) where
   -- A dialogue was found.
-  pub out_one : (number : ℕ) (l : Live) → Some l ≡ tree.get nat_cmp old.live number
+  pub out_one : (number : ℕ) (l : LiveDialogue) → Some l ≡ tree.get nat_cmp old.live number
       → ((k : ℕ) → tree.get nat_cmp new.live k ≡ cond (is_at (nat_cmp number) k) None (tree.get nat_cmp old.live k))
       → ((k : ℕ) → tree.get nat_cmp new.overs k ≡ cond (is_over_at l.over k) None (tree.get nat_cmp old.overs k))
       → IsTakenOut (Some number) live names old new (Some l)

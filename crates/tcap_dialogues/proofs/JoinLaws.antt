@@ -13,7 +13,7 @@ use Rattle.tcap_dialogues.specs.CutUpdate.{AreNoted, HasEntry, IsJoined, IsAdded
 use Rattle.tcap_dialogues.specs.declared.cut.Cut.{Cut}
 use Rattle.tcap_dialogues.specs.declared.known_ids.Ids.{Ids}
 use Rattle.tcap_dialogues.specs.declared.known_ids.IdState.{IdState}
-use Rattle.tcap_dialogues.specs.declared.live.Live.{Live}
+use Rattle.tcap_dialogues.specs.declared.live.LiveDialogue.{LiveDialogue}
 use Rattle.tcap_dialogues.proofs.CourseJoins.{hit_by, ids_more}
 use Rattle.tcap_dialogues.proofs.CourseStretch.{left_apart}
 use Rattle.tcap_dialogues.proofs.CutLists.{finds, kept_in, left_in}
@@ -106,7 +106,7 @@ module _ (s : Courses) (names : Course → ℕ) (sent : IdOf → Bool) (h : Head
   others_apart =
       left_apart live (without_name names own.dialogue live) (λ d has. (kept_in (λ e. not (is_named names own.dialogue e)) live d has).0) apart
 
-  module _ (first second : Cut) (x y : Live) (takes : TakesOne own.dialogue live names old first x)
+  module _ (first second : Cut) (x y : LiveDialogue) (takes : TakesOne own.dialogue live names old first x)
       (takes_more : TakesOne peer.dialogue (without_name names own.dialogue live) names first second y) where
     same_ids : second.ids ≡ old.ids
     same_ids = ap (λ c. c.ids) takes_more.rest ∙ ap (λ c. c.ids) takes.rest
@@ -133,7 +133,7 @@ module _ (s : Courses) (names : Course → ℕ) (sent : IdOf → Bool) (h : Head
             (kept_in (is_named names peer.dialogue) (without_name names own.dialogue live) d there).0).0
 
     module _ (later : AreApart (joined_by old.count h s.done s.live).live)
-        (below : (d : Course) (i : ℕ) → Contains live d → has_entry d i ≡ true → i < old.count) (third put : Cut) (l new : Live)
+        (below : (d : Course) (i : ℕ) → Contains live d → has_entry d i ≡ true → i < old.count) (third put : Cut) (l new : LiveDialogue)
         (ids : Ids) (joined : IsJoined second.count (ones ++ more) second third l)
         (entry : HasEntry old.count h own peer l new)
         (noted : AreNoted h new.name own peer third.ids ids) (puts : IsAdded new (record third { ids = ids }) put) where

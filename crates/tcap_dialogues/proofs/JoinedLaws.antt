@@ -13,7 +13,7 @@ use Rattle.tcap_dialogues.specs.CutUpdate.{IsJoined}
 use Rattle.tcap_dialogues.specs.declared.cut.Cut.{Cut}
 use Rattle.tcap_dialogues.specs.declared.known_ids.Change.TheVariants as changes
 use Rattle.tcap_dialogues.specs.declared.known_ids.IdState.{IdState}
-use Rattle.tcap_dialogues.specs.declared.live.Live.{Live}
+use Rattle.tcap_dialogues.specs.declared.live.LiveDialogue.{LiveDialogue}
 use Rattle.tcap_dialogues.proofs.CutLists.{found}
 use Rattle.tcap_dialogues.proofs.HeldLaws.{same_kept}
 use Rattle.tcap_dialogues.proofs.HeldLists.{AreSame, any_same}
@@ -22,7 +22,7 @@ use Rattle.tcap_dialogues.proofs.HeldLists.{AreSame, any_same}
 same_dialogue : (known : IdState) (name : ℕ) → known.dialogue ≡ Some name → known ≡ changed (changes.JoinTo name) known
 same_dialogue known name is = ap (λ o. let it : IdState = record known { dialogue = o } in it) is
 
-module _ (n : ℕ) (ds es : List Course) (names : Course → ℕ) (old new : Cut) (large small : Live) (one : IsJoinedLive n ds names large)
+module _ (n : ℕ) (ds es : List Course) (names : Course → ℕ) (old new : Cut) (large small : LiveDialogue) (one : IsJoinedLive n ds names large)
     (other : IsJoinedLive n es names small)
     (owned : (d : Course) (id : IdOf) → Contains (ds ++ es) d → is_among d.ids id ≡ true → (known_at old.ids id).dialogue ≡ Some (names d))
     (ids : (id : IdOf) → known_at new.ids id
@@ -57,7 +57,7 @@ module _ (n : ℕ) (ds es : List Course) (names : Course → ℕ) (old new : Cut
       by true false is = stays id is
       by false b is = refl
 
-  pub joined_in : (l : Live) → HasValuesOf (ds ++ es) l → l.name ≡ large.name → IsJoined n (ds ++ es) old new l
+  pub joined_in : (l : LiveDialogue) → HasValuesOf (ds ++ es) l → l.name ≡ large.name → IsJoined n (ds ++ es) old new l
   joined_in l kept name = record {
     kept = kept;
     entry = by one.entry;
@@ -76,7 +76,7 @@ module _ (n : ℕ) (ds es : List Course) (names : Course → ℕ) (old new : Cut
           ∙ list_any-append (λ d. has_entry d large.name) ds es ∙ or_left _ _ is)
 
 -- the same dialogues in another order
-pub joined_same : (n : ℕ) (ds es : List Course) (old new : Cut) (l : Live) → AreSame ds es → IsJoined n ds old new l → IsJoined n es old new l
+pub joined_same : (n : ℕ) (ds es : List Course) (old new : Cut) (l : LiveDialogue) → AreSame ds es → IsJoined n ds old new l → IsJoined n es old new l
 joined_same n ds es old new l same is = record {
   kept = same_kept ds es l same is.kept;
   entry = by is.entry;

@@ -14,7 +14,7 @@ use Rattle.tcap_dialogues.specs.CutState.{AreApart, HasValuesOf, HoldsLive, Hold
 use Rattle.tcap_dialogues.specs.CutUpdate.{IsAdded, ids_at, is_over_at}
 use Rattle.tcap_dialogues.specs.declared.cut.Cut.{Cut}
 use Rattle.tcap_dialogues.specs.declared.known_ids.Ids.{Ids}
-use Rattle.tcap_dialogues.specs.declared.live.Live.{Live}
+use Rattle.tcap_dialogues.specs.declared.live.LiveDialogue.{LiveDialogue}
 use Rattle.tcap_dialogues.proofs.CourseJoins.{IsNew, hit_by}
 use Rattle.tcap_dialogues.proofs.Joins.{in_hit, joins, number_comes, number_stays, stays, which}
 use Rattle.tcap_dialogues.proofs.CutIds.{same_id}
@@ -108,9 +108,9 @@ module _ (live : List Course) (names : Course → ℕ) (earlier : Earlier) (n : 
       differ d (there, misses) same =
           true≢false (sym (number_comes made.joins) ∙ ap (λ x. has_entry x n) (sym same) ∙ not_here d there)
 
-      module _ (lives : tree.BTreeMap ℕ Live) (overs : tree.BTreeMap ℕ ℕ) (left : List Course)
+      module _ (lives : tree.BTreeMap ℕ LiveDialogue) (overs : tree.BTreeMap ℕ ℕ) (left : List Course)
           (miss : AreSame left (filter (λ d. not (share_id (ids_in h) d.ids)) live)) (are : HoldsLive left names lives)
-          (ends : HoldsOver left names overs) (old now : Cut) (old_lives : old.live ≡ lives) (old_overs : old.overs ≡ overs) (l : Live)
+          (ends : HoldsOver left names overs) (old now : Cut) (old_lives : old.live ≡ lives) (old_overs : old.overs ≡ overs) (l : LiveDialogue)
           (name : l.name ≡ k) (kept : HasValuesOf (new ∷ []) l) (put : IsAdded l old now) where
         old_of : (d : Course) → Contains left d → Old d
         old_of d has =
@@ -140,7 +140,7 @@ module _ (live : List Course) (names : Course → ℕ) (earlier : Earlier) (n : 
         }
           where
             there : (d : Course) → Old d ⊎ (new ≡ d)
-                → (x : Live) × (tree.get nat_cmp now.live (names_then d) ≡ Some x) × (x.name ≡ names_then d) × HasValuesOf (d ∷ []) x
+                → (x : LiveDialogue) × (tree.get nat_cmp now.live (names_then d) ≡ Some x) × (x.name ≡ names_then d) × HasValuesOf (d ∷ []) x
             there d (inl o) =
                 let (x, found_at, named, is) = are.there d (left_old d o) in (
                   x,
@@ -150,14 +150,14 @@ module _ (live : List Course) (names : Course → ℕ) (earlier : Earlier) (n : 
                   is,
                 )
             there d (inr same) =
-                subst (λ e. (x : Live) × (tree.get nat_cmp now.live (names_then e) ≡ Some x) × (x.name ≡ names_then e) × HasValuesOf (e ∷ []) x) same (
+                subst (λ e. (x : LiveDialogue) × (tree.get nat_cmp now.live (names_then e) ≡ Some x) × (x.name ≡ names_then e) × HasValuesOf (e ∷ []) x) same (
                   l,
                   ap (tree.get nat_cmp now.live) name_new ∙ at k ∙ ap (λ b. cond b (Some l) (tree.get nat_cmp lives k)) (eq-eqb k k refl),
                   name ∙ sym name_new,
                   kept,
                 )
 
-            back : (q : ℕ) (x : Live) → ((k == q) ≡ true) ⊎ ((k == q) ≡ false) → tree.get nat_cmp now.live q ≡ Some x
+            back : (q : ℕ) (x : LiveDialogue) → ((k == q) ≡ true) ⊎ ((k == q) ≡ false) → tree.get nat_cmp now.live q ≡ Some x
                 → (d : Course) × Contains (with_joined_entry earlier n h live) d × (names_then d ≡ q)
             back q x (inl is) found_at = (new, new_later, name_new ∙ eqb-true k q is)
             back q x (inr is) found_at =

@@ -23,7 +23,7 @@ use Rattle.tcap_dialogues.specs.Course.{Course, Heading, begun_by, first_over, h
 use Rattle.tcap_dialogues.specs.CutState.{HasValuesOf, earlier_of, has_sent, higher, is_unsettled}
 use Rattle.tcap_dialogues.specs.CutUpdate.{HasEntry, HasId, HasSender, ids_at}
 use Rattle.tcap_dialogues.specs.declared.known_ids.IdState.{IdState}
-use Rattle.tcap_dialogues.specs.declared.live.Live.{Live}
+use Rattle.tcap_dialogues.specs.declared.live.LiveDialogue.{LiveDialogue}
 use Rattle.tcap_dialogues.proofs.HeldLists.{or_none}
 use Rattle.tcap_dialogues.proofs.HeldOvers.{over_appended}
 use Rattle.tcap_dialogues.proofs.KnownLaws.{at_octets}
@@ -44,7 +44,7 @@ added old new key adds q =
     by false true = refl
     by false false = refl
 
-pub add_to_a : (old : Live) (new : BTreeSet (List ℕ)) (key : List ℕ) → Adds old.a new key
+pub add_to_a : (old : LiveDialogue) (new : BTreeSet (List ℕ)) (key : List ℕ) → Adds old.a new key
     → HasId (ids_at sides.A (Some key)) old (record old { a = new })
 add_to_a old new key adds = record { ids_are = λ id. by id id.end; rest = refl }
   where
@@ -53,7 +53,7 @@ add_to_a old new key adds = record { ids_are = λ id. by id id.end; rest = refl 
     by id sides.A = added old.a new key adds id.octets
     by id sides.B = sym (or_none (set.contains octets_cmp old.b id.octets))
 
-pub add_to_b : (old : Live) (new : BTreeSet (List ℕ)) (key : List ℕ) → Adds old.b new key
+pub add_to_b : (old : LiveDialogue) (new : BTreeSet (List ℕ)) (key : List ℕ) → Adds old.b new key
     → HasId (ids_at sides.B (Some key)) old (record old { b = new })
 add_to_b old new key adds = record { ids_are = λ id. by id id.end; rest = refl }
   where
@@ -96,7 +96,7 @@ some_unsettled known = by (is_none known.dialogue)
     by false = refl
 
 -- all values of both dialogues
-pub absorbed : (ds es : List Course) (l m : Live) (numbers : BTreeSet ℕ) (a b : BTreeSet (List ℕ)) (over earlier : Option ℕ)
+pub absorbed : (ds es : List Course) (l m : LiveDialogue) (numbers : BTreeSet ℕ) (a b : BTreeSet (List ℕ)) (over earlier : Option ℕ)
     → HasValuesOf ds l → HasValuesOf es m
     → ((n : ℕ) → set.contains nat_cmp numbers n ≡ (set.contains nat_cmp l.numbers n || set.contains nat_cmp m.numbers n))
     → ((id : List ℕ) → set.contains octets_cmp a id ≡ (set.contains octets_cmp l.a id || set.contains octets_cmp m.a id))
@@ -142,7 +142,7 @@ absorbed ds es l m numbers a b over earlier kept other numbers_are a_is b_is ove
 -- ---- one more entry
 
 -- the values after the entry's number, IDs and sender are added
-module _ (number : ℕ) (h : Heading) (own peer : IdState) (old noted one new : Live) (numbers : BTreeSet ℕ) (begun early unsettled : Bool)
+module _ (number : ℕ) (h : Heading) (own peer : IdState) (old noted one new : LiveDialogue) (numbers : BTreeSet ℕ) (begun early unsettled : Bool)
     (over earlier : Option ℕ)
     (adds : (n : ℕ) → set.contains nat_cmp numbers n ≡ cond (is_at (nat_cmp number) n) true (set.contains nat_cmp old.numbers n))
     (sends : HasSender h.sender (record old { numbers = numbers }) noted)

@@ -13,7 +13,7 @@ use Rattle.tcap_dialogues.specs.CutState.{AreApart, HasValuesOf, HoldsLive, AreT
 use Rattle.tcap_dialogues.specs.declared.cut.Cut.{Cut}
 use Rattle.tcap_dialogues.specs.declared.complete_dialogue.CompleteDialogue.{CompleteDialogue}
 use Rattle.tcap_dialogues.specs.declared.known_ids.IdState.{IdState}
-use Rattle.tcap_dialogues.specs.declared.live.Live.{Live}
+use Rattle.tcap_dialogues.specs.declared.live.LiveDialogue.{LiveDialogue}
 use Rattle.tcap_dialogues.proofs.CutLists.{finds, first_in, found, in_cases, kept_in, left_in, none_in}
 use Rattle.tcap_dialogues.proofs.GatheredLaws.{none_gathered, one_gathered}
 use Rattle.tcap_dialogues.proofs.HeldLaws.{one_name, same_kept}
@@ -136,7 +136,7 @@ module _ (s : Courses) (names : Course → ℕ) (sent : IdOf → Bool) (number :
   -- ---- the dialogue taken out
 
   -- It is the only one with this name.
-  taken_one : (lives : Rattle.std.specs.BTreeMap.BTreeMap ℕ Live) (l : Live) → HoldsLive s.live names lives → AreTakenOut gone names (Some l)
+  taken_one : (lives : Rattle.std.specs.BTreeMap.BTreeMap ℕ LiveDialogue) (l : LiveDialogue) → HoldsLive s.live names lives → AreTakenOut gone names (Some l)
       → (d : Course) × Contains gone d × ((e : Course) → Contains gone e → e ≡ d) × HasValuesOf (d ∷ []) l
   taken_one lives l are (kept, named, some) =
       let (d, has, so) = found (λ x. has_entry x l.name) gone some in
@@ -157,7 +157,7 @@ module _ (s : Courses) (names : Course → ℕ) (sent : IdOf → Bool) (number :
 
   module _ (old : Cut) (held : IsCutState s names sent old) where
     -- It is handed over.
-    pub one_released : (first : ℕ) (out new : Cut) (l : Live) (g : CompleteDialogue) (before : List CompleteDialogue) → IsTakenOut number s.live names old out (Some l)
+    pub one_released : (first : ℕ) (out new : Cut) (l : LiveDialogue) (g : CompleteDialogue) (before : List CompleteDialogue) → IsTakenOut number s.live names old out (Some l)
         → new.live ≡ out.live → new.overs ≡ out.overs
         → ((id : IdOf) → known_at new.ids id ≡ cond (has_id l.a l.b id) (free_since first l.early (known_at out.ids id)) (known_at out.ids id))
         → ((d : Course) → HasValuesOf (d ∷ []) l → IsCompleteDialogue d g)

@@ -18,7 +18,7 @@ use Rattle.tcap_dialogues.specs.declared.known_ids.EndIds.{EndIds}
 use Rattle.tcap_dialogues.specs.declared.known_ids.FreeIdState.{FreeIdState}
 use Rattle.tcap_dialogues.specs.declared.known_ids.Ids.{Ids}
 use Rattle.tcap_dialogues.specs.declared.known_ids.IdState.{IdState}
-use Rattle.tcap_dialogues.specs.declared.live.Live.{Live}
+use Rattle.tcap_dialogues.specs.declared.live.LiveDialogue.{LiveDialogue}
 use Rattle.tcap_dialogues.specs.declared.reuse.Reuse.{Reuse}
 use Rattle.tcap_dialogues.specs.declared.reuse.Reuse.TheVariants as reuses
 
@@ -28,13 +28,13 @@ use Rattle.tcap_dialogues.specs.declared.reuse.Reuse.TheVariants as reuses
 abbrev pub known_by : Option IdState → Option FreeIdState → IdState
 known_by (Some known) found = known
 known_by None None = record { dialogue = None; used = false; begun = false; last = None; firm = false; sent = false }
-known_by None (Some gone) = record {
+known_by None (Some free) = record {
   dialogue = None;
   used = false;
   begun = false;
-  last = Some gone.last;
-  firm = gone.firm;
-  sent = gone.sent;
+  last = Some free.last;
+  firm = free.firm;
+  sent = free.sent;
 }
 
 -- the knowledge of an ID that no dialogue has had
@@ -102,11 +102,11 @@ abbrev pub without_name : (Course → ℕ) → Option ℕ → List Course → Li
 without_name name number live = filter (λ d. not (is_named name number d)) live
 
 -- whether an end sent an entry of a live dialogue
-abbrev pub has_sent : Live → Side → Bool
+abbrev pub has_sent : LiveDialogue → Side → Bool
 has_sent l side = by_end side l.a_sent l.b_sent
 
 -- The values kept are those of these dialogues joined into one.
-pub record HasValuesOf (ds : List Course) (l : Live) : Type 0 where
+pub record HasValuesOf (ds : List Course) (l : LiveDialogue) : Type 0 where
   pub numbers : (n : ℕ) → set.contains nat_cmp l.numbers n ≡ list_any (λ d. has_entry d n) ds
   pub ids : (id : IdOf) → has_id l.a l.b id ≡ list_any (λ d. is_among d.ids id) ds
   pub senders : (side : Side) → has_sent l side ≡ list_any (λ d. list_any (is_side side) d.senders) ds
@@ -117,10 +117,11 @@ pub record HasValuesOf (ds : List Course) (l : Live) : Type 0 where
   pub unsettled : l.unsettled ≡ list_any (λ d. d.unsettled) ds
 
 -- Each live dialogue is kept under its name, which is the number of one of its entries, and no others are kept.
-pub record HoldsLive (live : List Course) (name : Course → ℕ) (lives : BTreeMap ℕ Live) : Type 0 where
+pub record HoldsLive (live : List Course) (name : Course → ℕ) (lives : BTreeMap ℕ LiveDialogue) : Type 0 where
   pub there : (d : Course) → Contains live d
-      → (l : Live) × (tree.get nat_cmp lives (name d) ≡ Some l) × (l.name ≡ name d) × HasValuesOf (d ∷ []) l
-  pub back : (number : ℕ) (l : Live) → tree.get nat_cmp lives number ≡ Some l → (d : Course) × Contains live d × (name d ≡ number)
+      → (l : LiveDialogue) × (tree.get nat_cmp lives (name d) ≡ Some l) × (l.name ≡ name d) × HasValuesOf (d ∷ []) l
+  pub back : (number : ℕ) (l : LiveDialogue) → tree.get nat_cmp lives number ≡ Some l
+      → (d : Course) × Contains live d × (name d ≡ number)
   pub entry : (d : Course) → Contains live d → has_entry d (name d) ≡ true
 
 -- The names of the live dialogues that are over are kept, by the number of the first entry with which each is over.
@@ -201,21 +202,21 @@ is_given_up (reuses.Again linger) s h d = is_some d.over && is_used_anew s h d
 -- ---- dialogues that are taken out
 
 -- The dialogues with this name, if there are any, were taken out.
-abbrev pub AreTakenOut : List Course → (Course → ℕ) → Option Live → Type 0
+abbrev pub AreTakenOut : List Course → (Course → ℕ) → Option LiveDialogue → Type 0
 AreTakenOut ds name None = (d : Course) → Contains ds d → ⊥
 AreTakenOut ds name (Some l) =
     HasValuesOf ds l × ((d : Course) → Contains ds d → name d ≡ l.name) × (list_any (λ d. has_entry d l.name) ds ≡ true)
 
 -- The dialogue with this name, if there is one, was taken out of the cut, and the others are kept.
-pub record IsTakenOut (number : Option ℕ) (live : List Course) (name : Course → ℕ) (old new : Cut) (taken : Option Live)
-    : Type 0 where
+pub record IsTakenOut (number : Option ℕ) (live : List Course) (name : Course → ℕ) (old new : Cut)
+    (taken : Option LiveDialogue) : Type 0 where
   pub lives : HoldsLive (without_name name number live) name new.live
   pub overs : HoldsOver (without_name name number live) name new.overs
   pub out : AreTakenOut (with_name name number live) name taken
   pub rest : new ≡ record old { live = new.live; overs = new.overs }
 
 -- The dialogues are kept in one, whose name is theirs or, if there is none, the number of the next entry.
-pub record IsJoinedLive (n : ℕ) (ds : List Course) (name : Course → ℕ) (l : Live) : Type 0 where
+pub record IsJoinedLive (n : ℕ) (ds : List Course) (name : Course → ℕ) (l : LiveDialogue) : Type 0 where
   pub kept : HasValuesOf ds l
   pub named : (d : Course) → Contains ds d → name d ≡ l.name
   pub entry : (l.name ≡ n) ⊎ (list_any (λ d. has_entry d l.name) ds ≡ true)

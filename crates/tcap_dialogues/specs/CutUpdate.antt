@@ -15,7 +15,7 @@ use Rattle.tcap_dialogues.specs.declared.cut.Cut.{Cut}
 use Rattle.tcap_dialogues.specs.declared.known_ids.Change.TheVariants as changes
 use Rattle.tcap_dialogues.specs.declared.known_ids.Ids.{Ids}
 use Rattle.tcap_dialogues.specs.declared.known_ids.IdState.{IdState}
-use Rattle.tcap_dialogues.specs.declared.live.Live.{Live}
+use Rattle.tcap_dialogues.specs.declared.live.LiveDialogue.{LiveDialogue}
 
 -- the ID of an end, if there is one
 abbrev pub ids_at : Side → Option (List ℕ) → List IdOf
@@ -24,17 +24,17 @@ ids_at end id = map (λ octets. record { end = end; octets = octets }) (option_t
 -- ---- one more entry
 
 -- A live dialogue has these IDs in addition.
-pub record HasId (ids : List IdOf) (old new : Live) : Type 0 where
+pub record HasId (ids : List IdOf) (old new : LiveDialogue) : Type 0 where
   pub ids_are : (id : IdOf) → has_id new.a new.b id ≡ has_id old.a old.b id || is_among ids id
   pub rest : new ≡ record old { a = new.a; b = new.b }
 
 -- This end has sent an entry of a live dialogue, in addition.
-pub record HasSender (sender : Side) (old new : Live) : Type 0 where
+pub record HasSender (sender : Side) (old new : LiveDialogue) : Type 0 where
   pub senders : (side : Side) → has_sent new side ≡ has_sent old side || is_side side sender
   pub rest : new ≡ record old { a_sent = new.a_sent; b_sent = new.b_sent }
 
 -- A live dialogue has this entry in addition.
-pub record HasEntry (number : ℕ) (h : Heading) (own peer : IdState) (old new : Live) : Type 0 where
+pub record HasEntry (number : ℕ) (h : Heading) (own peer : IdState) (old new : LiveDialogue) : Type 0 where
   pub name : new.name ≡ old.name
   pub numbers : (n : ℕ) → set.contains nat_cmp new.numbers n ≡ set.contains nat_cmp old.numbers n || (number == n)
   pub ids : (id : IdOf) → has_id new.a new.b id ≡ has_id old.a old.b id || is_among (ids_in h) id
@@ -66,14 +66,15 @@ AreNoted h name own peer old new =
 -- ---- the dialogues that the entry joins
 
 -- The dialogue with this name was taken out, or there was none.
-pub record TakesOne (number : Option ℕ) (live : List Course) (name : Course → ℕ) (old new : Cut) (taken : Live) : Type 0 where
+pub record TakesOne (number : Option ℕ) (live : List Course) (name : Course → ℕ) (old new : Cut)
+    (taken : LiveDialogue) : Type 0 where
   pub lives : HoldsLive (without_name name number live) name new.live
   pub overs : HoldsOver (without_name name number live) name new.overs
   pub one : IsJoinedLive old.count (with_name name number live) name taken
   pub rest : new ≡ record old { live = new.live; overs = new.overs }
 
 -- The dialogues are joined into one, whose name is that of one of them or the number of the next entry.
-pub record IsJoined (n : ℕ) (ds : List Course) (old new : Cut) (l : Live) : Type 0 where
+pub record IsJoined (n : ℕ) (ds : List Course) (old new : Cut) (l : LiveDialogue) : Type 0 where
   pub kept : HasValuesOf ds l
   pub entry : (l.name ≡ n) ⊎ (list_any (λ d. has_entry d l.name) ds ≡ true)
   pub ids : (id : IdOf) → known_at new.ids id
@@ -86,7 +87,7 @@ is_over_at None number = false
 is_over_at (Some over) number = over == number
 
 -- This live dialogue is in the cut, and the others stay.
-pub record IsAdded (l : Live) (old new : Cut) : Type 0 where
+pub record IsAdded (l : LiveDialogue) (old new : Cut) : Type 0 where
   pub lives : (number : ℕ) → tree.get nat_cmp new.live number ≡ cond (l.name == number) (Some l) (tree.get nat_cmp old.live number)
   pub overs : (number : ℕ) → tree.get nat_cmp new.overs number
       ≡ cond (is_over_at l.over number) (Some l.name) (tree.get nat_cmp old.overs number)

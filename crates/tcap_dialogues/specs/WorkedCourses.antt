@@ -34,8 +34,8 @@ abbrev known : Heading → Heading
 known h = record h { known = true }
 
 -- for each dialogue, the numbers of its entries, and whether an earlier one had one of its IDs
-abbrev told : Reuse → List Heading → List (List ℕ × Bool)
-told reuse hs = map (λ d. (d.numbers, d.again)) (courses_of reuse hs)
+abbrev summary : Reuse → List Heading → List (List ℕ × Bool)
+summary reuse hs = map (λ d. (d.numbers, d.again)) (courses_of reuse hs)
 
 -- also, for each dialogue, whether it is unsettled
 abbrev doubts : Reuse → List Heading → List (List ℕ × Bool × Bool)
@@ -50,55 +50,56 @@ abbrev whole : List Heading
 whole = begin A 1 ∷ continue B 11 1 ∷ end A 11 ∷ []
 
 -- A begins from 01 again. This is a new dialogue, to which B's next Continue, from 12, belongs.
-pub begins_anew : told again (whole ++ begin A 1 ∷ continue B 12 1 ∷ [])
+pub begins_anew : summary again (whole ++ begin A 1 ∷ continue B 12 1 ∷ [])
     ≡ (0 ∷ 1 ∷ 2 ∷ [], false) ∷ (3 ∷ 4 ∷ [], true) ∷ []
 begins_anew = refl
 
 -- With `Once`, the second Begin stays in the dialogue.
-pub begins_once : told Once (whole ++ begin A 1 ∷ continue B 12 1 ∷ []) ≡ (0 ∷ 1 ∷ 2 ∷ 3 ∷ 4 ∷ [], false) ∷ []
+pub begins_once : summary Once (whole ++ begin A 1 ∷ continue B 12 1 ∷ []) ≡ (0 ∷ 1 ∷ 2 ∷ 3 ∷ 4 ∷ [], false) ∷ []
 begins_once = refl
 
 -- It also stays if the dialogue is not over.
-pub not_over : told again (begin A 1 ∷ continue B 11 1 ∷ begin A 1 ∷ []) ≡ (0 ∷ 1 ∷ 2 ∷ [], false) ∷ []
+pub not_over : summary again (begin A 1 ∷ continue B 11 1 ∷ begin A 1 ∷ []) ≡ (0 ∷ 1 ∷ 2 ∷ [], false) ∷ []
 not_over = refl
 
 -- After the second Begin, the other IDs of the first dialogue are free too: an End to 11 is a dialogue alone, with an
 -- ID that came again.
-pub others_are_free : told again (whole ++ begin A 1 ∷ end A 11 ∷ [])
+pub others_are_free : summary again (whole ++ begin A 1 ∷ end A 11 ∷ [])
     ≡ (0 ∷ 1 ∷ 2 ∷ [], false) ∷ (3 ∷ [], true) ∷ (4 ∷ [], true) ∷ []
 others_are_free = refl
 
 -- A later entry to an ID of a dialogue that is over belongs to this dialogue, if no entry has reused its IDs.
-pub late : told again (whole ++ continue B 11 1 ∷ []) ≡ (0 ∷ 1 ∷ 2 ∷ 3 ∷ [], false) ∷ []
+pub late : summary again (whole ++ continue B 11 1 ∷ []) ≡ (0 ∷ 1 ∷ 2 ∷ 3 ∷ [], false) ∷ []
 late = refl
 
 -- A begins from 02, and B answers from 11, whose dialogue is over: 11 belongs to the new dialogue.
-pub accepted_with_it : told again (whole ++ begin A 2 ∷ continue B 11 2 ∷ [])
+pub accepted_with_it : summary again (whole ++ begin A 2 ∷ continue B 11 2 ∷ [])
     ≡ (0 ∷ 1 ∷ 2 ∷ [], false) ∷ (3 ∷ 4 ∷ [], true) ∷ []
 accepted_with_it = refl
 
 -- If B has answered from 12 before, the Continue from 11 joins both dialogues.
-pub joins_both : told again (whole ++ begin A 2 ∷ continue B 12 2 ∷ continue B 11 2 ∷ [])
+pub joins_both : summary again (whole ++ begin A 2 ∷ continue B 12 2 ∷ continue B 11 2 ∷ [])
     ≡ (0 ∷ 1 ∷ 2 ∷ 3 ∷ 4 ∷ 5 ∷ [], false) ∷ []
 joins_both = refl
 
 -- With `linger` 1, the IDs are free after one more entry.
-pub lingers : told (Again 1) (whole ++ begin A 2 ∷ end A 11 ∷ [])
+pub lingers : summary (Again 1) (whole ++ begin A 2 ∷ end A 11 ∷ [])
     ≡ (0 ∷ 1 ∷ 2 ∷ [], false) ∷ (3 ∷ [], false) ∷ (4 ∷ [], true) ∷ []
 lingers = refl
 
 -- With `linger` 2, they are not.
-pub lingers_still : told (Again 2) (whole ++ begin A 2 ∷ end A 11 ∷ [])
+pub lingers_still : summary (Again 2) (whole ++ begin A 2 ∷ end A 11 ∷ [])
     ≡ (3 ∷ [], false) ∷ (0 ∷ 1 ∷ 2 ∷ 4 ∷ [], false) ∷ []
 lingers_still = refl
 
 -- If two dialogues are over and are then joined, the first End counts: one entry later the IDs are free.
-pub joined_over : told (Again 4) (begin A 1 ∷ end B 1 ∷ begin A 2 ∷ end B 2 ∷ continue B 11 1 ∷ continue A 2 11 ∷ end B 1 ∷ [])
+pub joined_over : summary (Again 4) (begin A 1 ∷ end B 1 ∷ begin A 2 ∷ end B 2 ∷ continue B 11 1
+    ∷ continue A 2 11 ∷ end B 1 ∷ [])
     ≡ (2 ∷ 3 ∷ 0 ∷ 1 ∷ 4 ∷ 5 ∷ [], false) ∷ (6 ∷ [], true) ∷ []
 joined_over = refl
 
 -- An unreadable entry is a dialogue alone.
-pub unread_alone : told again (begin A 1 ∷ unread B ∷ continue B 11 1 ∷ [])
+pub unread_alone : summary again (begin A 1 ∷ unread B ∷ continue B 11 1 ∷ [])
     ≡ (1 ∷ [], false) ∷ (0 ∷ 2 ∷ [], false) ∷ []
 unread_alone = refl
 
@@ -122,7 +123,8 @@ pub never_used_before : doubts again (end B 9 ∷ map after_word (begin A 9 ∷ 
 never_used_before = refl
 
 -- The Continue that accepts another Begin frees such an ID too.
-pub named_and_accepted : told again (end A 9 ∷ begin A 1 ∷ continue B 9 1 ∷ []) ≡ (0 ∷ [], false) ∷ (1 ∷ 2 ∷ [], true) ∷ []
+pub named_and_accepted : summary again (end A 9 ∷ begin A 1 ∷ continue B 9 1 ∷ [])
+    ≡ (0 ∷ [], false) ∷ (1 ∷ 2 ∷ [], true) ∷ []
 named_and_accepted = refl
 
 -- ---- dialogues whose Begin is not in the segment
@@ -145,20 +147,21 @@ pub known_before : doubts again (goes_on (known (continue A 2 1))) ≡ (0 ∷ 1 
 known_before = refl
 
 -- With `Once`, the entry belongs to the first dialogue.
-pub under_way_once : told Once (map after_word (goes_on (continue A 2 1))) ≡ (0 ∷ 1 ∷ 2 ∷ 3 ∷ [], false) ∷ []
+pub under_way_once : summary Once (map after_word (goes_on (continue A 2 1))) ≡ (0 ∷ 1 ∷ 2 ∷ 3 ∷ [], false) ∷ []
 under_way_once = refl
 
 -- It also does if the first dialogue has no Begin,
-pub without_begin : told again (map after_word (end B 2 ∷ continue A 2 1 ∷ [])) ≡ (0 ∷ 1 ∷ [], false) ∷ []
+pub without_begin : summary again (map after_word (end B 2 ∷ continue A 2 1 ∷ [])) ≡ (0 ∷ 1 ∷ [], false) ∷ []
 without_begin = refl
 
 -- if an entry of a live dialogue has the ID,
-pub named_live : told again (map after_word (begin A 2 ∷ continue B 1 2 ∷ end A 1 ∷ continue A 2 1 ∷ []))
+pub named_live : summary again (map after_word (begin A 2 ∷ continue B 1 2 ∷ end A 1 ∷ continue A 2 1 ∷ []))
     ≡ (0 ∷ 1 ∷ 2 ∷ 3 ∷ [], false) ∷ []
 named_live = refl
 
 -- or if an entry of a dialogue that is done has the ID.
-pub named_done : told again (map after_word (begin A 3 ∷ continue B 1 3 ∷ end A 1 ∷ begin A 3 ∷ end B 3 ∷ continue A 3 1 ∷ []))
+pub named_done : summary again (map after_word (begin A 3 ∷ continue B 1 3 ∷ end A 1 ∷ begin A 3 ∷ end B 3
+    ∷ continue A 3 1 ∷ []))
     ≡ (0 ∷ 1 ∷ 2 ∷ [], false) ∷ (3 ∷ 4 ∷ 5 ∷ [], true) ∷ []
 named_done = refl
 

@@ -13,7 +13,7 @@ ghost use Rattle.tcap_dialogues.specs.CutState.{AreApart, HoldsLive, HoldsOver, 
 use crate::complete_dialogue::CompleteDialogue;
 use crate::heading::HeadingView;
 use crate::known_ids::{Change, Ids};
-use crate::live::Live;
+use crate::live::LiveDialogue;
 use crate::reuse::Reuse;
 use std::alloc::{AllocError, Global};
 use std::collections::{BTreeMap, BTreeSet};
@@ -30,7 +30,7 @@ pub struct Cut {
     /// The number of entries so far.
     pub(crate) count: u64,
     /// The live dialogues, by name.
-    pub(crate) live: BTreeMap<u64, Live>,
+    pub(crate) live: BTreeMap<u64, LiveDialogue>,
     /// The names of the live dialogues that are over, by the number of the first entry with which each is over.
     pub(crate) overs: BTreeMap<u64, u64>,
     pub(crate) ids: Ids,
@@ -52,7 +52,7 @@ impl Cut {
     }
 
     /// Takes the live dialogue with this name out, if there is one.
-    pub(crate) fn take_out(&mut self, name: Option<u64>) -> Option<Live>
+    pub(crate) fn take_out(&mut self, name: Option<u64>) -> Option<LiveDialogue>
         ensures { (live : List Course) (names : Course → ℕ) → AreApart live → HoldsLive live names self.old.live
             → HoldsOver live names self.old.overs → IsTakenOut name live names self.old self.new result }
     {
@@ -82,7 +82,7 @@ impl Cut {
             early: live.early,
         };
         self.ids.change_both(&live.a, &live.b, free)?;
-        done.push(live.gathered(self.alloc)?)?;
+        done.push(live.into_complete(self.alloc)?)?;
         Ok(())
     }
 
@@ -105,10 +105,10 @@ impl Cut {
             → IfOk result (λ begins. begins
             ≡ begins_new reuse (length headings) (courses_so_far reuse headings) (heading_read heading.entry)) }
     {
-        let past = self.past();
-        let given_up = self.given_up(heading);
-        self.release(past, done)?;
-        self.release(given_up, done)?;
+        let long_over = self.long_over();
+        let replaced = self.replaced(heading);
+        self.release(long_over, done)?;
+        self.release(replaced, done)?;
         self.join(heading)
     }
 
@@ -143,7 +143,7 @@ impl Cut {
     {
         let alloc = self.alloc;
         for (_, live) in self.live {
-            done.push(live.gathered(alloc)?)?;
+            done.push(live.into_complete(alloc)?)?;
         }
         Ok(())
     }

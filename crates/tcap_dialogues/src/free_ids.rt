@@ -39,7 +39,7 @@ impl HeadingView<'_> {
 
 impl Cut {
     /// Returns the name of the dialogue that has been over for so long that its IDs are free, if there is one.
-    pub(crate) fn past(&self) -> Option<u64>
+    pub(crate) fn long_over(&self) -> Option<u64>
         ensures { (live : List Course) (names : Course → ℕ) → AreApart live → HoldsLive live names self.now.live
             → HoldsOver live names self.now.overs
             → ((d : Course) → Contains live d → Lingers self.now.reuse self.now.count d.over) → (d : Course) → Contains live d
@@ -124,7 +124,7 @@ impl Cut {
 
     /// Returns the name of the dialogue that is over and whose ID the sender uses for another dialogue, if there is
     /// one.
-    pub(crate) fn given_up(&self, heading: HeadingView) -> Option<u64>
+    pub(crate) fn replaced(&self, heading: HeadingView) -> Option<u64>
         ensures { (s : Courses) (names : Course → ℕ) (sent : IdOf → Bool) → AreApart s.live
             → IsCutState s names sent self.now → (d : Course) → Contains s.live d
             → is_given_up self.now.reuse s (heading_read heading.entry) d ≡ is_named names result d }

@@ -12,7 +12,7 @@ ghost use Rattle.tcap_dialogues.specs.CutUpdate.{AreNoted, IsJoined, IsAdded, Ta
 use crate::cut::Cut;
 use crate::heading::HeadingView;
 use crate::known_ids::{Change, IdState, Ids};
-use crate::live::Live;
+use crate::live::LiveDialogue;
 use std::alloc::AllocError;
 use tcap_msg::TransactionIdView;
 use tcap_record::End;
@@ -63,18 +63,18 @@ impl Ids {
 
 impl Cut {
     /// Takes the dialogue with this name out, or creates an empty one, whose name is the number of the next entry.
-    fn take_or_new(&mut self, name: Option<u64>) -> Live
+    fn take_or_new(&mut self, name: Option<u64>) -> LiveDialogue
         ensures { (live : List Course) (names : Course → ℕ) → AreApart live → HoldsLive live names self.old.live
             → HoldsOver live names self.old.overs → TakesOne name live names self.old self.new result }
     {
         match self.take_out(name) {
             Some(live) => live,
-            None => Live::new(self.alloc, self.count),
+            None => LiveDialogue::new(self.alloc, self.count),
         }
     }
 
     /// Puts a dialogue back. Fails if memory runs out.
-    fn put(&mut self, live: Live) -> Result<(), AllocError>
+    fn put(&mut self, live: LiveDialogue) -> Result<(), AllocError>
         ensures { OnOk result (IsAdded live self.old self.new) }
     {
         if let Some(number) = live.over {
@@ -85,7 +85,11 @@ impl Cut {
     }
 
     /// Joins the second dialogue to the first. Fails if memory runs out.
-    fn absorbed(&mut self, mut one: Live, other: Live) -> Result<Live, AllocError>
+    fn join_to_first(
+        &mut self,
+        mut one: LiveDialogue,
+        other: LiveDialogue,
+    ) -> Result<LiveDialogue, AllocError>
         ensures { (ds es : List Course) (names : Course → ℕ) → IsJoinedLive self.old.count ds names one
             → IsJoinedLive self.old.count es names other
             → ((d : Course) (id : IdOf) → Contains (ds ++ es) d → is_among d.ids id ≡ true
@@ -99,7 +103,11 @@ impl Cut {
     }
 
     /// Joins two dialogues: the smaller one to the larger one. Fails if memory runs out.
-    fn joined(&mut self, one: Live, other: Live) -> Result<Live, AllocError>
+    fn join_two(
+        &mut self,
+        one: LiveDialogue,
+        other: LiveDialogue,
+    ) -> Result<LiveDialogue, AllocError>
         ensures { (ds es : List Course) (names : Course → ℕ) → IsJoinedLive self.old.count ds names one
             → IsJoinedLive self.old.count es names other
             → ((d : Course) (id : IdOf) → Contains (ds ++ es) d → is_among d.ids id ≡ true
@@ -107,9 +115,9 @@ impl Cut {
             → IfOk result (IsJoined self.old.count (ds ++ es) self.old self.new) }
     {
         if one.numbers.len() < other.numbers.len() {
-            self.absorbed(other, one)
+            self.join_to_first(other, one)
         } else {
-            self.absorbed(one, other)
+            self.join_to_first(one, other)
         }
     }
 
@@ -132,7 +140,7 @@ impl Cut {
         let begins = heading.has_ids() & own.dialogue.is_none() & peer.dialogue.is_none();
         let one = self.take_or_new(own.dialogue);
         let other = self.take_or_new(peer.dialogue);
-        let mut live = self.joined(one, other)?;
+        let mut live = self.join_two(one, other)?;
         live.add(self.count, heading, own, peer)?;
         self.ids.note(heading, live.name, own, peer)?;
         self.put(live)?;

@@ -89,7 +89,7 @@ impl IdState {
     }
 
     /// Returns what is known of the ID after its dialogue is done.
-    fn gone(self, first: u64, early: bool) -> FreeIdState
+    fn free_state(self, first: u64, early: bool) -> FreeIdState
         ensures { result ≡ free_id_since first early self }
     {
         FreeIdState {
@@ -128,10 +128,10 @@ impl EndIds {
         ensures { result ≡ known_by None (tree.get octets_cmp self.now.done id.entry.octets.now) }
     {
         match self.done.get(&id.to_transaction_id()) {
-            Some(gone) => IdState {
-                last: Some(gone.last),
-                firm: gone.firm,
-                sent: gone.sent,
+            Some(free) => IdState {
+                last: Some(free.last),
+                firm: free.firm,
+                sent: free.sent,
                 ..IdState::NOTHING
             },
             None => IdState::NOTHING,
@@ -168,7 +168,7 @@ impl EndIds {
             None => self.get_done(id),
         };
         self.done
-            .insert(id.to_transaction_id(), known.gone(first, early))?;
+            .insert(id.to_transaction_id(), known.free_state(first, early))?;
         Ok(())
     }
 

@@ -18,7 +18,7 @@ use tcap_record::End;
 
 /// A dialogue to which more entries may come.
 #[derive(Debug, Drop)]
-pub(crate) struct Live {
+pub(crate) struct LiveDialogue {
     /// Its name: the number of one of its entries.
     pub(crate) name: u64,
     /// The numbers of its entries.
@@ -86,12 +86,12 @@ impl HeadingView<'_> {
     }
 }
 
-impl Live {
+impl LiveDialogue {
     /// Creates a dialogue without entries.
-    pub(crate) fn new(alloc: Global, name: u64) -> Live
+    pub(crate) fn new(alloc: Global, name: u64) -> LiveDialogue
         ensures { HasValuesOf [] result × (result.name ≡ name) }
     {
-        Live {
+        LiveDialogue {
             name,
             numbers: BTreeSet::new(alloc),
             a: BTreeSet::new(alloc),
@@ -117,7 +117,7 @@ impl Live {
     }
 
     /// Adds the entries and IDs of another dialogue. Fails if memory runs out.
-    pub(crate) fn absorb(&mut self, other: Live) -> Result<(), AllocError>
+    pub(crate) fn absorb(&mut self, other: LiveDialogue) -> Result<(), AllocError>
         ensures { (ds es : List Course) → HasValuesOf ds self.old → HasValuesOf es other
             → OnOk result (HasValuesOf (ds ++ es) self.new × (self.new.name ≡ self.old.name)) }
     {
@@ -188,7 +188,7 @@ impl Live {
     }
 
     /// Converts this to a complete dialogue. Fails if memory runs out.
-    pub(crate) fn gathered(self, alloc: Global) -> Result<CompleteDialogue, AllocError>
+    pub(crate) fn into_complete(self, alloc: Global) -> Result<CompleteDialogue, AllocError>
         ensures { (d : Course) → HasValuesOf (d ∷ []) self → IfOk result (IsCompleteDialogue d) }
     {
         let numbers = self.numbers.into_iter().collect(alloc)?;

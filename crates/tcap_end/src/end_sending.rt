@@ -131,7 +131,7 @@ impl Halves {
         components: Components,
     ) -> Result<(), EndFault>
         requires held { IsHeld self.old }
-        requires there { (h : Half) × HasHalf (end_of self.old) (keyed_half found.now.slot found.now.key h) }
+        requires exists { (h : Half) × HasHalf (end_of self.old) (keyed_half found.now.slot found.now.key h) }
         requires found { IsNumbered found.now self.old }
         ensures step { (h : Half) → HasHalf (end_of self.old) (keyed_half found.now.slot found.now.key h)
             → AnswersInMemory (send_next_continue table.now (end_of self.old) dtid.entry.octets.now

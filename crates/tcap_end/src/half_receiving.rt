@@ -143,7 +143,7 @@ impl HalfState {
 
     /// Moves an own invocation, which must be in Operation Sent, to Wait for Reject.
     fn wait(&mut self, changes: &mut Changes, id: i8) -> Result<(), AllocError>
-        requires there { IsSome (operation_sent (half_of self.old) id) }
+        requires exists { IsSome (operation_sent (half_of self.old) id) }
         ensures waits { (code : Code) → operation_sent (half_of self.old) id ≡ Some code
             → OnOk result (half_of self.new ≡ wait_for_reject (half_of self.old) id code) }
         ensures undoes { StillUndoes changes.old self.old changes.new self.new }

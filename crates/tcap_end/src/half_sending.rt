@@ -135,7 +135,7 @@ impl HalfState {
 
     /// Removes the invocation in a place of an ID's row.
     fn take_inn(&mut self, changes: &mut Changes, id: i8, at: usize) -> Result<(), AllocError>
-        requires there { IsSome (slice_index_or (listed id (rows_of self.old.inn)) at None) }
+        requires exists { IsSome (slice_index_or (listed id (rows_of self.old.inn)) at None) }
         ensures taken { OnOk result (kept_of self.new ≡ without_inn id at (kept_of self.old)) }
         ensures undoes { StillUndoes changes.old self.old changes.new self.new }
         ensures slot { self.new.slot ≡ self.old.slot }
@@ -146,7 +146,7 @@ impl HalfState {
 
     /// Removes the answer in a place of an ID's row.
     fn take_grant(&mut self, changes: &mut Changes, id: i8, at: usize) -> Result<(), AllocError>
-        requires there { IsSome (slice_index_or (listed id (rows_of self.old.grants)) at None) }
+        requires exists { IsSome (slice_index_or (listed id (rows_of self.old.grants)) at None) }
         ensures taken { OnOk result (kept_of self.new ≡ without_grant id at (kept_of self.old)) }
         ensures undoes { StillUndoes changes.old self.old changes.new self.new }
         ensures slot { self.new.slot ≡ self.old.slot }

@@ -116,8 +116,8 @@ impl HalfState {
             Change::Waits(id) => self.out.set_state(id, InvocationState::OperationSent),
             Change::InnTaken { id, at, kind } => self.inn.put_back(id, at, kind),
             Change::GrantTaken { id, at, kind } => self.grants.put_back(id, at, kind),
-            Change::InnJoined(id) => self.inn.leave(id),
-            Change::GrantJoined(id) => self.grants.leave(id),
+            Change::InnJoined(id) => self.inn.remove_newest(id),
+            Change::GrantJoined(id) => self.grants.remove_newest(id),
         }
     }
 
@@ -156,8 +156,8 @@ impl HalfState {
     {
         for change in changes.as_slice() {
             match change {
-                Change::InnTaken { id, .. } => self.inn.settle(*id),
-                Change::GrantTaken { id, .. } => self.grants.settle(*id),
+                Change::InnTaken { id, .. } => self.inn.drop_empty_places(*id),
+                Change::GrantTaken { id, .. } => self.grants.drop_empty_places(*id),
                 _ => {}
             }
         }

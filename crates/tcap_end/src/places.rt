@@ -210,12 +210,7 @@ fn sort_of(duplicate: bool, link: Link) -> usize
 }
 
 /// Finds the number of an invocation's kind, by a look at all kinds.
-fn some_invocations(
-    kinds: &[Invocation],
-    code: CodeView,
-    duplicate: bool,
-    link: Link,
-) -> Option<usize>
+fn searched_kind(kinds: &[Invocation], code: CodeView, duplicate: bool, link: Link) -> Option<usize>
     ensures { (number : ℕ) → result ≡ Some number → slice_get kinds.now number
         ≡ Some (record { code = code_of code.entry; problems = invoke_problems duplicate link }) }
 {
@@ -229,12 +224,7 @@ fn some_invocations(
 }
 
 /// Finds the number of an invocation's kind, from the guess for its code.
-fn guessed_invocations(
-    row: &Row<Invocation>,
-    code: CodeView,
-    duplicate: bool,
-    link: Link,
-) -> Option<usize>
+fn guessed_kind(row: &Row<Invocation>, code: CodeView, duplicate: bool, link: Link) -> Option<usize>
     ensures { (number : ℕ) → result ≡ Some number → slice_get (row_kinds row.now) number
         ≡ Some (record { code = code_of code.entry; problems = invoke_problems duplicate link }) }
 {
@@ -252,14 +242,19 @@ fn guessed_invocations(
 }
 
 /// Finds the number of an invocation's kind, or None if it is not known.
-fn invocations(row: &Row<Invocation>, code: CodeView, duplicate: bool, link: Link) -> Option<usize>
+fn kind_of_invocation(
+    row: &Row<Invocation>,
+    code: CodeView,
+    duplicate: bool,
+    link: Link,
+) -> Option<usize>
     ensures { (number : ℕ) → result ≡ Some number → slice_get (row_kinds row.now) number
         ≡ Some (record { code = code_of code.entry; problems = invoke_problems duplicate link }) }
 {
     if row.kinds().len() <= FEW_KINDS {
-        some_invocations(row.kinds(), code, duplicate, link)
+        searched_kind(row.kinds(), code, duplicate, link)
     } else {
-        guessed_invocations(row, code, duplicate, link)
+        guessed_kind(row, code, duplicate, link)
     }
 }
 
@@ -274,7 +269,7 @@ pub(crate) fn join_invocation(
     ensures { IsJoined (record { code = code_of code.entry; problems = invoke_problems duplicate link })
         row.old result row.new }
 {
-    match invocations(row, code, duplicate, link) {
+    match kind_of_invocation(row, code, duplicate, link) {
         Some(kind) => row.join(kind),
         None => {
             row.expect(alloc, code, sort_of(duplicate, link))?;
@@ -289,7 +284,7 @@ pub(crate) fn join_invocation(
 }
 
 /// Finds the number of an answer's kind.
-fn answers(kinds: &[Answer], is_result: bool, target: Target) -> Option<usize>
+fn kind_of_answer(kinds: &[Answer], is_result: bool, target: Target) -> Option<usize>
     ensures { (number : ℕ) → result ≡ Some number → slice_get kinds.now number
         ≡ Some (record { is_result = is_result; problems = target_problems is_result target }) }
 {
@@ -311,7 +306,7 @@ pub(crate) fn join_answer(
     ensures { IsJoined (record { is_result = is_result; problems = target_problems is_result target })
         row.old result row.new }
 {
-    match answers(row.kinds(), is_result, target) {
+    match kind_of_answer(row.kinds(), is_result, target) {
         Some(kind) => row.join(kind),
         None => row.join_first(Answer { is_result, target }),
     }

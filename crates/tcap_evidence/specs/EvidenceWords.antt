@@ -211,8 +211,8 @@ abbrev pub most : ℕ
 most = 8
 
 -- a number after a comma and a space
-abbrev pub number_behind : ℕ → List ℕ
-number_behind n = codes ", " ++ decimal n
+abbrev pub number_after : ℕ → List ℕ
+number_after n = codes ", " ++ decimal n
 
 -- the number of entries that are not named, if any
 abbrev pub more_words : ℕ → List ℕ
@@ -223,7 +223,7 @@ abbrev pub entries_words : List ℕ → List ℕ
 entries_words [] = codes "none"
 entries_words (n ∷ []) = codes "entry " ++ decimal n
 entries_words (n ∷ more) =
-    codes "entries " ++ decimal n ++ flat_map number_behind (take (most - 1) more) ++ more_words (length (n ∷ more))
+    codes "entries " ++ decimal n ++ flat_map number_after (take (most - 1) more) ++ more_words (length (n ∷ more))
 
 -- whether a line is printed even if there are no entries
 abbrev pub is_listed_if_empty : ShownFact → Bool

@@ -7,7 +7,7 @@ ghost use Rattle.tcap_parts.specs.Meaning.{component_of};
 ghost use Rattle.tcap_msg.specs.Parts.{dtid_in};
 ghost use Rattle.tcap_record.specs.Ends.{letter};
 ghost use Rattle.tcap_record.specs.Lines.{head_text, line_end};
-ghost use Rattle.tcap_evidence.specs.EvidenceWords.{component_shown, component_words, doubt_lines, entries_words, entry_line, evidence_text, fault_text, ground_line, half_line, origin_words, id_words, is_for, lacks, mark_line, message_text, more_words, number_behind, open_words, own_words, sentence_words, sorted, sorted_in, refutation_text, fact_words};
+ghost use Rattle.tcap_evidence.specs.EvidenceWords.{component_shown, component_words, doubt_lines, entries_words, entry_line, evidence_text, fault_text, ground_line, half_line, origin_words, id_words, is_for, lacks, mark_line, message_text, more_words, number_after, open_words, own_words, sentence_words, sorted, sorted_in, refutation_text, fact_words};
 
 use crate::finding::{Evidence, Ground, component_at, find_evidence};
 use crate::operation_lines::push_invocations;
@@ -195,7 +195,7 @@ fn push_sorted(text: &mut String, sort: Option<Sort>, id: Option<i8>) -> Result<
 
 /// Appends numbers of entries, each after a comma.
 fn push_numbers(text: &mut String, numbers: &[u64]) -> Result<(), AllocError>
-    ensures { OnOk result (string_bytes text.new ≡ string_bytes text.old ++ flat_map number_behind numbers.now) }
+    ensures { OnOk result (string_bytes text.new ≡ string_bytes text.old ++ flat_map number_after numbers.now) }
 {
     for number in numbers {
         write!(text, ", {number}")?;

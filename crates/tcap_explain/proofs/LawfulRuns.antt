@@ -79,33 +79,33 @@ joint_named (Some side) table entries r is =
     (replayed_by (Some side) table (proposed_by (Some side) entries) entries)) is
 joint_named None table entries r is = refuted_joint table entries r is
 
-why_of : (judged : Option Side) (table : Table) (c : Certificate) (entries : List Entry) (steps : List Step) (behind : List ℕ)
-    → behind ≡ run_lines judged steps → replayed_by judged table c entries ≡ Ok (events_of steps)
+why_of : (judged : Option Side) (table : Table) (c : Certificate) (entries : List Entry) (steps : List Step) (after : List ℕ)
+    → after ≡ run_lines judged steps → replayed_by judged table c entries ≡ Ok (events_of steps)
     → discards_by judged table c (map item_of entries) ≡ Ok (discards_of steps)
-    → IsExplanation judged table c entries (lawful_by judged (length entries) (events_of steps)) behind
-why_of None table c entries steps behind lines run discards = inl (steps, run, discards, lines)
-why_of (Some side) table c entries steps behind lines run discards = (steps, run, discards, lines)
+    → IsExplanation judged table c entries (lawful_by judged (length entries) (events_of steps)) after
+why_of None table c entries steps after lines run discards = inl (steps, run, discards, lines)
+why_of (Some side) table c entries steps after lines run discards = (steps, run, discards, lines)
 
 -- The verdict and the reasons, if no entry is at fault and the proposed certificate gives a run.
-pub proposed_says : {A F : Type 0} (outcome : A → Outcome) (behind : A → List ℕ) (judged : Option Side) (table : Table) (c : Certificate)
+pub proposed_says : {A F : Type 0} (outcome : A → Outcome) (after : A → List ℕ) (judged : Option Side) (table : Table) (c : Certificate)
     (entries : List Entry) (refused : Option CheckFault) (steps : List Step) (result : Result A F) → c ≡ proposed_by judged entries
     → refutation_by judged table entries ≡ None → refused ≡ None → map_ok events_of (answered refused steps) ≡ replayed_by judged table c entries
     → IfOk (answered refused steps) (λ ss. IsShown judged table entries (lawful_by judged (length entries) (events_of ss)))
     → map_ok discards_of (answered refused steps) ≡ discards_by judged table c (map item_of entries)
     → IfOk result (λ x. outcome x ≡ lawful_by judged (length entries) (events_of steps))
-    → IfOk result (λ x. behind x ≡ run_lines judged steps)
+    → IfOk result (λ x. after x ≡ run_lines judged steps)
     → IfOk result (λ x. (outcome x ≡ joint_verdict judged table entries) × IsShown judged table entries (outcome x)
-    × IsExplanation judged table (proposed_by judged entries) entries (outcome x) (behind x))
-proposed_says outcome behind judged table c entries refused steps (Err f) is named none exact shown discards says lines = tt
-proposed_says outcome behind judged table c entries (Some fault) steps (Ok x) is named none exact shown discards says lines = cc
-proposed_says outcome behind judged table c entries None steps (Ok x) is named none exact shown discards says lines =
+    × IsExplanation judged table (proposed_by judged entries) entries (outcome x) (after x))
+proposed_says outcome after judged table c entries refused steps (Err f) is named none exact shown discards says lines = tt
+proposed_says outcome after judged table c entries (Some fault) steps (Ok x) is named none exact shown discards says lines = cc
+proposed_says outcome after judged table c entries None steps (Ok x) is named none exact shown discards says lines =
     let run : replayed_by judged table (proposed_by judged entries) entries ≡ Ok (events_of steps) =
     ap (λ (d : Certificate). replayed_by judged table d entries) (sym is) ∙ sym exact in (
       says ∙ sym (joint_lawful judged table entries (events_of steps) (ap₂ (verdict_by judged (length entries)) named run)),
       subst (IsShown judged table entries) (sym says) shown,
-      subst (λ (o : Outcome). IsExplanation judged table (proposed_by judged entries) entries o (behind x)) (sym says)
-          (subst (λ (d : Certificate). IsExplanation judged table d entries (lawful_by judged (length entries) (events_of steps)) (behind x)) is
-          (why_of judged table c entries steps (behind x) lines (sym exact) (sym discards))),
+      subst (λ (o : Outcome). IsExplanation judged table (proposed_by judged entries) entries o (after x)) (sym says)
+          (subst (λ (d : Certificate). IsExplanation judged table d entries (lawful_by judged (length entries) (events_of steps)) (after x)) is
+          (why_of judged table c entries steps (after x) lines (sym exact) (sym discards))),
     )
 
 -- ---- each end
@@ -144,26 +144,26 @@ lines_of_end side table c entries said None steps is said_is lawful exact discar
 
 -- ---- an entry is at fault, or each end is lawful on its own
 
-pub named_says : {A F : Type 0} (outcome : A → Outcome) (behind : A → List ℕ) (judged : Option Side) (table : Table) (c : Certificate)
+pub named_says : {A F : Type 0} (outcome : A → Outcome) (after : A → List ℕ) (judged : Option Side) (table : Table) (c : Certificate)
     (entries : List Entry) (r : Refutation) (result : Result A F) → refutation_by judged table entries ≡ Some r
-    → IfOk result (λ x. (outcome x ≡ Refuted r) × (behind x ≡ refuted_lines judged table entries r))
+    → IfOk result (λ x. (outcome x ≡ Refuted r) × (after x ≡ refuted_lines judged table entries r))
     → IfOk result (λ x. (outcome x ≡ joint_verdict judged table entries) × IsShown judged table entries (outcome x)
-    × IsExplanation judged table c entries (outcome x) (behind x))
-named_says outcome behind judged table c entries r (Err f) named said = tt
-named_says outcome behind judged table c entries r (Ok x) named said = (
+    × IsExplanation judged table c entries (outcome x) (after x))
+named_says outcome after judged table c entries r (Err f) named said = tt
+named_says outcome after judged table c entries r (Ok x) named said = (
   said.0 ∙ sym (joint_named judged table entries r named),
   subst (IsShown judged table entries) (sym said.0) tt,
-  subst (λ (o : Outcome). IsExplanation judged table c entries o (behind x)) (sym said.0) said.1,
+  subst (λ (o : Outcome). IsExplanation judged table c entries o (after x)) (sym said.0) said.1,
 )
 
-module _ {A F : Type 0} (outcome : A → Outcome) (behind : A → List ℕ) (table : Table) (c : Certificate) (entries : List Entry)
+module _ {A F : Type 0} (outcome : A → Outcome) (after : A → List ℕ) (table : Table) (c : Certificate) (entries : List Entry)
     (fault : CheckFault) (ends : Ends) where
   pub ends_say : (judged : Option Side) (result : Result A F) → Some ends ≡ ends_judged judged table entries
       → AreFound table entries ends → (is_lawful ends.a && is_lawful ends.b) ≡ true
       → replayed_by judged table c entries ≡ Err fault → IfOk result (λ x. outcome x ≡ Lawful (length entries))
-      → IfOk result (λ x. AreLinesOfBoth table entries (behind x))
+      → IfOk result (λ x. AreLinesOfBoth table entries (after x))
       → IfOk result (λ x. (outcome x ≡ joint_verdict judged table entries) × IsShown judged table entries (outcome x)
-      × IsExplanation judged table c entries (outcome x) (behind x))
+      × IsExplanation judged table c entries (outcome x) (after x))
   ends_say judged (Err f) is found lawful refused says lines = tt
   ends_say (Some side) (Ok x) is found lawful refused says lines = cc
   ends_say None (Ok x) is found lawful refused says lines =
@@ -171,7 +171,7 @@ module _ {A F : Type 0} (outcome : A → Outcome) (behind : A → List ℕ) (tab
         says ∙ sym (ap (λ (b : Bool). cond b (Lawful (length entries)) (verdict_of None table entries))
             (ap (λ (e : Ends). is_lawful e.a && is_lawful e.b) (sym same) ∙ lawful)),
         subst (IsShown None table entries) (sym says) (found.both lawful),
-        subst (λ (o : Outcome). IsExplanation None table c entries o (behind x)) (sym says) (inr ((fault, refused), lines)),
+        subst (λ (o : Outcome). IsExplanation None table c entries o (after x)) (sym says) (inr ((fault, refused), lines)),
       )
 
 -- ---- a certificate gives no run
@@ -184,20 +184,20 @@ refused_by judged table c entries (Some f) steps fault is exact =
     let same : f ≡ fault = cc in sym exact ∙ ap (λ (x : CheckFault). Err x) same
 
 -- The verdict and the reasons for a certificate that gives a run.
-pub replay_run_says : {A F : Type 0} (outcome : A → Outcome) (behind : A → List ℕ) (judged : Option Side) (table : Table) (c : Certificate)
+pub replay_run_says : {A F : Type 0} (outcome : A → Outcome) (after : A → List ℕ) (judged : Option Side) (table : Table) (c : Certificate)
     (entries : List Entry) (refused : Option CheckFault) (steps : List Step) (result : Result A F) → refused ≡ None
     → map_ok events_of (answered refused steps) ≡ replayed_by judged table c entries
     → IfOk (answered refused steps) (λ ss. IsShown judged table entries (lawful_by judged (length entries) (events_of ss)))
     → map_ok discards_of (answered refused steps) ≡ discards_by judged table c (map item_of entries)
     → IfOk result (λ x. outcome x ≡ lawful_by judged (length entries) (events_of steps))
-    → IfOk result (λ x. behind x ≡ run_lines judged steps)
+    → IfOk result (λ x. after x ≡ run_lines judged steps)
     → IfOk result (λ x. (outcome x ≡ replay_outcome judged (length entries) (replayed_by judged table c entries))
-    × IsShown judged table entries (outcome x) × IsExplanation judged table c entries (outcome x) (behind x))
-replay_run_says outcome behind judged table c entries refused steps (Err f) none exact shown discards says lines = tt
-replay_run_says outcome behind judged table c entries (Some fault) steps (Ok x) none exact shown discards says lines = cc
-replay_run_says outcome behind judged table c entries None steps (Ok x) none exact shown discards says lines = (
+    × IsShown judged table entries (outcome x) × IsExplanation judged table c entries (outcome x) (after x))
+replay_run_says outcome after judged table c entries refused steps (Err f) none exact shown discards says lines = tt
+replay_run_says outcome after judged table c entries (Some fault) steps (Ok x) none exact shown discards says lines = cc
+replay_run_says outcome after judged table c entries None steps (Ok x) none exact shown discards says lines = (
   says ∙ ap (replay_outcome judged (length entries)) exact,
   subst (IsShown judged table entries) (sym says) shown,
-  subst (λ (o : Outcome). IsExplanation judged table c entries o (behind x)) (sym says)
-      (why_of judged table c entries steps (behind x) lines (sym exact) (sym discards)),
+  subst (λ (o : Outcome). IsExplanation judged table c entries o (after x)) (sym says)
+      (why_of judged table c entries steps (after x) lines (sym exact) (sym discards)),
 )

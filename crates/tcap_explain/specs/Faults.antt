@@ -19,4 +19,4 @@ fault_lines outcome = []
 
 -- The text is the line after the fault, or nothing if memory ran out.
 abbrev pub IsFaultBehind : Outcome → List ℕ → Type 0
-IsFaultBehind outcome behind = (behind ≡ fault_lines outcome) ⊎ (behind ≡ [])
+IsFaultBehind outcome after = (after ≡ fault_lines outcome) ⊎ (after ≡ [])

@@ -45,15 +45,15 @@ abbrev pub unblamed_words : ℕ → ℕ → List ℕ
 unblamed_words count all = cond (nat_lt count all) (unread_words count) none_found_words
 
 -- the reasons for a finding on an end, unless it is the refutation printed already
-abbrev pub behind_text : Table → List Entry → Option Refutation → Side → Finding → List ℕ
-behind_text table entries shown side (findings.Blamed r) =
+abbrev pub after_text : Table → List Entry → Option Refutation → Side → Finding → List ℕ
+after_text table entries shown side (findings.Blamed r) =
     cond (is_shown shown r) [] (refutation_text true table side entries r)
-behind_text table entries shown side (findings.Lawful count unheard) = []
-behind_text table entries shown side (findings.NotBlamed count) = unblamed_words count (length entries)
+after_text table entries shown side (findings.Lawful count unheard) = []
+after_text table entries shown side (findings.NotBlamed count) = unblamed_words count (length entries)
 
 -- the line of a finding on an end, and the reasons
 abbrev pub end_text : Table → List Entry → Option Refutation → Side → Finding → List ℕ
-end_text table entries shown side finding = finding_line side finding ++ behind_text table entries shown side finding
+end_text table entries shown side finding = finding_line side finding ++ after_text table entries shown side finding
 
 -- the findings on both ends, the one with the lower blamed entry first
 abbrev pub both_text : Table → List Entry → Option Refutation → Ends → List ℕ

@@ -103,13 +103,13 @@ is_entry steps.Quiet = true
 is_entry step = false
 
 -- the number of entries sent after a step, from the number before it
-abbrev pub behind_step : ℕ → Step → ℕ
-behind_step number step = cond (is_entry step) (suc number) number
+abbrev pub after_step : ℕ → Step → ℕ
+after_step number step = cond (is_entry step) (suc number) number
 
 -- the lines of these steps, the first of which comes after `number` sent entries
 abbrev pub lines_from : Option Side → ℕ → List Step → List ℕ
 lines_from judged number [] = []
-lines_from judged number (step ∷ more) = step_line judged number step ++ lines_from judged (behind_step number step) more
+lines_from judged number (step ∷ more) = step_line judged number step ++ lines_from judged (after_step number step) more
 
 -- the lines of a run of both ends or of the judged end, after their label
 abbrev pub run_lines : Option Side → List Step → List ℕ

@@ -36,8 +36,8 @@ AreLines judged table c entries lines = (steps : List Step) × (replayed_by judg
 
 -- The text is some indented lines, then the findings on these ends with the reasons.
 abbrev pub EndsWithEnds : Table → List Entry → Option Ends → List ℕ → Type 0
-EndsWithEnds table entries ends behind =
-    (lines : List ℕ) × (behind ≡ indented lines ++ findings_text table entries ends)
+EndsWithEnds table entries ends after =
+    (lines : List ℕ) × (after ≡ indented lines ++ findings_text table entries ends)
 
 -- the line of the finding on an end, and the run that the certificate proposed for this end gives
 abbrev pub AreLinesOf : Table → List Entry → Side → List ℕ → Type 0
@@ -58,53 +58,53 @@ AreLinesOfEnds table c entries text =
 -- and the entries that show it. UNDECIDED or NOT SHOWN: indented lines, then the findings on each end if both are
 -- judged. A fault: the file that has it.
 abbrev pub IsExplanation : Option Side → Table → Certificate → List Entry → Outcome → List ℕ → Type 0
-IsExplanation judged table c entries (Lawful count) behind =
-    AreLines judged table c entries behind ⊎ AreLinesOfEnds table c entries behind
-IsExplanation judged table c entries (LawfulFor count unheard) behind = AreLines judged table c entries behind
-IsExplanation judged table c entries (Faulty number place) behind = IsFaultBehind (Faulty number place) behind
-IsExplanation judged table c entries (Refuted r) behind = behind ≡ refuted_lines judged table entries r
-IsExplanation judged table c entries (Undecided fault) behind =
-    EndsWithEnds table entries (ends_judged judged table entries) behind
-IsExplanation judged table c entries (NotShown fault) behind =
-    EndsWithEnds table entries (ends_judged judged table entries) behind
+IsExplanation judged table c entries (Lawful count) after =
+    AreLines judged table c entries after ⊎ AreLinesOfEnds table c entries after
+IsExplanation judged table c entries (LawfulFor count unheard) after = AreLines judged table c entries after
+IsExplanation judged table c entries (Faulty number place) after = IsFaultBehind (Faulty number place) after
+IsExplanation judged table c entries (Refuted r) after = after ≡ refuted_lines judged table entries r
+IsExplanation judged table c entries (Undecided fault) after =
+    EndsWithEnds table entries (ends_judged judged table entries) after
+IsExplanation judged table c entries (NotShown fault) after =
+    EndsWithEnds table entries (ends_judged judged table entries) after
 
 -- ---- without a certificate: by the proposed one
 
 -- The reader returned these entries and this end of the record. The outcome is the joint verdict on them, it holds, and
 -- the text gives the reasons.
-pub record ExplainsVerdict (judged : Option Side) (table : Table) (d : Device) (outcome : Outcome) (behind : List ℕ)
+pub record ExplainsVerdict (judged : Option Side) (table : Table) (d : Device) (outcome : Outcome) (after : List ℕ)
     : Type 0 where
   pub entries : List Entry
   pub end : Result (Unit {0}) FeedFault
   pub reads : ReadsRecord d entries end
   pub says : outcome ≡ joint_record_verdict judged table entries end
   pub shown : IsShown judged table entries outcome
-  pub why : IsExplanation judged table (proposed_by judged entries) entries outcome behind
+  pub why : IsExplanation judged table (proposed_by judged entries) entries outcome after
 
 -- The outcome is explained, or memory ran out.
 abbrev pub GivesExplanation : Option Side → Table → Device → Outcome → List ℕ → Type 0
-GivesExplanation judged table d outcome behind =
-    ((outcome ≡ out_of_memory) × (behind ≡ [])) ⊎ ExplainsVerdict judged table d outcome behind
+GivesExplanation judged table d outcome after =
+    ((outcome ≡ out_of_memory) × (after ≡ [])) ⊎ ExplainsVerdict judged table d outcome after
 
 -- If there is no table, nothing of the record is read.
 abbrev pub GivesExplanationWith : Option Side → Result Table Outcome → Device → Outcome → List ℕ → Type 0
-GivesExplanationWith judged (Ok table) entries outcome behind = GivesExplanation judged table entries outcome behind
-GivesExplanationWith judged (Err said) entries outcome behind =
-    (outcome ≡ said) × IsFaultBehind said behind × IsUntouched entries
+GivesExplanationWith judged (Ok table) entries outcome after = GivesExplanation judged table entries outcome after
+GivesExplanationWith judged (Err said) entries outcome after =
+    (outcome ≡ said) × IsFaultBehind said after × IsUntouched entries
 
 -- The octets of the two readers lead to this outcome and this text.
 abbrev pub IsExplained : Option Side → Device → Device → Outcome → List ℕ → Type 0
-IsExplained judged entries table outcome behind =
-    (given : Result Table Outcome) × ReadsTable table given × GivesExplanationWith judged given entries outcome behind
+IsExplained judged entries table outcome after =
+    (given : Result Table Outcome) × ReadsTable table given × GivesExplanationWith judged given entries outcome after
 
 -- The octets of the two readers lead to an outcome, and the writer took its line and the text after it.
 pub record Explains (judged : Option Side) (entries table : Device) (taken taken' : Option (List ℕ)) (status : Status)
     : Type 0 where
   pub outcome : Outcome
-  pub behind : List ℕ
+  pub after : List ℕ
   pub text : List ℕ
-  pub given : IsExplained judged entries table outcome behind
-  pub says : IsOutcomeText outcome behind text status
+  pub given : IsExplained judged entries table outcome after
+  pub says : IsOutcomeText outcome after text status
   pub takes : Appends taken taken' text
 
 -- ---- with a certificate
@@ -112,41 +112,41 @@ pub record Explains (judged : Option Side) (entries table : Device) (taken taken
 -- The reader returned these entries and this end of the record. The outcome is that of the certificate's replay, it
 -- holds, and the text gives the reasons.
 pub record ExplainsReplay (judged : Option Side) (table : Table) (c : Certificate) (d : Device) (outcome : Outcome)
-    (behind : List ℕ) : Type 0 where
+    (after : List ℕ) : Type 0 where
   pub entries : List Entry
   pub end : Result (Unit {0}) FeedFault
   pub reads : ReadsRecord d entries end
   pub says : outcome ≡ record_outcome judged table c entries end
   pub shown : IsShown judged table entries outcome
-  pub why : IsExplanation judged table c entries outcome behind
+  pub why : IsExplanation judged table c entries outcome after
 
 -- The outcome is explained, or memory ran out. If there is no certificate, nothing of the record is read.
 abbrev pub GivesExplanationBy : Option Side → Table → Result Certificate Outcome → Device → Outcome → List ℕ → Type 0
-GivesExplanationBy judged table (Ok c) entries outcome behind =
-    ((outcome ≡ out_of_memory) × (behind ≡ [])) ⊎ ExplainsReplay judged table c entries outcome behind
-GivesExplanationBy judged table (Err said) entries outcome behind =
-    (outcome ≡ said) × IsFaultBehind said behind × IsUntouched entries
+GivesExplanationBy judged table (Ok c) entries outcome after =
+    ((outcome ≡ out_of_memory) × (after ≡ [])) ⊎ ExplainsReplay judged table c entries outcome after
+GivesExplanationBy judged table (Err said) entries outcome after =
+    (outcome ≡ said) × IsFaultBehind said after × IsUntouched entries
 
 -- If there is no table, nothing of the certificate and the record is read. If there is no certificate, nothing of the
 -- record is.
 abbrev pub GivesExplanationByWith : Option Side → Result Table Outcome → Device → Device → Outcome → List ℕ → Type 0
-GivesExplanationByWith judged (Ok table) certificate entries outcome behind =
+GivesExplanationByWith judged (Ok table) certificate entries outcome after =
     (given : Result Certificate Outcome) × ReadsCertificate certificate given
-    × GivesExplanationBy judged table given entries outcome behind
-GivesExplanationByWith judged (Err said) certificate entries outcome behind =
-    (outcome ≡ said) × IsFaultBehind said behind × IsUntouched certificate × IsUntouched entries
+    × GivesExplanationBy judged table given entries outcome after
+GivesExplanationByWith judged (Err said) certificate entries outcome after =
+    (outcome ≡ said) × IsFaultBehind said after × IsUntouched certificate × IsUntouched entries
 
 -- The octets of the three readers lead to this outcome and this text.
 abbrev pub IsExplainedBy : Option Side → Device → Device → Device → Outcome → List ℕ → Type 0
-IsExplainedBy judged entries table certificate outcome behind = (given : Result Table Outcome) × ReadsTable table given
-    × GivesExplanationByWith judged given certificate entries outcome behind
+IsExplainedBy judged entries table certificate outcome after = (given : Result Table Outcome) × ReadsTable table given
+    × GivesExplanationByWith judged given certificate entries outcome after
 
 -- The octets of the three readers lead to an outcome, and the writer took its line and the text after it.
 pub record ExplainsBy (judged : Option Side) (entries table certificate : Device) (taken taken' : Option (List ℕ))
     (status : Status) : Type 0 where
   pub outcome : Outcome
-  pub behind : List ℕ
+  pub after : List ℕ
   pub text : List ℕ
-  pub given : IsExplainedBy judged entries table certificate outcome behind
-  pub says : IsOutcomeText outcome behind text status
+  pub given : IsExplainedBy judged entries table certificate outcome after
+  pub says : IsOutcomeText outcome after text status
   pub takes : Appends taken taken' text

@@ -19,7 +19,7 @@ pub(crate) struct Chart<'a> {
     pub(crate) read: &'a Record,
     pub(crate) judged: Option<End>,
     pub(crate) outcome: Outcome,
-    pub(crate) behind: &'a str,
+    pub(crate) after: &'a str,
 }
 
 /// A row of a chart.
@@ -233,7 +233,7 @@ impl Chart<'_> {
             return Ok(());
         };
         write!(json, ",\"marked\":{marked}")?;
-        push_named(json, "text", self.behind)
+        push_named(json, "text", self.after)
     }
 
     /// Returns the page of a run. A run of over 2,000 rows, with the entries after its last step, is shown in part: the
@@ -249,8 +249,8 @@ impl Chart<'_> {
         self.push_head(alloc, &mut page)?;
         push_entries(alloc, &mut page, self.read, returned)?;
         push_rows(alloc, &mut page, returned)?;
-        let behind = rows.len().saturating_sub(end);
-        writeln!(page, ",\"left_out\":[{before},{behind}]}}}}")?;
+        let after = rows.len().saturating_sub(end);
+        writeln!(page, ",\"left_out\":[{before},{after}]}}}}")?;
         page.push_str(FRAME_TAIL)?;
         Ok(page)
     }

@@ -38,7 +38,7 @@ use tcap_refute::Refutation;
 struct Explanation {
     outcome: Outcome,
     // The text after the line of the verdict.
-    behind: String,
+    after: String,
     // The run as a page; empty if none is asked for, or if there is no record.
     chart: String,
 }
@@ -56,11 +56,11 @@ impl Explanation {
     /// Returns this verdict with no text after it.
     fn alone(alloc: Global, outcome: Outcome) -> Explanation
         ensures outcome { result.outcome ≡ outcome }
-        ensures behind { string_bytes result.behind ≡ [] }
+        ensures after { string_bytes result.after ≡ [] }
     {
         Explanation {
             outcome,
-            behind: String::new(alloc),
+            after: String::new(alloc),
             chart: String::new(alloc),
         }
     }
@@ -68,12 +68,12 @@ impl Explanation {
     /// Returns the verdict on a file with a fault, with a text that names the file.
     fn of_fault(alloc: Global, outcome: Outcome) -> Explanation
         ensures outcome { result.outcome ≡ outcome }
-        ensures behind { IsFaultBehind outcome (string_bytes result.behind) }
+        ensures after { IsFaultBehind outcome (string_bytes result.after) }
     {
         match fault_text(alloc, outcome) {
-            Ok(behind) => Explanation {
+            Ok(after) => Explanation {
                 outcome,
-                behind,
+                after,
                 chart: String::new(alloc),
             },
             Err(AllocError) => Explanation::alone(alloc, outcome),
@@ -110,7 +110,7 @@ fn chart_of(
     read: &Record,
     options: ExplainOptions,
     outcome: Outcome,
-    behind: &str,
+    after: &str,
     steps: &[Step],
 ) -> Result<String, AllocError> {
     if !options.with_chart {
@@ -121,7 +121,7 @@ fn chart_of(
         read,
         judged,
         outcome,
-        behind,
+        after,
     }
     .of_steps(alloc, steps)
 }
@@ -135,15 +135,15 @@ fn explain_run(
 ) -> Result<Explanation, AllocError>
     ensures outcome { IfOk result (λ why. why.outcome
         ≡ lawful_by options.judged (length read.now.entries.items) (events_of steps.now)) }
-    ensures behind { IfOk result (λ why. string_bytes why.behind ≡ run_lines options.judged steps.now) }
+    ensures after { IfOk result (λ why. string_bytes why.after ≡ run_lines options.judged steps.now) }
 {
     let outcome = said_of(options.judged, read.entries.len(), steps);
-    let mut behind = String::new(alloc);
-    push_steps(&mut behind, options.judged, steps)?;
-    let chart = chart_of(alloc, read, options, outcome, &behind, steps)?;
+    let mut after = String::new(alloc);
+    push_steps(&mut after, options.judged, steps)?;
+    let chart = chart_of(alloc, read, options, outcome, &after, steps)?;
     Ok(Explanation {
         outcome,
-        behind,
+        after,
         chart,
     })
 }
@@ -163,13 +163,13 @@ fn explain_stop(
 ) -> Result<Explanation, AllocError>
     requires found { IfSome ends (λ both. both ≡ ends_of table.now read.now.entries.items) }
     ensures { IfOk result (λ why. (why.outcome ≡ outcome)
-        × EndsWithEnds table.now read.now.entries.items ends (string_bytes why.behind)) }
+        × EndsWithEnds table.now read.now.entries.items ends (string_bytes why.after)) }
 {
-    let behind = stop_text(alloc, read, table, certificate, ends, fault, run)?;
-    let chart = chart_of(alloc, read, options, outcome, &behind, &run.steps)?;
+    let after = stop_text(alloc, read, table, certificate, ends, fault, run)?;
+    let chart = chart_of(alloc, read, options, outcome, &after, &run.steps)?;
     Ok(Explanation {
         outcome,
-        behind,
+        after,
         chart,
     })
 }
@@ -186,14 +186,14 @@ fn explain_ends(
     requires ends { ends ≡ ends_of table.now read.now.entries.items }
     requires lawful { (is_lawful ends.a && is_lawful ends.b) ≡ true }
     ensures outcome { IfOk result (λ why. why.outcome ≡ Lawful (length read.now.entries.items)) }
-    ensures behind { IfOk result (λ why. AreLinesOfBoth table.now read.now.entries.items (string_bytes why.behind)) }
+    ensures after { IfOk result (λ why. AreLinesOfBoth table.now read.now.entries.items (string_bytes why.after)) }
 {
-    let behind = lawful_ends_text(alloc, read, table, ends)?;
+    let after = lawful_ends_text(alloc, read, table, ends)?;
     let outcome = Outcome::Lawful(read.entries.len());
-    let chart = chart_of(alloc, read, options, outcome, &behind, &[])?;
+    let chart = chart_of(alloc, read, options, outcome, &after, &[])?;
     Ok(Explanation {
         outcome,
-        behind,
+        after,
         chart,
     })
 }
@@ -226,7 +226,7 @@ fn explain_other(
     ensures { IfOk result (λ why. (why.outcome ≡ joint_verdict options.judged table.now read.now.entries.items)
         × IsShown options.judged table.now read.now.entries.items why.outcome
         × IsExplanation options.judged table.now certificate.now read.now.entries.items why.outcome
-        (string_bytes why.behind)) }
+        (string_bytes why.after)) }
 {
     let outcome = Outcome::Undecided(fault);
     let ends = ends_judged(alloc, read, table, options.judged)?;
@@ -257,20 +257,20 @@ fn explain_refuted(
     requires named { refutation_by options.judged table.now read.now.entries.items ≡ Some refutation }
     requires few { length read.now.entries.items ≤ 100000 }
     ensures { IfOk result (λ why. (why.outcome ≡ Refuted refutation)
-        × (string_bytes why.behind ≡ refuted_lines options.judged table.now read.now.entries.items refutation)) }
+        × (string_bytes why.after ≡ refuted_lines options.judged table.now read.now.entries.items refutation)) }
 {
     let outcome = Outcome::Refuted(refutation);
-    let behind = refuted_text(alloc, read, table, options.judged, refutation)?;
+    let after = refuted_text(alloc, read, table, options.judged, refutation)?;
     let chart = if options.with_chart {
         let certificate = propose(alloc, read, options.judged)?;
         let run = run_until(alloc, read, table, &certificate, options.judged)?;
-        chart_of(alloc, read, options, outcome, &behind, &run.steps)?
+        chart_of(alloc, read, options, outcome, &after, &run.steps)?
     } else {
         String::new(alloc)
     };
     Ok(Explanation {
         outcome,
-        behind,
+        after,
         chart,
     })
 }
@@ -288,7 +288,7 @@ fn explain_by_search(
         × IsShown options.judged table.now read.now.entries.items why.outcome
         × IsExplanation options.judged table.now
         (proposed_by options.judged read.now.entries.items) read.now.entries.items why.outcome
-        (string_bytes why.behind)) }
+        (string_bytes why.after)) }
 {
     let certificate = propose(alloc, read, options.judged)?;
     let mut run = run_so_far(alloc, read, table, &certificate, options.judged)?;
@@ -310,7 +310,7 @@ fn explain_verdict(
         × IsShown options.judged table.now read.now.entries.items why.outcome
         × IsExplanation options.judged table.now
         (proposed_by options.judged read.now.entries.items) read.now.entries.items why.outcome
-        (string_bytes why.behind)) }
+        (string_bytes why.after)) }
 {
     match named(alloc, read, table, options.judged)? {
         Some(refutation) => explain_refuted(alloc, read, table, options, refutation),
@@ -331,7 +331,7 @@ fn explain_replay(
         (replayed_by options.judged table.now certificate.now read.now.entries.items))
         × IsShown options.judged table.now read.now.entries.items why.outcome
         × IsExplanation options.judged table.now certificate.now read.now.entries.items why.outcome
-        (string_bytes why.behind)) }
+        (string_bytes why.after)) }
 {
     let mut run = run_so_far(alloc, read, table, certificate, options.judged)?;
     match run.refused {
@@ -362,7 +362,7 @@ fn explain_by_table<R: Read>(
     options: ExplainOptions,
 ) -> Explanation
     ensures { GivesExplanation options.judged table.now
-        (device R.remaining R.failures reader.old reader.new) result.outcome (string_bytes result.behind) }
+        (device R.remaining R.failures reader.old reader.new) result.outcome (string_bytes result.after) }
 {
     match read_record(alloc, reader) {
         Ok(read) => match explain_verdict(alloc, &read, table, options) {
@@ -385,7 +385,7 @@ fn explain_by_certificate<R: Read>(
     options: ExplainOptions,
 ) -> Explanation
     ensures { GivesExplanationBy options.judged table.now (Ok certificate.now)
-        (device R.remaining R.failures reader.old reader.new) result.outcome (string_bytes result.behind) }
+        (device R.remaining R.failures reader.old reader.new) result.outcome (string_bytes result.after) }
 {
     match read_record(alloc, reader) {
         Ok(read) => match explain_replay(alloc, &read, table, certificate, options) {
@@ -407,7 +407,7 @@ fn explain_both<R: Read, T: Read>(
     options: ExplainOptions,
 ) -> Explanation
     ensures { IsExplained options.judged (device R.remaining R.failures entries.old entries.new)
-        (device T.remaining T.failures table.old table.new) result.outcome (string_bytes result.behind) }
+        (device T.remaining T.failures table.old table.new) result.outcome (string_bytes result.after) }
 {
     match read_table(alloc, table) {
         Ok(table) => explain_by_table(alloc, entries, &table, options),
@@ -425,7 +425,7 @@ fn explain_all<R: Read, T: Read, C: Read>(
 ) -> Explanation
     ensures { IsExplainedBy options.judged (device R.remaining R.failures entries.old entries.new)
         (device T.remaining T.failures table.old table.new)
-        (device C.remaining C.failures certificate.old certificate.new) result.outcome (string_bytes result.behind) }
+        (device C.remaining C.failures certificate.old certificate.new) result.outcome (string_bytes result.after) }
 {
     let table = match read_table(alloc, table) {
         Ok(table) => table,
@@ -470,7 +470,7 @@ pub fn run_explain<R: Read, T: Read, W: Write>(
 {
     let why = explain_both(alloc, entries, table, options);
     *chart = why.chart;
-    write_outcome(alloc, why.outcome, &why.behind, writer)
+    write_outcome(alloc, why.outcome, &why.after, writer)
 }
 
 /// Writes what the certificate in `certificate` shows of a record, and the reasons.
@@ -499,5 +499,5 @@ pub fn run_explain_check<R: Read, T: Read, C: Read, W: Write>(
 {
     let why = explain_all(alloc, entries, table, certificate, options);
     *chart = why.chart;
-    write_outcome(alloc, why.outcome, &why.behind, writer)
+    write_outcome(alloc, why.outcome, &why.after, writer)
 }

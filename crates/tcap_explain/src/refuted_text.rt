@@ -11,7 +11,7 @@ ghost use Rattle.tcap_faults.specs.Fault.{blamed};
 ghost use Rattle.tcap_judge.specs.BlameOutcome.{AreFound, ends_of};
 ghost use Rattle.tcap_judge.specs.declared.findings.Finding.TheVariants as findings;
 ghost use Rattle.tcap_judge.specs.Verdict.{refutation_by};
-ghost use Rattle.tcap_explain.specs.RefutedLines.{findings_text, behind_text, both_text, end_text, ends_judged, is_blamed_by, is_shown, none_found_words, refuted_lines, sender_at, unblamed_lines, unblamed_words, unread_words};
+ghost use Rattle.tcap_explain.specs.RefutedLines.{after_text, findings_text, both_text, end_text, ends_judged, is_blamed_by, is_shown, none_found_words, refuted_lines, sender_at, unblamed_lines, unblamed_words, unread_words};
 
 use std::alloc::{AllocError, Global};
 use tcap_end::Table;
@@ -77,7 +77,7 @@ fn push_not_blamed(text: &mut String, count: usize, all: usize) -> Result<(), Al
 }
 
 /// Appends the reasons for a finding, unless it is the refutation `shown` already.
-fn push_behind(
+fn push_after(
     alloc: Global,
     text: &mut String,
     read: &Record,
@@ -88,7 +88,7 @@ fn push_behind(
 ) -> Result<(), AllocError>
     requires named { (r : Refutation) → finding ≡ findings.Blamed r → blamed table.now end read.now.entries.items ≡ Some r }
     ensures { OnOk result (string_bytes text.new
-        ≡ string_bytes text.old ++ behind_text table.now read.now.entries.items shown end finding) }
+        ≡ string_bytes text.old ++ after_text table.now read.now.entries.items shown end finding) }
 {
     match finding {
         Finding::Blamed(refutation) => {
@@ -117,7 +117,7 @@ fn push_end(
         ≡ string_bytes text.old ++ end_text table.now read.now.entries.items shown end finding) }
 {
     push_finding(text, end, finding)?;
-    push_behind(alloc, text, read, table, end, finding, shown)
+    push_after(alloc, text, read, table, end, finding, shown)
 }
 
 /// Appends the findings on both ends, and the reasons that were not `shown` already.

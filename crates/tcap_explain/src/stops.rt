@@ -246,7 +246,7 @@ fn push_tied(text: &mut String, stop: &Stop, is_answer: bool) -> Result<(), Allo
 }
 
 /// Appends the entry after a gap.
-fn push_behind(text: &mut String, stop: &Stop, gap: u32) -> Result<(), AllocError> {
+fn push_after(text: &mut String, stop: &Stop, gap: u32) -> Result<(), AllocError> {
     match stop.read.entries.get(gap as usize) {
         Some(entry) => push_view(text, gap as usize, &entry.view()),
         None => text.push_str("no entry is behind it\n"),
@@ -264,7 +264,7 @@ fn push_listed(text: &mut String, stop: &Stop) -> Result<(), AllocError> {
                 text,
                 "listed: before entry {gap} {end}'s half of its transaction closes unseen"
             )?;
-            push_behind(text, stop, gap)?;
+            push_after(text, stop, gap)?;
         }
     }
     for x in stop.certificate.expiries() {
@@ -275,7 +275,7 @@ fn push_listed(text: &mut String, stop: &Stop) -> Result<(), AllocError> {
                 text,
                 "listed: before entry {gap} {end}'s invocation of its component {component} ends unseen"
             )?;
-            push_behind(text, stop, gap)?;
+            push_after(text, stop, gap)?;
         }
     }
     Ok(())

@@ -132,14 +132,14 @@ fault_since table side items Item.Quiet =
 
 -- The first of these entries that is a fault of the end, with its lowest kind. `number` is the count of the `items`
 -- before them. Nothing after the first entry of either end that is no item is looked at.
-abbrev pub blamed_behind : Table → Side → List Item → ℕ → List (Option Side × Result Item Reason) → Option Refutation
-blamed_behind table side items number [] = None
-blamed_behind table side items number ((sender, Err reason) ∷ more) =
+abbrev pub blamed_after : Table → Side → List Item → ℕ → List (Option Side × Result Item Reason) → Option Refutation
+blamed_after table side items number [] = None
+blamed_after table side items number ((sender, Err reason) ∷ more) =
     refutation_at number (bad_entry_of side sender reason)
-blamed_behind table side items number ((sender, Ok item) ∷ more) =
+blamed_after table side items number ((sender, Ok item) ∷ more) =
     option_or (refutation_at number (fault_since table side (since_quiet items) item))
-    (blamed_behind table side (items ++ item ∷ []) (number + 1) more)
+    (blamed_after table side (items ++ item ∷ []) (number + 1) more)
 
 -- The first entry of this end, or quiet mark, that has a kind for it, with its lowest kind.
 abbrev pub blamed : Table → Side → List Entry → Option Refutation
-blamed table side entries = blamed_behind table side [] 0 (map (λ e. (e.side, item_of e)) entries)
+blamed table side entries = blamed_after table side [] 0 (map (λ e. (e.side, item_of e)) entries)

@@ -14,7 +14,7 @@ use Rattle.tcap_refute.specs.EarlierMessages.{since_quiet}
 use Rattle.tcap_faults.specs.declared.transaction.history.Facts.{Facts}
 use Rattle.tcap_faults.specs.declared.verdict.first_fault.EndSearch.{EndSearch}
 use Rattle.tcap_faults.specs.declared.verdict.first_fault.SearchState.{SearchState}
-use Rattle.tcap_faults.specs.Fault.{bad_entry_of, blamed, blamed_behind, fault_since}
+use Rattle.tcap_faults.specs.Fault.{bad_entry_of, blamed, blamed_after, fault_since}
 use Rattle.tcap_faults.specs.History.{AreFacts}
 
 -- The lowest of F10 to F13 that components have.
@@ -106,5 +106,5 @@ IsFound table side entries items number end_search = by end_search.is_over
     by : Bool → Type 0
     by true = end_search.found ≡ blamed table side entries
     by false = (end_search.found ≡ None)
-        × (blamed_behind table side items number (map (λ e. (e.side, item_of e)) (drop number entries))
+        × (blamed_after table side items number (map (λ e. (e.side, item_of e)) (drop number entries))
         ≡ blamed table side entries)

@@ -18,17 +18,17 @@ use Rattle.tcap_faults.specs.UsedAgain.{is_used_again}
 
 -- The number of the first entry since the last quiet mark in which the end used an own ID again. `seen` are the items
 -- since the mark before these entries, and `first` is the number that was found in them.
-abbrev pub again_behind : Table → Side → ℕ → List (Result Item Reason) → List Item → Option ℕ → Option ℕ
-again_behind table side number [] seen first = first
-again_behind table side number (Err reason ∷ more) seen first = again_behind table side (number + 1) more seen first
-again_behind table side number (Ok Item.Quiet ∷ more) seen first = again_behind table side (number + 1) more [] None
-again_behind table side number (Ok (Sent sender m) ∷ more) seen first =
-    again_behind table side (number + 1) more (seen ++ Sent sender m ∷ [])
+abbrev pub again_after : Table → Side → ℕ → List (Result Item Reason) → List Item → Option ℕ → Option ℕ
+again_after table side number [] seen first = first
+again_after table side number (Err reason ∷ more) seen first = again_after table side (number + 1) more seen first
+again_after table side number (Ok Item.Quiet ∷ more) seen first = again_after table side (number + 1) more [] None
+again_after table side number (Ok (Sent sender m) ∷ more) seen first =
+    again_after table side (number + 1) more (seen ++ Sent sender m ∷ [])
     (option_or first (cond (is_used_again table side seen (Sent sender m)) (Some number) None))
 
 -- The number of the first such entry among the first `count` entries.
 abbrev pub again_among : Table → Side → List Entry → ℕ → Option ℕ
-again_among table side entries count = again_behind table side 0 (map item_of (take count entries)) [] None
+again_among table side entries count = again_after table side 0 (map item_of (take count entries)) [] None
 
 -- Whether an entry is a quiet mark.
 abbrev pub is_mark : Option (Result Item Reason) → Bool

@@ -27,7 +27,7 @@ use Rattle.tcap_judge.specs.CheckOutcome.{ReadsRecord, ReadsTable, out_of_memory
 use Rattle.tcap_judge.specs.Device.{Device}
 use Rattle.tcap_judge.specs.Verdict.{refutation_by, proposed_by, record_verdict, verdict}
 use Rattle.tcap_judge.specs.EndFindings.{AreBlamed}
-use Rattle.tcap_judge.specs.BlameOutcome.{AreFound, FindsLawfulEnds, GivesBlame, GivesBlameWith, IsBlamed, IsFound, PrintsBlame, IsBlameText, blame_status, ends_lines, ends_of, finding, is_blamed, is_lawful, joint_record_verdict, joint_verdict, lines_behind, record_ends, unblamed_status, verdict_by_ends}
+use Rattle.tcap_judge.specs.BlameOutcome.{AreFound, FindsLawfulEnds, GivesBlame, GivesBlameWith, IsBlamed, IsFound, PrintsBlame, IsBlameText, blame_status, ends_lines, ends_of, finding, is_blamed, is_lawful, joint_record_verdict, joint_verdict, lines_after, record_ends, unblamed_status, verdict_by_ends}
 use Rattle.tcap_judge.proofs.LawfulLaws.{IsFineOf, fine_fault, finds, found_said as found_by_verdict, table_fault}
 use Rattle.tcap_judge.proofs.SpellsNothingLaws.{spells_nothing}
 use Rattle.tcap_judge.proofs.VerdictLaws.{between, verdict_is}
@@ -202,7 +202,7 @@ fine_by outcome (Some reported) fine =
 
 fine_lines : (outcome : Outcome) (ends : Option Ends) (text : List ℕ) (status : Status)
     → IsBlameText outcome ends text status → status ≡ statuses.Fine
-    → (outcome_status outcome ≡ statuses.Fine) × (text ≡ outcome_line outcome ++ lines_behind ends)
+    → (outcome_status outcome ≡ statuses.Fine) × (text ≡ outcome_line outcome ++ lines_after ends)
 fine_lines outcome ends text status (inl reported) fine = (fine_by outcome ends (sym reported.1 ∙ fine), reported.0)
 fine_lines outcome ends text status (inr reported) fine = let bad : statuses.Fault ≡ statuses.Fine = sym reported.1 ∙ fine in cc
 
@@ -220,11 +220,11 @@ by_end : (entries table : Device) (operations : Table) (taken taken' : Option (L
     (read : List Entry) (end : Result (Unit {0}) FeedFault) → ReadsRecord entries read end → ReadsTable table (Ok operations)
     → outcome ≡ joint_record_verdict None operations read end → IsShown None operations read outcome
     → ends ≡ record_ends operations read end → outcome_status outcome ≡ statuses.Fine
-    → Appends taken taken' (outcome_line outcome ++ lines_behind ends) → FindsLawfulEnds entries table taken taken'
+    → Appends taken taken' (outcome_line outcome ++ lines_after ends) → FindsLawfulEnds entries table taken taken'
 by_end entries table operations taken taken' outcome ends read (Err fault) reads given says shown are fine line =
     absurd (fine_fault outcome (record_verdict None operations read (Err fault)) says refl fine)
 by_end entries table operations taken taken' outcome ends read (Ok end) reads given says shown are fine line =
-    let lines = subst (λ (reported : Option Ends). Appends taken taken' (outcome_line outcome ++ lines_behind reported)) are line in
+    let lines = subst (λ (reported : Option Ends). Appends taken taken' (outcome_line outcome ++ lines_after reported)) are line in
     let (there, before, rest) = between taken taken' (outcome_line outcome) (ends_lines (ends_of operations read)) lines in (
       there,
       ends_of operations read,
@@ -236,7 +236,7 @@ by_end entries table operations taken taken' outcome ends read (Ok end) reads gi
 
 by_record : (entries table : Device) (operations : Table) (taken taken' : Option (List ℕ)) (outcome : Outcome) (ends : Option Ends)
     → ReadsTable table (Ok operations) → GivesBlame operations entries outcome ends → outcome_status outcome ≡ statuses.Fine
-    → Appends taken taken' (outcome_line outcome ++ lines_behind ends) → FindsLawfulEnds entries table taken taken'
+    → Appends taken taken' (outcome_line outcome ++ lines_after ends) → FindsLawfulEnds entries table taken taken'
 by_record entries table operations taken taken' outcome ends given (inl memory) fine line =
     absurd (fine_fault outcome out_of_memory memory.0 refl fine)
 by_record entries table operations taken taken' outcome ends given (inr says) fine line =
@@ -245,7 +245,7 @@ by_record entries table operations taken taken' outcome ends given (inr says) fi
 
 by_table : (given : Result Table Outcome) (entries table : Device) (taken taken' : Option (List ℕ)) (outcome : Outcome)
     (ends : Option Ends) → ReadsTable table given → GivesBlameWith given entries outcome ends
-    → outcome_status outcome ≡ statuses.Fine → Appends taken taken' (outcome_line outcome ++ lines_behind ends)
+    → outcome_status outcome ≡ statuses.Fine → Appends taken taken' (outcome_line outcome ++ lines_after ends)
     → FindsLawfulEnds entries table taken taken'
 by_table (Err reported) entries table taken taken' outcome ends reads gives fine line =
     absurd (fine_fault outcome reported gives.0 (table_fault table reported reads) fine)

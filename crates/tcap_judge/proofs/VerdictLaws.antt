@@ -32,11 +32,11 @@ use Rattle.tcap_judge.proofs.SpellsNothingLaws.{spells_nothing}
 -- ---- the status of a run
 
 -- If the status is not a fault, it is that of the outcome, and the text begins with its line.
-said_so : (outcome : Outcome) (behind text : List ℕ) (status : Status) → IsOutcomeText outcome behind text status
+said_so : (outcome : Outcome) (after text : List ℕ) (status : Status) → IsOutcomeText outcome after text status
     → (status ≡ statuses.Fault → ⊥)
-    → (outcome_status outcome ≡ status) × (text ≡ outcome_line outcome ++ behind)
-said_so outcome behind text status (inl reported) other = (sym reported.1, reported.0)
-said_so outcome behind text status (inr reported) other = absurd (other reported.1)
+    → (outcome_status outcome ≡ status) × (text ≡ outcome_line outcome ++ after)
+said_so outcome after text status (inl reported) other = (sym reported.1, reported.0)
+said_so outcome after text status (inr reported) other = absurd (other reported.1)
 
 refuted_is : (outcome : Outcome) → outcome_status outcome ≡ statuses.Refuted → (r : Refutation) × (outcome ≡ Refuted r)
 refuted_is (Refuted r) ended = (r, refl)
@@ -63,43 +63,43 @@ by_refutation (Some side) count None (Ok events) r reported = cc
 by_refutation judged count None (Err fault) r reported = cc
 
 -- the text after LAWFUL
-is_line : (judged : Option Side) (with_certificate : Bool) (entries : List Entry) (count unheard : ℕ) (behind : List ℕ)
-    → behind ≡ certificate_line judged with_certificate entries (lawful_outcome judged count unheard)
-    → IsCertificateLine with_certificate behind
-is_line None true entries count unheard behind is = (proposed_by None entries, is)
-is_line (Some side) true entries count unheard behind is = (proposed_by (Some side) entries, is)
-is_line None false entries count unheard behind is = is
-is_line (Some side) false entries count unheard behind is = is
+is_line : (judged : Option Side) (with_certificate : Bool) (entries : List Entry) (count unheard : ℕ) (after : List ℕ)
+    → after ≡ certificate_line judged with_certificate entries (lawful_outcome judged count unheard)
+    → IsCertificateLine with_certificate after
+is_line None true entries count unheard after is = (proposed_by None entries, is)
+is_line (Some side) true entries count unheard after is = (proposed_by (Some side) entries, is)
+is_line None false entries count unheard after is = is
+is_line (Some side) false entries count unheard after is = is
 
 -- what follows if a record is lawful, and this text comes after its line
 abbrev pub IsLawfulThen : Option Side → Table → Bool → Device → Outcome → List ℕ → Type 0
-IsLawfulThen judged table with_certificate d outcome behind =
-    IsFoundBy judged table d outcome × IsCertificateLine with_certificate behind
+IsLawfulThen judged table with_certificate d outcome after =
+    IsFoundBy judged table d outcome × IsCertificateLine with_certificate after
 
 lawful_by_end : (judged : Option Side) (table : Table) (with_certificate : Bool) (d : Device) (outcome : Outcome)
-    (behind : List ℕ) (entries : List Entry) (end : Result (Unit {0}) FeedFault) → ReadsRecord d entries end
+    (after : List ℕ) (entries : List Entry) (end : Result (Unit {0}) FeedFault) → ReadsRecord d entries end
     → outcome ≡ record_verdict judged table entries end
-    → behind ≡ certificate_line judged with_certificate entries outcome → IsShown judged table entries outcome
-    → outcome_status outcome ≡ statuses.Fine → IsLawfulThen judged table with_certificate d outcome behind
-lawful_by_end judged table with_certificate d outcome behind entries (Err fault) reads says behind_is shown fine =
+    → after ≡ certificate_line judged with_certificate entries outcome → IsShown judged table entries outcome
+    → outcome_status outcome ≡ statuses.Fine → IsLawfulThen judged table with_certificate d outcome after
+lawful_by_end judged table with_certificate d outcome after entries (Err fault) reads says after_is shown fine =
     absurd (fine_fault outcome (record_verdict judged table entries (Err fault)) says refl fine)
-lawful_by_end judged table with_certificate d outcome behind entries (Ok end) reads says behind_is shown fine =
+lawful_by_end judged table with_certificate d outcome after entries (Ok end) reads says after_is shown fine =
     let fine_of = verdict_is judged (length entries) (refutation_by judged table entries)
     (replayed_by judged table (proposed_by judged entries) entries) in
     let (unheard, lawful) = fine_of (sym (ap outcome_status says) ∙ fine) in (
       found_said judged table d outcome (record_verdict judged table entries (Ok end)) entries end reads fine_of says shown
           fine,
-      is_line judged with_certificate entries (length entries) unheard behind
-          (behind_is ∙ ap (certificate_line judged with_certificate entries) (says ∙ lawful)),
+      is_line judged with_certificate entries (length entries) unheard after
+          (after_is ∙ ap (certificate_line judged with_certificate entries) (says ∙ lawful)),
     )
 
 pub lawful_record : (judged : Option Side) (table : Table) (with_certificate : Bool) (d : Device) (outcome : Outcome)
-    (behind : List ℕ) → GivesVerdict judged table with_certificate d outcome behind
-    → outcome_status outcome ≡ statuses.Fine → IsLawfulThen judged table with_certificate d outcome behind
-lawful_record judged table with_certificate d outcome behind (inl memory) fine =
+    (after : List ℕ) → GivesVerdict judged table with_certificate d outcome after
+    → outcome_status outcome ≡ statuses.Fine → IsLawfulThen judged table with_certificate d outcome after
+lawful_record judged table with_certificate d outcome after (inl memory) fine =
     absurd (fine_fault outcome out_of_memory memory.0 refl fine)
-lawful_record judged table with_certificate d outcome behind (inr says) fine =
-    lawful_by_end judged table with_certificate d outcome behind says.entries says.end says.reads says.says says.behind_is
+lawful_record judged table with_certificate d outcome after (inr says) fine =
+    lawful_by_end judged table with_certificate d outcome after says.entries says.end says.reads says.says says.after_is
     says.shown fine
 
 -- what follows if an entry of a record is at fault
@@ -122,12 +122,12 @@ named_by_end judged table d r entries (Ok end) reads reported = record {
 }
 
 pub refuted_record : (judged : Option Side) (table : Table) (with_certificate : Bool) (d : Device) (r : Refutation)
-    (behind : List ℕ) → GivesVerdict judged table with_certificate d (Refuted r) behind
-    → IsNamedBy judged table d r × (behind ≡ [])
-refuted_record judged table with_certificate d r behind (inl memory) =
+    (after : List ℕ) → GivesVerdict judged table with_certificate d (Refuted r) after
+    → IsNamedBy judged table d r × (after ≡ [])
+refuted_record judged table with_certificate d r after (inl memory) =
     let bad : Refuted r ≡ out_of_memory = memory.0 in cc
-refuted_record judged table with_certificate d r behind (inr says) =
-    (named_by_end judged table d r says.entries says.end says.reads says.says, says.behind_is)
+refuted_record judged table with_certificate d r after (inr says) =
+    (named_by_end judged table d r says.entries says.end says.reads says.says, says.after_is)
 
 -- ---- both readers
 
@@ -139,16 +139,16 @@ between (Some x) None front back all = absurd all
 between (Some x) (Some y) front back all = (Some (x ++ front), refl, all ∙ sym (append_assoc x front back))
 
 lawful_table : (judged : Option Side) (given : Result Table Outcome) (with_certificate : Bool) (entries table : Device)
-    (taken taken' : Option (List ℕ)) (outcome : Outcome) (behind : List ℕ) → ReadsTable table given
-    → GivesVerdictWith judged given with_certificate entries outcome behind → outcome_status outcome ≡ statuses.Fine
-    → Appends taken taken' (outcome_line outcome ++ behind)
+    (taken taken' : Option (List ℕ)) (outcome : Outcome) (after : List ℕ) → ReadsTable table given
+    → GivesVerdictWith judged given with_certificate entries outcome after → outcome_status outcome ≡ statuses.Fine
+    → Appends taken taken' (outcome_line outcome ++ after)
     → FindsLawfulThen judged with_certificate entries table taken taken'
-lawful_table judged (Err reported) with_certificate entries table taken taken' outcome behind reads gives fine line =
+lawful_table judged (Err reported) with_certificate entries table taken taken' outcome after reads gives fine line =
     absurd (fine_fault outcome reported gives.0 (table_fault table reported reads) fine)
-lawful_table judged (Ok operations) with_certificate entries table taken taken' outcome behind reads gives fine line =
-    let (found, certificate) = lawful_record judged operations with_certificate entries outcome behind gives fine in
-    let (there, before, rest) = between taken taken' (outcome_line outcome) behind line in
-    (there, behind, finds judged entries table operations taken there outcome reads found before, rest, certificate)
+lawful_table judged (Ok operations) with_certificate entries table taken taken' outcome after reads gives fine line =
+    let (found, certificate) = lawful_record judged operations with_certificate entries outcome after gives fine in
+    let (there, before, rest) = between taken taken' (outcome_line outcome) after line in
+    (there, after, finds judged entries table operations taken there outcome reads found before, rest, certificate)
 
 -- what is needed of the laws on faults: an entry found at fault is at fault
 abbrev pub NamesRightly : Option Side → Type 0
@@ -164,14 +164,14 @@ rightly refutes blames None table entries r is = refutes table (map item_of entr
 rightly refutes blames (Some side) table entries r is = blames table side entries r is
 
 refuted_table : (judged : Option Side) → NamesRightly judged → (given : Result Table Outcome) (with_certificate : Bool)
-    (entries table : Device) (taken taken' : Option (List ℕ)) (r : Refutation) (behind : List ℕ) → ReadsTable table given
-    → GivesVerdictWith judged given with_certificate entries (Refuted r) behind
-    → Appends taken taken' (refuted_line r ++ behind) → FindsFault judged entries table taken taken'
-refuted_table judged rightly (Err reported) with_certificate entries table taken taken' r behind reads gives line =
+    (entries table : Device) (taken taken' : Option (List ℕ)) (r : Refutation) (after : List ℕ) → ReadsTable table given
+    → GivesVerdictWith judged given with_certificate entries (Refuted r) after
+    → Appends taken taken' (refuted_line r ++ after) → FindsFault judged entries table taken taken'
+refuted_table judged rightly (Err reported) with_certificate entries table taken taken' r after reads gives line =
     let bad : statuses.Refuted ≡ statuses.Fault =
     no_fault (Refuted r) reported statuses.Refuted gives.0 (table_fault table reported reads) refl in cc
-refuted_table judged rightly (Ok operations) with_certificate entries table taken taken' r behind reads gives line =
-    let (named, none) = refuted_record judged operations with_certificate entries r behind gives in
+refuted_table judged rightly (Ok operations) with_certificate entries table taken taken' r after reads gives line =
+    let (named, none) = refuted_record judged operations with_certificate entries r after gives in
     let text = table_text table operations reads in
     record {
       octets = named.reads.returned;
@@ -194,19 +194,19 @@ refuted_table judged rightly (Ok operations) with_certificate entries table take
 
 -- the writer took the text of the outcome
 pub prints_of : (judged : Option Side) (with_certificate : Bool) (entries table : Device) (outcome : Outcome)
-    (behind given : List ℕ) (taken taken' : Option (List ℕ)) (result : Result Status WriteFailed) → given ≡ behind
-    → IsJudged judged with_certificate entries table outcome behind
+    (after given : List ℕ) (taken taken' : Option (List ℕ)) (result : Result Status WriteFailed) → given ≡ after
+    → IsJudged judged with_certificate entries table outcome after
     → IfOk result (λ status. (text : List ℕ) × IsOutcomeText outcome given text status × Appends taken taken' text)
     → IfOk result (PrintsVerdict judged with_certificate entries table taken taken')
-prints_of judged with_certificate entries table outcome behind given taken taken' (Ok status) is gives reported = record {
+prints_of judged with_certificate entries table outcome after given taken taken' (Ok status) is gives reported = record {
   outcome = outcome;
-  behind = given;
+  after = given;
   text = reported.0;
   given = subst (IsJudged judged with_certificate entries table outcome) (sym is) gives;
   says = reported.1;
   takes = reported.2;
 }
-prints_of judged with_certificate entries table outcome behind given taken taken' (Err failed) is gives reported = tt
+prints_of judged with_certificate entries table outcome after given taken taken' (Err failed) is gives reported = tt
 
 -- after status Fine, the record is lawful
 pub lawful_run : (judged : Option Side) (with_certificate : Bool) (entries table : Device) (taken taken' : Option (List ℕ))
@@ -216,9 +216,9 @@ pub lawful_run : (judged : Option Side) (with_certificate : Bool) (entries table
 lawful_run judged with_certificate entries table taken taken' (Err failed) prints fine = cc
 lawful_run judged with_certificate entries table taken taken' (Ok status) prints fine =
     let is_fine : status ≡ statuses.Fine = cc in
-    let (ended, is) = said_so prints.outcome prints.behind prints.text status prints.says
+    let (ended, is) = said_so prints.outcome prints.after prints.text status prints.says
     (λ fault. let bad : statuses.Fine ≡ statuses.Fault = sym is_fine ∙ fault in cc) in
-    lawful_table judged prints.given.0 with_certificate entries table taken taken' prints.outcome prints.behind
+    lawful_table judged prints.given.0 with_certificate entries table taken taken' prints.outcome prints.after
     prints.given.1 prints.given.2 (ended ∙ is_fine) (subst (Appends taken taken') is prints.takes)
 
 -- after status Refuted, the entry is at fault
@@ -229,12 +229,12 @@ pub refuted_run : (judged : Option Side) → NamesRightly judged → (with_certi
 refuted_run judged rightly with_certificate entries table taken taken' (Err failed) prints ended = cc
 refuted_run judged rightly with_certificate entries table taken taken' (Ok status) prints ended =
     let is_refuted : status ≡ statuses.Refuted = cc in
-    let (so, is) = said_so prints.outcome prints.behind prints.text status prints.says
+    let (so, is) = said_so prints.outcome prints.after prints.text status prints.says
     (λ fault. let bad : statuses.Refuted ≡ statuses.Fault = sym is_refuted ∙ fault in cc) in
     let (r, named) = refuted_is prints.outcome (so ∙ is_refuted) in
     let gives = subst
-    (λ (o : Outcome). GivesVerdictWith judged prints.given.0 with_certificate entries o prints.behind) named
+    (λ (o : Outcome). GivesVerdictWith judged prints.given.0 with_certificate entries o prints.after) named
     prints.given.2 in
-    refuted_table judged rightly prints.given.0 with_certificate entries table taken taken' r prints.behind prints.given.1
+    refuted_table judged rightly prints.given.0 with_certificate entries table taken taken' r prints.after prints.given.1
     gives (subst (Appends taken taken')
-    (is ∙ ap (λ (o : Outcome). outcome_line o ++ prints.behind) named) prints.takes)
+    (is ∙ ap (λ (o : Outcome). outcome_line o ++ prints.after) named) prints.takes)

@@ -160,9 +160,9 @@ IsBlamed entries table outcome ends =
     (given : Result Table Outcome) × ReadsTable table given × GivesBlameWith given entries outcome ends
 
 -- the lines after the line of the outcome
-abbrev pub lines_behind : Option Ends → List ℕ
-lines_behind None = []
-lines_behind (Some ends) = ends_lines ends
+abbrev pub lines_after : Option Ends → List ℕ
+lines_after None = []
+lines_after (Some ends) = ends_lines ends
 
 -- the status of a run in which no entry is blamed on an end: a refuted entry then counts as not shown
 abbrev pub unblamed_status : Outcome → Status
@@ -179,7 +179,7 @@ blame_status (Some ends) outcome =
 -- out.
 abbrev pub IsBlameText : Outcome → Option Ends → List ℕ → Status → Type 0
 IsBlameText outcome ends text status =
-    ((text ≡ outcome_line outcome ++ lines_behind ends) × (status ≡ blame_status ends outcome))
+    ((text ≡ outcome_line outcome ++ lines_after ends) × (status ≡ blame_status ends outcome))
     ⊎ ((text ≡ memory_line) × (status ≡ statuses.Fault))
 
 -- The two readers returned a record and a table with this outcome and these findings, and the writer took their lines.

@@ -82,6 +82,6 @@ IsOutcomeLine outcome line status =
 -- The text and the status are those of the outcome, with more text after its line. Or the text reports only that memory
 -- ran out.
 abbrev pub IsOutcomeText : Outcome → List ℕ → List ℕ → Status → Type 0
-IsOutcomeText outcome behind text status =
-    ((text ≡ outcome_line outcome ++ behind) × (status ≡ outcome_status outcome))
+IsOutcomeText outcome after text status =
+    ((text ≡ outcome_line outcome ++ after) × (status ≡ outcome_status outcome))
     ⊎ ((text ≡ memory_line) × (status ≡ statuses.Fault))

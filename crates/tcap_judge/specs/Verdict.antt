@@ -86,9 +86,9 @@ certificate_line judged with_certificate entries outcome = []
 
 -- The outcome is the verdict on these entries, and it holds; the certificate follows if requested.
 abbrev pub IsVerdict : Option Side → Table → Bool → List Entry → Outcome → List ℕ → Type 0
-IsVerdict judged table with_certificate entries outcome behind =
+IsVerdict judged table with_certificate entries outcome after =
     (outcome ≡ verdict_of judged table entries)
-    × (behind ≡ certificate_line judged with_certificate entries outcome) × IsShown judged table entries outcome
+    × (after ≡ certificate_line judged with_certificate entries outcome) × IsShown judged table entries outcome
 
 -- the verdict if no entry is found at fault: lawful by the proposed certificate, or undecided
 abbrev pub verdict_by_search : Option Side → Table → List Entry → Outcome
@@ -97,48 +97,48 @@ verdict_by_search judged table entries =
 
 -- The outcome is `verdict_by_search`, and it holds; the certificate follows if requested.
 abbrev pub IsVerdictBySearch : Option Side → Table → Bool → List Entry → Outcome → List ℕ → Type 0
-IsVerdictBySearch judged table with_certificate entries outcome behind =
+IsVerdictBySearch judged table with_certificate entries outcome after =
     (outcome ≡ verdict_by_search judged table entries)
-    × (behind ≡ certificate_line judged with_certificate entries outcome) × IsShown judged table entries outcome
+    × (after ≡ certificate_line judged with_certificate entries outcome) × IsShown judged table entries outcome
 
 -- The reader returned these entries, and this end after them. The outcome is the verdict on them, and it holds; the
 -- certificate follows if requested.
 pub record SaysVerdict (judged : Option Side) (table : Table) (with_certificate : Bool) (d : Device) (outcome : Outcome)
-    (behind : List ℕ) : Type 0 where
+    (after : List ℕ) : Type 0 where
   pub entries : List Entry
   pub end : Result (Unit {0}) FeedFault
   pub reads : ReadsRecord d entries end
   pub says : outcome ≡ record_verdict judged table entries end
-  pub behind_is : behind ≡ certificate_line judged with_certificate entries outcome
+  pub after_is : after ≡ certificate_line judged with_certificate entries outcome
   pub shown : IsShown judged table entries outcome
 
 -- `SaysVerdict` holds, or memory ran out.
 abbrev pub GivesVerdict : Option Side → Table → Bool → Device → Outcome → List ℕ → Type 0
-GivesVerdict judged table with_certificate d outcome behind =
-    ((outcome ≡ out_of_memory) × (behind ≡ [])) ⊎ SaysVerdict judged table with_certificate d outcome behind
+GivesVerdict judged table with_certificate d outcome after =
+    ((outcome ≡ out_of_memory) × (after ≡ [])) ⊎ SaysVerdict judged table with_certificate d outcome after
 
 -- If the table has a fault, the outcome is this fault, and nothing of the record is read.
 abbrev pub GivesVerdictWith : Option Side → Result Table Outcome → Bool → Device → Outcome → List ℕ → Type 0
-GivesVerdictWith judged (Ok table) with_certificate entries outcome behind =
-    GivesVerdict judged table with_certificate entries outcome behind
-GivesVerdictWith judged (Err reported) with_certificate entries outcome behind =
-    (outcome ≡ reported) × (behind ≡ []) × IsUntouched entries
+GivesVerdictWith judged (Ok table) with_certificate entries outcome after =
+    GivesVerdict judged table with_certificate entries outcome after
+GivesVerdictWith judged (Err reported) with_certificate entries outcome after =
+    (outcome ≡ reported) × (after ≡ []) × IsUntouched entries
 
 -- The outcome, and the text after its line, are those of what the two readers returned.
 abbrev pub IsJudged : Option Side → Bool → Device → Device → Outcome → List ℕ → Type 0
-IsJudged judged with_certificate entries table outcome behind =
+IsJudged judged with_certificate entries table outcome after =
     (given : Result Table Outcome) × ReadsTable table given
-    × GivesVerdictWith judged given with_certificate entries outcome behind
+    × GivesVerdictWith judged given with_certificate entries outcome after
 
 -- The two readers returned a record and a table with this outcome, and the writer took its line, then the certificate's
 -- line if requested. Or memory ran out.
 pub record PrintsVerdict (judged : Option Side) (with_certificate : Bool) (entries table : Device)
     (taken taken' : Option (List ℕ)) (status : Status) : Type 0 where
   pub outcome : Outcome
-  pub behind : List ℕ
+  pub after : List ℕ
   pub text : List ℕ
-  pub given : IsJudged judged with_certificate entries table outcome behind
-  pub says : IsOutcomeText outcome behind text status
+  pub given : IsJudged judged with_certificate entries table outcome after
+  pub says : IsOutcomeText outcome after text status
   pub takes : Appends taken taken' text
 
 -- ---- what the lines mean
@@ -152,8 +152,8 @@ IsCertificateLine false line = line ≡ []
 -- certificate's line if requested.
 abbrev pub FindsLawfulThen : Option Side → Bool → Device → Device → Option (List ℕ) → Option (List ℕ) → Type 0
 FindsLawfulThen judged with_certificate entries table taken taken' =
-    (there : Option (List ℕ)) × (behind : List ℕ) × FindsLawfulBy judged entries table taken there
-    × Appends there taken' behind × IsCertificateLine with_certificate behind
+    (there : Option (List ℕ)) × (after : List ℕ) × FindsLawfulBy judged entries table taken there
+    × Appends there taken' after × IsCertificateLine with_certificate after
 
 -- The entry is at fault: it is no message, or no run has it there in which its sender keeps the rules (for both ends),
 -- or in which this end keeps them (for one end alone).

@@ -12,7 +12,7 @@ ghost use Rattle.tcap_refute.specs.Kind.{refuted};
 ghost use Rattle.tcap_faults.specs.Fault.{blamed};
 ghost use Rattle.tcap_search.specs.CertificateSoFar.{or_both};
 ghost use Rattle.tcap_search.specs.ProposedCertificate.{proposed, proposed_for};
-ghost use Rattle.tcap_judge.specs.BlameOutcome.{AreFound, FindsLawfulEnds, GivesBlame, IsBlamed, IsFound, PrintsBlame, IsBlameText, ends_of, finding, lines_behind};
+ghost use Rattle.tcap_judge.specs.BlameOutcome.{AreFound, FindsLawfulEnds, GivesBlame, IsBlamed, IsFound, PrintsBlame, IsBlameText, ends_of, finding, lines_after};
 ghost use Rattle.tcap_judge.specs.Device.{device};
 ghost use Rattle.tcap_judge.specs.EndFindings.{AreBlamed};
 ghost use Rattle.tcap_judge.specs.LawfulOutcome.{IsShown};
@@ -275,7 +275,7 @@ pub fn blame_outcome<R: Read, T: Read>(alloc: Global, entries: &mut R, table: &m
 /// Appends the line of the outcome, and the lines of the findings. Fails if memory runs out.
 fn push_said(text: &mut String, reported: &Blame) -> Result<(), AllocError>
     ensures { OnOk result (string_bytes text.new
-        ≡ string_bytes text.old ++ outcome_line reported.now.outcome ++ lines_behind reported.now.ends) }
+        ≡ string_bytes text.old ++ outcome_line reported.now.outcome ++ lines_after reported.now.ends) }
 {
     push_outcome(text, reported.outcome)?;
     match reported.ends {

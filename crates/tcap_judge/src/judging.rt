@@ -24,7 +24,7 @@ fn judge_by_table<R: Read>(
     judged: Option<End>,
     with_certificate: bool,
 ) -> RecordVerdict
-    ensures { GivesVerdict judged table.now with_certificate (device R.remaining R.failures reader.old reader.new) result.outcome (string_bytes result.behind) }
+    ensures { GivesVerdict judged table.now with_certificate (device R.remaining R.failures reader.old reader.new) result.outcome (string_bytes result.after) }
 {
     match read_record(alloc, reader) {
         Ok(read) => match judge_record(alloc, &read, table, judged, with_certificate) {
@@ -48,7 +48,7 @@ fn judge<R: Read, T: Read>(
     with_certificate: bool,
 ) -> RecordVerdict
     ensures { IsJudged judged with_certificate (device R.remaining R.failures entries.old entries.new)
-        (device T.remaining T.failures table.old table.new) result.outcome (string_bytes result.behind) }
+        (device T.remaining T.failures table.old table.new) result.outcome (string_bytes result.after) }
 {
     match read_table(alloc, table) {
         Ok(table) => judge_by_table(alloc, entries, &table, judged, with_certificate),
@@ -65,8 +65,8 @@ pub fn judge_outcome<R: Read, T: Read>(
     table: &mut T,
     judged: Option<End>,
 ) -> Outcome
-    ensures { (behind : List ℕ) × IsJudged judged false (device R.remaining R.failures entries.old entries.new)
-        (device T.remaining T.failures table.old table.new) result behind }
+    ensures { (after : List ℕ) × IsJudged judged false (device R.remaining R.failures entries.old entries.new)
+        (device T.remaining T.failures table.old table.new) result after }
 {
     judge(alloc, entries, table, judged, false).outcome
 }
@@ -114,5 +114,5 @@ pub fn run_judge<R: Read, T: Read, W: Write>(
     laws::refuted_is_at_fault();
     tcap_faults::laws::blamed_is_at_fault();
     let reported = judge(alloc, entries, table, judged, with_certificate);
-    write_outcome(alloc, reported.outcome, &reported.behind, writer)
+    write_outcome(alloc, reported.outcome, &reported.after, writer)
 }

@@ -122,11 +122,11 @@ pub fn push_outcome(text: &mut String, outcome: Outcome) -> Result<(), AllocErro
 }
 
 /// Appends the line of an outcome, and the text after it. Fails if memory runs out.
-fn push_with(text: &mut String, outcome: Outcome, behind: &str) -> Result<(), AllocError>
-    ensures { OnOk result (string_bytes text.new ≡ string_bytes text.old ++ outcome_line outcome ++ behind.now) }
+fn push_with(text: &mut String, outcome: Outcome, after: &str) -> Result<(), AllocError>
+    ensures { OnOk result (string_bytes text.new ≡ string_bytes text.old ++ outcome_line outcome ++ after.now) }
 {
     push_outcome(text, outcome)?;
-    text.push_str(behind)
+    text.push_str(after)
 }
 
 /// Writes the line of an outcome and the text after it, or the line that memory ran out, and returns the status. The
@@ -138,16 +138,16 @@ fn push_with(text: &mut String, outcome: Outcome, behind: &str) -> Result<(), Al
 pub fn write_outcome<W: Write>(
     alloc: Global,
     outcome: Outcome,
-    behind: &str,
+    after: &str,
     writer: &mut W,
 ) -> Result<Status, WriteFailed>
-    ensures text { IfOk result (λ status. (text : List ℕ) × IsOutcomeText outcome behind.now text status
+    ensures text { IfOk result (λ status. (text : List ℕ) × IsOutcomeText outcome after.now text status
         × Appends (W.taken writer.old) (W.taken writer.new) text) }
     ensures counts { OnOk result (W.failures writer.new ≡ W.failures writer.old) }
     ensures failed { OnErr result (W.failures writer.new ≡ one_more (W.failures writer.old)) }
 {
     let mut text = String::new(alloc);
-    match push_with(&mut text, outcome, behind) {
+    match push_with(&mut text, outcome, after) {
         Ok(()) => {
             write_line(writer, text.as_bytes())?;
             Ok(outcome.status())

@@ -28,18 +28,18 @@ pub struct RecordVerdict {
     /// The verdict.
     pub outcome: Outcome,
     /// The text after the verdict's line: the certificate on its own line, or nothing.
-    pub behind: String,
+    pub after: String,
 }
 
 impl RecordVerdict {
     /// Returns this verdict with no text after it.
     pub(crate) fn alone(alloc: Global, outcome: Outcome) -> RecordVerdict
         ensures outcome { result.outcome ≡ outcome }
-        ensures behind { string_bytes result.behind ≡ [] }
+        ensures after { string_bytes result.after ≡ [] }
     {
         RecordVerdict {
             outcome,
-            behind: String::new(alloc),
+            after: String::new(alloc),
         }
     }
 }
@@ -121,14 +121,14 @@ fn shown(
     with_certificate: bool,
 ) -> Result<RecordVerdict, AllocError>
     ensures { IfOk result (λ reported. (reported.outcome ≡ outcome)
-        × (string_bytes reported.behind ≡ line_asked with_certificate certificate.now)) }
+        × (string_bytes reported.after ≡ line_asked with_certificate certificate.now)) }
 {
     if !with_certificate {
         return Ok(RecordVerdict::alone(alloc, outcome));
     }
     Ok(RecordVerdict {
         outcome,
-        behind: line_of(alloc, certificate)?,
+        after: line_of(alloc, certificate)?,
     })
 }
 
@@ -142,7 +142,7 @@ pub(crate) fn judge_by_search(
 ) -> Result<RecordVerdict, AllocError>
     requires few { length read.now.entries.items ≤ 100000 }
     ensures { IfOk result (λ reported. IsVerdictBySearch judged table.now with_certificate read.now.entries.items reported.outcome
-        (string_bytes reported.behind)) }
+        (string_bytes reported.after)) }
 {
     let certificate = propose(alloc, read, judged)?;
     match replay(alloc, read, table, &certificate, judged) {
@@ -175,7 +175,7 @@ fn judge_end(
     requires few { length read.now.entries.items ≤ 100000 }
     ensures { IfOk result (λ reported. IsVerdict
         (Some end) table.now with_certificate read.now.entries.items reported.outcome
-        (string_bytes reported.behind)) }
+        (string_bytes reported.after)) }
 {
     laws::blamed_is_never_given();
     let reported = judge_by_search(alloc, read, table, Some(end), with_certificate)?;
@@ -203,7 +203,7 @@ pub fn judge_record(
 ) -> Result<RecordVerdict, AllocError>
     requires few { length read.now.entries.items ≤ 100000 }
     ensures { IfOk result (λ reported. IsVerdict judged table.now with_certificate read.now.entries.items reported.outcome
-        (string_bytes reported.behind)) }
+        (string_bytes reported.after)) }
 {
     if let Some(end) = judged {
         if !is_refuted(alloc, read, table)? {

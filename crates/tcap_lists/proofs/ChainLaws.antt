@@ -9,7 +9,7 @@ use Rattle.std.specs.Prelude.{◌==◌, cond}
 use Rattle.std.specs.List.{slice_get}
 use Rattle.tcap_lists.specs.declared.chains.Mark.{Mark}
 use Rattle.tcap_lists.specs.Chains.{AreBefore, AreEnds, AreMarked, kinds_in}
-use Rattle.tcap_lists.specs.Row.{is_wanted, stood}
+use Rattle.tcap_lists.specs.Row.{is_wanted, kind_at}
 use Rattle.tcap_lists.proofs.ItemLaws.{get_front}
 
 -- ---- the kinds of marks
@@ -139,7 +139,7 @@ less_kinds marks more at kind is = rw (kinds_append marks more) (some_front (kin
 
 -- ---- places and their known kinds
 
-stood_within : (places : List (Option ℕ)) (at kind : ℕ) → stood places at ≡ Some kind → at < length places
+stood_within : (places : List (Option ℕ)) (at kind : ℕ) → kind_at places at ≡ Some kind → at < length places
 stood_within [] at kind is = absurd (none-some kind is)
 stood_within (place ∷ places) zero kind is = omega arith
 stood_within (place ∷ places) (suc at) kind is = omega (arith, stood_within places at kind is)
@@ -149,13 +149,13 @@ pub marked_taken : (places : List (Option ℕ)) (kinds : List ℕ) (at : ℕ) �
     → AreMarked (set places at None) kinds
 marked_taken places kinds at within marked = λ n other known is there. by n other known is there (cases_eq n at)
   where
-    by : (n other known : ℕ) → stood (set places at None) n ≡ Some other → slice_get kinds n ≡ Some known
+    by : (n other known : ℕ) → kind_at (set places at None) n ≡ Some other → slice_get kinds n ≡ Some known
         → (n ≡ at) ⊎ (n ≡ at → ⊥) → known ≡ other
     by n other known is there (inl same) =
         absurd (none-some other (sym (get_or-set_at places at n None None same within) ∙ is))
     by n other known is there (inr apart) = marked n other known (sym (get_or-set_other places at n None None apart) ∙ is) there
 
-stood_more : (places : List (Option ℕ)) (n kind : ℕ) → stood (places ++ None ∷ []) n ≡ Some kind → stood places n ≡ Some kind
+stood_more : (places : List (Option ℕ)) (n kind : ℕ) → kind_at (places ++ None ∷ []) n ≡ Some kind → kind_at places n ≡ Some kind
 stood_more [] zero kind bad = bad
 stood_more [] (suc n) kind bad = bad
 stood_more (place ∷ places) zero kind is = is
@@ -171,7 +171,7 @@ pub marked_pushed : (pushed : Bool) (places : List (Option ℕ)) (kinds : List �
 marked_pushed true places kinds marked = marked_grown places kinds marked
 marked_pushed false places kinds marked = marked
 
-stood_less : (places : List (Option ℕ)) (count n kind : ℕ) → stood (take count places) n ≡ Some kind → stood places n ≡ Some kind
+stood_less : (places : List (Option ℕ)) (count n kind : ℕ) → kind_at (take count places) n ≡ Some kind → kind_at places n ≡ Some kind
 stood_less [] zero n kind bad = bad
 stood_less [] (suc count) n kind bad = bad
 stood_less (place ∷ places) zero n kind bad = absurd (none-some kind bad)
@@ -199,10 +199,10 @@ false_unless true not = absurd (not refl)
 false_unless false not = refl
 
 pub not_wanted : (places : List (Option ℕ)) (kinds : List ℕ) (kind n : ℕ) → AreMarked places kinds → length places ≤ length kinds
-    → slice_get kinds n ≢ Some kind → is_wanted (Some kind) (stood places n) ≡ false
-not_wanted places kinds kind n marked all apart = false_unless (is_wanted (Some kind) (stood places n)) (λ want. by (stood places n) refl want)
+    → slice_get kinds n ≢ Some kind → is_wanted (Some kind) (kind_at places n) ≡ false
+not_wanted places kinds kind n marked all apart = false_unless (is_wanted (Some kind) (kind_at places n)) (λ want. by (kind_at places n) refl want)
   where
-    by : (o : Option ℕ) → stood places n ≡ o → is_wanted (Some kind) o ≡ true → ⊥
+    by : (o : Option ℕ) → kind_at places n ≡ o → is_wanted (Some kind) o ≡ true → ⊥
     by None is bad = let wrong : false ≡ true = bad in cc
     by (Some other) is want =
         let there = some_kind kinds n (omega (arith, all, stood_within places n other is)) in

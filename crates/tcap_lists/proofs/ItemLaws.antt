@@ -6,7 +6,7 @@ use Rattle.std.specs.Prelude.{IsSome}
 use Rattle.std.specs.List.{slice_get}
 use Rattle.tcap_lists.specs.declared.row.Row.{Row}
 use Rattle.tcap_lists.specs.Lists.{row_of}
-use Rattle.tcap_lists.specs.Row.{AreNumbered, is_wanted, items_in, kind_in, stood}
+use Rattle.tcap_lists.specs.Row.{AreNumbered, is_wanted, items_in, kind_at, kind_in}
 
 -- ---- kinds
 
@@ -50,7 +50,7 @@ pub items_length : {K : Type 0} (kinds : List K) (places : List (Option ℕ)) �
 items_length kinds [] = refl
 items_length kinds (place ∷ places) = ap suc (items_length kinds places)
 
-pub items_stood : {K : Type 0} (kinds : List K) (places : List (Option ℕ)) (at : ℕ) → get_or (items_in kinds places) at None ≡ kind_in kinds (stood places at)
+pub items_stood : {K : Type 0} (kinds : List K) (places : List (Option ℕ)) (at : ℕ) → get_or (items_in kinds places) at None ≡ kind_in kinds (kind_at places at)
 items_stood kinds places at = get_or-map (kind_in kinds) places at None
 
 -- One more kind changes no item.
@@ -66,22 +66,22 @@ items_more {K} kinds kind (place ∷ places) numbered =
 
 -- A place without an item is empty.
 pub none_stood : {K : Type 0} (kinds : List K) (places : List (Option ℕ)) (at : ℕ) → AreNumbered places (length kinds)
-    → get_or (items_in kinds places) at None ≡ None → stood places at ≡ None
-none_stood {K} kinds places at numbered none = by (stood places at) refl (sym (items_stood kinds places at) ∙ none)
+    → get_or (items_in kinds places) at None ≡ None → kind_at places at ≡ None
+none_stood {K} kinds places at numbered none = by (kind_at places at) refl (sym (items_stood kinds places at) ∙ none)
   where
     some_in : (kinds : List K) (n : ℕ) → n < length kinds → slice_get kinds n ≡ None → ⊥
     some_in [] n below e = omega (arith, below)
     some_in (kind ∷ kinds) zero below e = cc
     some_in (kind ∷ kinds) (suc n) below e = some_in kinds n (omega (arith, below)) e
 
-    by : (o : Option ℕ) → stood places at ≡ o → kind_in kinds o ≡ None → stood places at ≡ None
+    by : (o : Option ℕ) → kind_at places at ≡ o → kind_in kinds o ≡ None → kind_at places at ≡ None
     by None is e = is
     by (Some kind) is e = absurd (some_in kinds kind (numbered at kind is) e)
 
 -- A place with an item is not empty.
 pub some_stood : {K : Type 0} (kinds : List K) (places : List (Option ℕ)) (at : ℕ) → IsSome (get_or (items_in kinds places) at None)
-    → IsSome (stood places at)
-some_stood {K} kinds places at some = by (stood places at) (rw (items_stood kinds places at) at some)
+    → IsSome (kind_at places at)
+some_stood {K} kinds places at some = by (kind_at places at) (rw (items_stood kinds places at) at some)
   where
     by : (o : Option ℕ) → IsSome (kind_in kinds o) → IsSome o
     by None bad = bad

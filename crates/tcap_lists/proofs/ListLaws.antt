@@ -18,7 +18,7 @@ use Rattle.tcap_lists.specs.declared.lists.Lists.{Lists}
 use Rattle.tcap_lists.specs.declared.row.Row.{Row}
 use Rattle.tcap_lists.specs.Items.{Rises, listed, listed_by, with_listed, with_newest}
 use Rattle.tcap_lists.specs.Lists.{HasRow, items_of, keep, kind_of, row_in, row_of, rows_of, some_items}
-use Rattle.tcap_lists.specs.Row.{filled, fits_in, is_wanted, items_in, kind_in, place_of, stood}
+use Rattle.tcap_lists.specs.Row.{filled, fits_in, is_wanted, items_in, kind_at, kind_in, place_of}
 use Rattle.tcap_lists.proofs.KeepLaws.{Whole, given_back, insert_listed, list_in, listed_keep, lookup_above, lookup_keep, remove_keep, some_listed, whole_keep}
 use Rattle.tcap_lists.proofs.PlaceLaws.{none_at_all, oldest_fits}
 use Rattle.tcap_lists.proofs.MapLaws.{below_all, found_new, found_other, keys_eq, still_found}
@@ -142,15 +142,15 @@ module _ {K : Type 0} (id : ℤ) (es next : List (ℤ × Box (Row K))) (rises : 
       ≡ option_and_then (λ row. slice_get row.value.kinds.items number) (lookup (is_at (int_cmp other)) es)
   given_keeps_kinds keeps other number some = kinds_at some (keys_eq int_cmp_total int_cmp-IsAntisymmetric other id)
     where
-      kind_at : ℤ → List (ℤ × Box (Row K)) → Option K
-      kind_at q entries = option_and_then (λ row. slice_get row.value.kinds.items number) (lookup (is_at (int_cmp q)) entries)
+      kind_with : ℤ → List (ℤ × Box (Row K)) → Option K
+      kind_with q entries = option_and_then (λ row. slice_get row.value.kinds.items number) (lookup (is_at (int_cmp q)) entries)
 
-      kinds_at : IsSome (kind_at other es) → (other ≡ id) ⊎ (other ≢ id) → kind_at other next ≡ kind_at other es
+      kinds_at : IsSome (kind_with other es) → (other ≡ id) ⊎ (other ≢ id) → kind_with other next ≡ kind_with other es
       kinds_at some (inl e) = rw e (ap (option_and_then (λ row. slice_get row.value.kinds.items number)) found_here ∙ keeps number (rw e at some))
       kinds_at some (inr apart) = by (lookup (is_at (int_cmp other)) es) refl some
         where
           by : (o : Option (Box (Row K))) → lookup (is_at (int_cmp other)) es ≡ o
-              → IsSome (option_and_then (λ row. slice_get row.value.kinds.items number) o) → kind_at other next ≡ kind_at other es
+              → IsSome (option_and_then (λ row. slice_get row.value.kinds.items number) o) → kind_with other next ≡ kind_with other es
           by None e bad = let wrong : false ≡ true = bad in cc
           by (Some was) e some =
               ap (option_and_then (λ row. slice_get row.value.kinds.items number)) (found_there other was apart e ∙ sym e)
@@ -202,7 +202,7 @@ on_ok (Err _) p = tt
 pub oldest_there : {K : Type 0} (row : Row K) (found : Option (ℕ × Bor K))
     → MatchOption found (place_of (is_wanted None) row.places.items ≡ None)
     (λ first. (place_of (is_wanted None) row.places.items ≡ Some first.0)
-    × (kind_in row.kinds.items (stood row.places.items first.0) ≡ Some first.1.now))
+    × (kind_in row.kinds.items (kind_at row.places.items first.0) ≡ Some first.1.now))
     → is_some found ≡ is_some (place_of (fits_in (λ item. true)) (row_of row))
 oldest_there row None none = sym (ap is_some (none_at_all (λ item. true) row.kinds.items row.places.items none))
 oldest_there row (Some first) there =

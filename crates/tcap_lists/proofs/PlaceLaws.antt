@@ -5,7 +5,7 @@ use Rattle.std.proofs.lemmas.Bool.Decides.{nat_tests}
 use Rattle.std.proofs.lemmas.Option.{none-some, slice_get_past}
 use Rattle.std.specs.Prelude.{◌==◌, ◌&&◌, ◌||◌, cond, is_some, map, option_map}
 use Rattle.std.specs.List.{list_any, slice_get}
-use Rattle.tcap_lists.specs.Row.{earlier, filled, fits_in, is_wanted, items_in, kind_in, place_of, stood}
+use Rattle.tcap_lists.specs.Row.{earlier, filled, fits_in, is_wanted, items_in, kind_at, kind_in, place_of}
 
 pub place_map : {A B : Type 0} (fits : B → Bool) (f : A → B) (items : List A) → place_of fits (map f items) ≡ place_of (λ a. fits (f a)) items
 place_map fits f [] = refl
@@ -186,7 +186,7 @@ module _ {K : Type 0} (fits : K → Bool) (kinds : List K) (places : List (Optio
   none_at_all e = place_map (fits_in fits) (kind_in kinds) places
       ∙ none_more (is_wanted None) (λ place. fits_in fits (kind_in kinds place)) not_wanted places e
 
-  pub oldest_fits : (at : ℕ) (kind : K) → place_of (is_wanted None) places ≡ Some at → kind_in kinds (stood places at) ≡ Some kind
+  pub oldest_fits : (at : ℕ) (kind : K) → place_of (is_wanted None) places ≡ Some at → kind_in kinds (kind_at places at) ≡ Some kind
       → fits kind ≡ true → place_of (fits_in fits) (items_in kinds places) ≡ Some at
   oldest_fits at kind e is fit = place_map (fits_in fits) (kind_in kinds) places
       ∙ first_more (is_wanted None) (λ place. fits_in fits (kind_in kinds place)) not_wanted None places at refl e

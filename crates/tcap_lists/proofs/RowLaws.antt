@@ -7,7 +7,7 @@ use Rattle.std.proofs.lemmas.List.{get_or-set_other}
 use Rattle.std.proofs.lemmas.Option.{none-some}
 use Rattle.std.specs.Prelude.{◌==◌, ◌++◌, IsSome, cond, is_ok}
 use Rattle.smallvec.specs.SmallVec.{SmallVec}
-use Rattle.tcap_lists.specs.Row.{AreNumbered, AreOldest, IsOldest, is_wanted, place_of, stood}
+use Rattle.tcap_lists.specs.Row.{AreNumbered, AreOldest, IsOldest, is_wanted, kind_at, place_of}
 use Rattle.tcap_lists.proofs.ChainLaws.{pad_same}
 use Rattle.tcap_lists.proofs.PlaceLaws.{place_at, place_nowhere}
 
@@ -19,39 +19,39 @@ false_unless false not = refl
 
 -- The oldest wanted item is in that place.
 pub oldest_stands : (wanted : Option ℕ) (places : List (Option ℕ)) (at : ℕ) → IsOldest wanted places at
-    → is_wanted wanted (stood places at) ≡ true → place_of (is_wanted wanted) places ≡ Some at
+    → is_wanted wanted (kind_at places at) ≡ true → place_of (is_wanted wanted) places ≡ Some at
 oldest_stands wanted places at oldest here =
     place_at (is_wanted wanted) None places at refl
-    (λ n below. false_unless (is_wanted wanted (stood places n)) (λ yes. absurd (omega (arith, (oldest n yes).0, below)))) here
+    (λ n below. false_unless (is_wanted wanted (kind_at places n)) (λ yes. absurd (omega (arith, (oldest n yes).0, below)))) here
 
 -- There is no wanted item.
 pub none_stands : (wanted : Option ℕ) (places : List (Option ℕ)) (at : ℕ) → IsOldest wanted places at
-    → is_wanted wanted (stood places at) ≡ false → place_of (is_wanted wanted) places ≡ None
+    → is_wanted wanted (kind_at places at) ≡ false → place_of (is_wanted wanted) places ≡ None
 none_stands wanted places at oldest not =
     place_nowhere (is_wanted wanted) None places
-    (λ n. false_unless (is_wanted wanted (stood places n)) (λ yes. let bad : true ≡ false = sym (oldest n yes).1 ∙ not in cc))
+    (λ n. false_unless (is_wanted wanted (kind_at places n)) (λ yes. let bad : true ≡ false = sym (oldest n yes).1 ∙ not in cc))
 
 -- ---- one place changes
 
 -- The oldest stays the oldest if the same places are wanted.
 pub oldest_stays : (wanted : Option ℕ) (places other : List (Option ℕ)) (oldest : ℕ)
-    → ((n : ℕ) → is_wanted wanted (stood other n) ≡ is_wanted wanted (stood places n)) → IsOldest wanted places oldest
+    → ((n : ℕ) → is_wanted wanted (kind_at other n) ≡ is_wanted wanted (kind_at places n)) → IsOldest wanted places oldest
     → IsOldest wanted other oldest
 oldest_stays wanted places other oldest same was = λ n yes.
     let there = was n (sym (same n) ∙ yes) in (there.0, same oldest ∙ there.1)
 
 module _ (places : List (Option ℕ)) (at : ℕ) (new : Option ℕ) (within : at < length places) where
-  stood_here : (n : ℕ) → n ≡ at → stood (set places at new) n ≡ new
+  stood_here : (n : ℕ) → n ≡ at → kind_at (set places at new) n ≡ new
   stood_here n is = get_or-set_at places at n new None is within
 
-  stood_there : (n : ℕ) → n ≢ at → stood (set places at new) n ≡ stood places n
+  stood_there : (n : ℕ) → n ≢ at → kind_at (set places at new) n ≡ kind_at places n
   stood_there n apart = get_or-set_other places at n new None apart
 
-  wanted_same : (wanted : Option ℕ) → is_wanted wanted new ≡ is_wanted wanted (stood places at) → (n : ℕ)
-      → is_wanted wanted (stood (set places at new) n) ≡ is_wanted wanted (stood places n)
+  wanted_same : (wanted : Option ℕ) → is_wanted wanted new ≡ is_wanted wanted (kind_at places at) → (n : ℕ)
+      → is_wanted wanted (kind_at (set places at new) n) ≡ is_wanted wanted (kind_at places n)
   wanted_same wanted same n = by (cases_eq n at)
     where
-      by : (n ≡ at) ⊎ (n ≡ at → ⊥) → is_wanted wanted (stood (set places at new) n) ≡ is_wanted wanted (stood places n)
+      by : (n ≡ at) ⊎ (n ≡ at → ⊥) → is_wanted wanted (kind_at (set places at new) n) ≡ is_wanted wanted (kind_at places n)
       by (inl is) = rw (stood_here n is, is) same
       by (inr apart) = rw (stood_there n apart) refl
 
@@ -60,13 +60,13 @@ module _ (places : List (Option ℕ)) (at : ℕ) (new : Option ℕ) (within : at
       → AreNumbered (set places at new) count
   set_numbered count below numbered = λ n kind is. by n kind is (cases_eq n at)
     where
-      by : (n kind : ℕ) → stood (set places at new) n ≡ Some kind → (n ≡ at) ⊎ (n ≡ at → ⊥) → kind < count
+      by : (n kind : ℕ) → kind_at (set places at new) n ≡ Some kind → (n ≡ at) ⊎ (n ≡ at → ⊥) → kind < count
       by n kind is (inl here) = below kind (sym (stood_here n here) ∙ is)
       by n kind is (inr apart) = numbered n kind (sym (stood_there n apart) ∙ is)
 
   -- The oldest item of one kind changes, and no other kind changes.
   pub set_oldest : (oldest : List ℕ) (kind now : ℕ) → kind < length oldest
-      → ((other : ℕ) → other ≢ kind → is_wanted (Some other) new ≡ is_wanted (Some other) (stood places at))
+      → ((other : ℕ) → other ≢ kind → is_wanted (Some other) new ≡ is_wanted (Some other) (kind_at places at))
       → AreOldest places oldest → IsOldest (Some kind) (set places at new) now → AreOldest (set places at new) (set oldest kind now)
   set_oldest oldest kind now there same were is = λ other. by other (cases_eq other kind)
     where
@@ -91,15 +91,15 @@ set_behind (place ∷ places) first new n is = rw is (ap (λ more. place ∷ mor
 pub same_kind : (kind : ℕ) → (kind == kind) ≡ true
 same_kind kind = grind (arith, nat_tests)
 
-some_here : (places : List (Option ℕ)) (at kind : ℕ) → stood places at ≡ Some kind → at < length places
+some_here : (places : List (Option ℕ)) (at kind : ℕ) → kind_at places at ≡ Some kind → at < length places
 some_here [] at kind is = cc
 some_here (place ∷ places) zero kind is = omega arith
 some_here (place ∷ places) (suc at) kind is = omega (arith, some_here places at kind is)
 
-pub stands_within : (places : List (Option ℕ)) (at : ℕ) → IsSome (stood places at) → at < length places
-stands_within places at is = by (stood places at) refl is
+pub stands_within : (places : List (Option ℕ)) (at : ℕ) → IsSome (kind_at places at) → at < length places
+stands_within places at is = by (kind_at places at) refl is
   where
-    by : (o : Option ℕ) → stood places at ≡ o → IsSome o → at < length places
+    by : (o : Option ℕ) → kind_at places at ≡ o → IsSome o → at < length places
     by None e bad = absurd (let wrong : false ≡ true = bad in cc)
     by (Some kind) e some = some_here places at kind e
 
@@ -111,7 +111,7 @@ pub pushed_items : {T E A : Type 0} (pushed : Result T E) (was now : SmallVec A)
 pushed_items (Ok value) was now new joined same = joined
 pushed_items {A = A} (Err error) was now new joined same = ap (λ (v : SmallVec A). v.items) same
 
-stood_grown : (places : List (Option ℕ)) (n : ℕ) → stood (places ++ None ∷ []) n ≡ stood places n
+stood_grown : (places : List (Option ℕ)) (n : ℕ) → kind_at (places ++ None ∷ []) n ≡ kind_at places n
 stood_grown [] zero = refl
 stood_grown [] (suc n) = refl
 stood_grown (place ∷ places) zero = refl
@@ -138,14 +138,14 @@ pub long_enough : (pushed : Bool) (oldest : List ℕ) (count : ℕ) → count �
 long_enough true oldest count fits = omega (arith, fits, length-append oldest (0 ∷ []))
 long_enough false oldest count fits = fits
 
-stood_front : (places : List (Option ℕ)) (count n : ℕ) → n < count → stood (take count places) n ≡ stood places n
+stood_front : (places : List (Option ℕ)) (count n : ℕ) → n < count → kind_at (take count places) n ≡ kind_at places n
 stood_front [] zero n below = refl
 stood_front [] (suc count) n below = refl
 stood_front (place ∷ places) zero n below = absurd (omega (arith, below))
 stood_front (place ∷ places) (suc count) zero below = refl
 stood_front (place ∷ places) (suc count) (suc n) below = stood_front places count n (omega (arith, below))
 
-stood_gone : (places : List (Option ℕ)) (count n : ℕ) → count ≤ n → stood (take count places) n ≡ None
+stood_gone : (places : List (Option ℕ)) (count n : ℕ) → count ≤ n → kind_at (take count places) n ≡ None
 stood_gone [] zero n past = refl
 stood_gone [] (suc count) n past = refl
 stood_gone (place ∷ places) zero n past = refl
@@ -159,7 +159,7 @@ none_wanted (Some kind) = refl
 pub less_numbered : (places : List (Option ℕ)) (fewer count : ℕ) → AreNumbered places count → AreNumbered (take fewer places) count
 less_numbered places fewer count numbered = λ n kind is. by n kind is (cases_lt n fewer)
   where
-    by : (n kind : ℕ) → stood (take fewer places) n ≡ Some kind → (n < fewer) ⊎ (fewer ≤ n) → kind < count
+    by : (n kind : ℕ) → kind_at (take fewer places) n ≡ Some kind → (n < fewer) ⊎ (fewer ≤ n) → kind < count
     by n kind is (inl below) = numbered n kind (sym (stood_front places fewer n below) ∙ is)
     by n kind is (inr past) = absurd (none-some kind (sym (stood_gone places fewer n past) ∙ is))
 
@@ -167,12 +167,12 @@ pub less_oldest : (wanted : Option ℕ) (places : List (Option ℕ)) (fewer olde
     → IsOldest wanted (take fewer places) oldest
 less_oldest wanted places fewer oldest was = λ n want. by n want (cases_lt n fewer)
   where
-    by : (n : ℕ) → is_wanted wanted (stood (take fewer places) n) ≡ true → (n < fewer) ⊎ (fewer ≤ n)
-        → (oldest ≤ n) × (is_wanted wanted (stood (take fewer places) oldest) ≡ true)
+    by : (n : ℕ) → is_wanted wanted (kind_at (take fewer places) n) ≡ true → (n < fewer) ⊎ (fewer ≤ n)
+        → (oldest ≤ n) × (is_wanted wanted (kind_at (take fewer places) oldest) ≡ true)
     by n want (inl below) =
         let old = was n (ap (is_wanted wanted) (sym (stood_front places fewer n below)) ∙ want) in
         let front = old.0 in
         (old.0, ap (is_wanted wanted) (stood_front places fewer oldest (omega (arith, below, front))) ∙ old.1)
     by n want (inr past) =
-        let bad : is_wanted wanted (stood (take fewer places) n) ≡ false = ap (is_wanted wanted) (stood_gone places fewer n past) ∙ none_wanted wanted in
+        let bad : is_wanted wanted (kind_at (take fewer places) n) ≡ false = ap (is_wanted wanted) (stood_gone places fewer n past) ∙ none_wanted wanted in
         absurd (let wrong : true ≡ false = sym want ∙ bad in cc)

@@ -1,7 +1,7 @@
 pub mod Items
 pub mod CodeMap
 pub mod InlineList
-pub mod Room
+pub mod Storage
 pub mod Chains
 pub mod KindIndex
 pub mod Row

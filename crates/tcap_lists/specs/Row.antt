@@ -3,8 +3,8 @@ use Rattle.std.specs.Prelude.{◌≡◌, ℕ, suc, ◌≤◌, ◌<◌, Bool, tru
 use Rattle.std.specs.List.{slice_get}
 
 -- the kind number in a place, or None if the place is empty or beyond the end
-abbrev pub stood : List (Option ℕ) → ℕ → Option ℕ
-stood places at = slice_index_or places at None
+abbrev pub kind_at : List (Option ℕ) → ℕ → Option ℕ
+kind_at places at = slice_index_or places at None
 
 -- whether a place has an item, and of the wanted kind if one is given
 abbrev pub is_wanted : Option ℕ → Option ℕ → Bool
@@ -14,12 +14,12 @@ is_wanted (Some wanted) (Some kind) = kind == wanted
 
 -- Each item's kind number is less than `count`.
 abbrev pub AreNumbered : List (Option ℕ) → ℕ → Type 0
-AreNumbered places count = (at kind : ℕ) → stood places at ≡ Some kind → kind < count
+AreNumbered places count = (at kind : ℕ) → kind_at places at ≡ Some kind → kind < count
 
 -- If there is a wanted item, the oldest is in place `oldest`.
 abbrev pub IsOldest : Option ℕ → List (Option ℕ) → ℕ → Type 0
-IsOldest wanted places oldest = (at : ℕ) → is_wanted wanted (stood places at) ≡ true
-    → (oldest ≤ at) × (is_wanted wanted (stood places oldest) ≡ true)
+IsOldest wanted places oldest = (at : ℕ) → is_wanted wanted (kind_at places at) ≡ true
+    → (oldest ≤ at) × (is_wanted wanted (kind_at places oldest) ≡ true)
 
 -- Entry `kind` of the second list is the place of the oldest item of each kind that has one.
 abbrev pub AreOldest : List (Option ℕ) → List ℕ → Type 0

@@ -97,7 +97,7 @@ impl Chains {
     }
 
     /// Returns a later place, with no place of this kind between.
-    pub(crate) fn behind(&self, at: usize, kind: usize) -> usize
+    pub(crate) fn after(&self, at: usize, kind: usize) -> usize
         requires { at < vec_len self.now.marks }
         ensures later { at < result }
         ensures none { (n : ℕ) → at < n → n < result → slice_get (kinds_in self.now.marks.items) n ≢ Some kind }

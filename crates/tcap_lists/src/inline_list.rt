@@ -10,7 +10,7 @@ use std::marker::Model;
 
 /// The storage of the items.
 #[derive(Debug, Drop)]
-pub(crate) enum Room<T> {
+pub(crate) enum Storage<T> {
     /// At most one item, in place.
     Inside(Option<T>),
     /// All items, in a vector.
@@ -19,25 +19,25 @@ pub(crate) enum Room<T> {
 
 /// A list of items.
 #[derive(Debug, Drop)]
-pub(crate) struct InPlace<T> {
-    room: Room<T>,
+pub(crate) struct InlineList<T> {
+    storage: Storage<T>,
 }
 
-impl<T> Model for InPlace<T> {
+impl<T> Model for InlineList<T> {
     ghost use Rattle.tcap_lists.specs.InlineList.{Items, items_code};
-    ghost use Rattle.tcap_lists.specs.Room.{items_in};
+    ghost use Rattle.tcap_lists.specs.Storage.{items_in};
 
     ghost Value = { Items T };
 
     ghost coded = { items_code T.code };
 
-    ghost view = { λ a. items_in a.room };
+    ghost view = { λ a. items_in a.storage };
 }
 
-/// Creates an empty list with room for two items.
-fn with_room<T: Drop>(alloc: Global) -> Result<Vec<T>, AllocError>
+/// Creates an empty list with a capacity of two items.
+fn with_capacity_of_two<T: Drop>(alloc: Global) -> Result<Vec<T>, AllocError>
     ensures items { IfOk result (λ items. items.items ≡ []) }
-    ensures room { IfOk result (λ items. 2 ≤ vec_capacity items) }
+    ensures capacity { IfOk result (λ items. 2 ≤ vec_capacity items) }
 {
     let mut items = Vec::new(alloc);
     items.reserve(2)?;
@@ -47,7 +47,7 @@ fn with_room<T: Drop>(alloc: Global) -> Result<Vec<T>, AllocError>
 /// Moves the first item out of its place, and returns a list of both.
 fn both<T: Drop>(first: &mut Option<T>, second: T, mut items: Vec<T>) -> Vec<T>
     requires none { items.items ≡ [] }
-    requires room { 2 ≤ vec_capacity items }
+    requires capacity { 2 ≤ vec_capacity items }
     ensures { result.items ≡ option_to_list first.old ++ second ∷ [] }
 {
     if let Some(first) = first.take() {
@@ -57,13 +57,13 @@ fn both<T: Drop>(first: &mut Option<T>, second: T, mut items: Vec<T>) -> Vec<T>
     items
 }
 
-impl<T> InPlace<T> {
+impl<T> InlineList<T> {
     /// Creates an empty list.
-    pub(crate) fn new() -> InPlace<T>
+    pub(crate) fn new() -> InlineList<T>
         ensures { result.items ≡ [] }
     {
-        InPlace {
-            room: Room::Inside(None),
+        InlineList {
+            storage: Storage::Inside(None),
         }
     }
 
@@ -71,10 +71,10 @@ impl<T> InPlace<T> {
     pub(crate) fn len(&self) -> usize
         ensures { result ≡ length self.now.items }
     {
-        match &self.room {
-            Room::Inside(None) => 0,
-            Room::Inside(Some(_)) => 1,
-            Room::Outside(items) => items.len(),
+        match &self.storage {
+            Storage::Inside(None) => 0,
+            Storage::Inside(Some(_)) => 1,
+            Storage::Outside(items) => items.len(),
         }
     }
 
@@ -83,9 +83,9 @@ impl<T> InPlace<T> {
         requires { FitsInMemory T.row }
         ensures { result.now ≡ self.now.items }
     {
-        match &self.room {
-            Room::Inside(item) => item.as_slice(),
-            Room::Outside(items) => items.as_slice(),
+        match &self.storage {
+            Storage::Inside(item) => item.as_slice(),
+            Storage::Outside(items) => items.as_slice(),
         }
     }
 
@@ -93,10 +93,10 @@ impl<T> InPlace<T> {
     pub(crate) fn get(&self, number: usize) -> Option<&T>
         ensures { option_copied result ≡ slice_get self.now.items number }
     {
-        match &self.room {
-            Room::Inside(Some(item)) if number == 0 => Some(item),
-            Room::Inside(_) => None,
-            Room::Outside(items) => items.get(number),
+        match &self.storage {
+            Storage::Inside(Some(item)) if number == 0 => Some(item),
+            Storage::Inside(_) => None,
+            Storage::Outside(items) => items.get(number),
         }
     }
 
@@ -107,12 +107,12 @@ impl<T> InPlace<T> {
         ensures more { OnOk result (self.new.items ≡ self.old.items ++ item ∷ []) }
         ensures kept { OnErr result (self.new ≡ self.old) }
     {
-        match &mut self.room {
-            Room::Outside(items) => items.push(item)?,
-            Room::Inside(None) => self.room = Room::Inside(Some(item)),
-            Room::Inside(first) => {
-                let items = with_room(alloc)?;
-                self.room = Room::Outside(both(first, item, items));
+        match &mut self.storage {
+            Storage::Outside(items) => items.push(item)?,
+            Storage::Inside(None) => self.storage = Storage::Inside(Some(item)),
+            Storage::Inside(first) => {
+                let items = with_capacity_of_two(alloc)?;
+                self.storage = Storage::Outside(both(first, item, items));
             }
         }
         Ok(())

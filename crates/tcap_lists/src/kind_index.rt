@@ -2,11 +2,11 @@
 
 ghost use Rattle.std.specs.Prelude.{◌≡◌, ◌<◌, ℕ, List, [], Option, Some, IfSome, length, slice_get, slice_set};
 ghost use Rattle.tcap_lists.specs.Chains.{AreMarked, kinds_in};
-ghost use Rattle.tcap_lists.specs.Row.{stood};
+ghost use Rattle.tcap_lists.specs.Row.{kind_at};
 
 use crate::chains::Chains;
 use crate::kind_numbers::{KindNumbers, SORTS};
-use crate::place_search::stood;
+use crate::place_search::kind_at;
 use std::alloc::{AllocError, Global};
 use std::marker::Model;
 use tcap_parts::CodeView;
@@ -36,10 +36,10 @@ impl Model for KindIndex {
 }
 
 /// Returns the kind of the item in a place, or `kind` if the place is empty.
-fn kind_at(places: &[Option<usize>], at: usize, kind: usize) -> usize
-    ensures { (known : ℕ) → stood places.now at ≡ Some known → result ≡ known }
+fn kind_or(places: &[Option<usize>], at: usize, kind: usize) -> usize
+    ensures { (known : ℕ) → kind_at places.now at ≡ Some known → result ≡ known }
 {
-    match stood(places, at) {
+    match kind_at(places, at) {
         Some(known) => known,
         None => kind,
     }
@@ -49,7 +49,7 @@ fn kind_at(places: &[Option<usize>], at: usize, kind: usize) -> usize
 fn follow_one(places: &[Option<usize>], chains: &mut Chains, kind: usize) -> Result<(), AllocError>
     ensures { AreMarked places.now (kinds_in chains.old.marks.items) → AreMarked places.now (kinds_in chains.new.marks.items) }
 {
-    let known = kind_at(places, chains.len(), kind);
+    let known = kind_or(places, chains.len(), kind);
     chains.push(known)
 }
 

@@ -69,20 +69,20 @@ impl<K: Drop> Lists<K> {
     }
 
     /// Removes the newest place of an ID's row.
-    pub fn leave(&mut self, id: i8)
+    pub fn remove_newest(&mut self, id: i8)
         requires made { HasRow id self.old }
         ensures left { rows_of self.new ≡ one_less id (rows_of self.old) }
         ensures keeps { KeepsRows self.old self.new }
     {
         match self.rows.get_mut(&id) {
-            Some(row) => row.leave(),
+            Some(row) => row.remove_newest(),
             None => unreachable!(),
         }
     }
 
     /// Removes the item in a place of an ID's row, and returns the number of its kind.
     pub fn take(&mut self, id: i8, at: usize) -> usize
-        requires there { IsSome (slice_index_or (listed id (rows_of self.old)) at None) }
+        requires exists { IsSome (slice_index_or (listed id (rows_of self.old)) at None) }
         ensures kind { slice_index_or (listed id (rows_of self.old)) at None ≡ kind_of id result self.old }
         ensures taken { rows_of self.new ≡ with_place id at None (rows_of self.old) }
         ensures keeps { KeepsRows self.old self.new }
@@ -97,7 +97,7 @@ impl<K: Drop> Lists<K> {
     pub fn put_back(&mut self, id: i8, at: usize, kind: usize)
         requires within { at < length (listed id (rows_of self.old)) }
         requires empty { slice_index_or (listed id (rows_of self.old)) at None ≡ None }
-        requires there { IsSome (kind_of id kind self.old) }
+        requires exists { IsSome (kind_of id kind self.old) }
         ensures put { rows_of self.new ≡ with_place id at (kind_of id kind self.old) (rows_of self.old) }
         ensures keeps { KeepsRows self.old self.new }
     {
@@ -108,7 +108,7 @@ impl<K: Drop> Lists<K> {
     }
 
     /// Drops the places of an ID's row, if they are many and all empty.
-    pub fn settle(&mut self, id: i8)
+    pub fn drop_empty_places(&mut self, id: i8)
         ensures { items_of (rows_of self.new) ≡ items_of (rows_of self.old) }
     {
         if let Some(row) = self.rows.get_mut(&id) {

@@ -3,13 +3,13 @@
 ghost use Rattle.std.specs.Prelude.{◌≡◌, ◌<◌, ◌≤◌, ℕ, List, Option, Some, None, true, false, slice_index_or, slice_set, length, vec_len};
 ghost use Rattle.smallvec.specs.SmallVec.{small_vec_len};
 ghost use Rattle.tcap_lists.specs.Chains.{AreMarked, kinds_in};
-ghost use Rattle.tcap_lists.specs.Row.{AreNumbered, AreOldest, IsOldest, is_wanted, stood};
+ghost use Rattle.tcap_lists.specs.Row.{AreNumbered, AreOldest, IsOldest, is_wanted, kind_at};
 
 use crate::chains::Chains;
-use crate::inline_list::InPlace;
+use crate::inline_list::InlineList;
 use crate::kind_index::KindIndex;
 use crate::kind_numbers::SORTS;
-use crate::place_search::{is_wanted, oldest_before, oldest_behind, stood};
+use crate::place_search::{is_wanted, kind_at, oldest_after, oldest_before};
 use smallvec::SmallVec;
 use std::alloc::{AllocError, Global};
 use std::cell::Cell;
@@ -31,7 +31,7 @@ const SPENT_FROM: usize = 16;
 /// by place if kinds are few, else only in the places of the kind.
 #[derive(Debug, Drop)]
 pub struct Row<K> {
-    kinds: InPlace<K>,
+    kinds: InlineList<K>,
     /// The kind number of the item in each place.
     places: SmallVec<Option<usize>, 2>,
     /// The place of the oldest item of each kind, if there is one.
@@ -54,7 +54,7 @@ fn end_of(places: &[Option<usize>], chains: &Chains, kind: usize) -> usize
     requires marked { AreMarked places.now (kinds_in chains.now.marks.items) }
     requires all { length places.now ≤ vec_len chains.now.marks }
     ensures within { result ≤ length places.now }
-    ensures none { (at : ℕ) → result ≤ at → is_wanted (Some kind) (stood places.now at) ≡ false }
+    ensures none { (at : ℕ) → result ≤ at → is_wanted (Some kind) (kind_at places.now at) ≡ false }
 {
     let end = chains.end_of(kind);
     if end < places.len() {
@@ -68,10 +68,10 @@ fn end_of(places: &[Option<usize>], chains: &Chains, kind: usize) -> usize
 fn next_of_kind(places: &[Option<usize>], chains: &Chains, kind: usize, from: usize) -> usize
     requires marked { AreMarked places.now (kinds_in chains.now.marks.items) }
     requires all { length places.now ≤ vec_len chains.now.marks }
-    ensures behind { from ≤ result }
-    ensures none { (at : ℕ) → from ≤ at → at < result → is_wanted (Some kind) (stood places.now at) ≡ false }
-    ensures there { (at : ℕ) → result ≤ at → is_wanted (Some kind) (stood places.now at) ≡ true
-        → is_wanted (Some kind) (stood places.now result) ≡ true }
+    ensures after { from ≤ result }
+    ensures none { (at : ℕ) → from ≤ at → at < result → is_wanted (Some kind) (kind_at places.now at) ≡ false }
+    ensures there { (at : ℕ) → result ≤ at → is_wanted (Some kind) (kind_at places.now at) ≡ true
+        → is_wanted (Some kind) (kind_at places.now result) ≡ true }
 {
     let end = end_of(places, chains, kind);
     let mut at = from;
@@ -79,7 +79,7 @@ fn next_of_kind(places: &[Option<usize>], chains: &Chains, kind: usize, from: us
         if is_wanted(places[at], Some(kind)) {
             return at;
         }
-        at = chains.behind(at, kind);
+        at = chains.after(at, kind);
     }
     at
 }
@@ -100,7 +100,7 @@ fn oldest_in_chain(
     if oldest == at && places.len() <= chains.len() {
         next_of_kind(places, chains, kind, at)
     } else {
-        oldest_behind(places, Some(kind), oldest, at)
+        oldest_after(places, Some(kind), oldest, at)
     }
 }
 
@@ -119,7 +119,7 @@ fn oldest_of_kind(
 {
     match index.chains() {
         Some(chains) => oldest_in_chain(places, chains, kind, oldest, at),
-        None => oldest_behind(places, Some(kind), oldest, at),
+        None => oldest_after(places, Some(kind), oldest, at),
     }
 }
 
@@ -163,7 +163,7 @@ impl<K> Row<K> {
     };
     ghost use Rattle.std.specs.List.{slice_get};
     ghost use Rattle.std.specs.Mem.{FitsInMemory};
-    ghost use Rattle.tcap_lists.specs.Row.{is_wanted, kind_in, place_of, stood};
+    ghost use Rattle.tcap_lists.specs.Row.{is_wanted, kind_at, kind_in, place_of};
     ghost use Rattle.tcap_lists.specs.Lists.{KeepsKinds, row_kinds, row_of, row_places};
 
     /// Creates a row without places.
@@ -171,7 +171,7 @@ impl<K> Row<K> {
         ensures { row_of result ≡ [] }
     {
         Row {
-            kinds: InPlace::new(),
+            kinds: InlineList::new(),
             places: SmallVec::new(alloc),
             oldest: SmallVec::new(alloc),
             first: 0,
@@ -224,7 +224,7 @@ impl<K> Row<K> {
         ensures { result ≡ place_of (is_wanted (Some kind)) (row_places self.now) }
     {
         let at = place_of_kind(self.oldest.as_slice(), kind);
-        if is_wanted(stood(self.places.as_slice(), at), Some(kind)) {
+        if is_wanted(kind_at(self.places.as_slice(), at), Some(kind)) {
             Some(at)
         } else {
             None
@@ -233,9 +233,9 @@ impl<K> Row<K> {
 
     /// Returns the kind of the item in a place, or `None` if the place is empty.
     pub fn item(&self, at: usize) -> Option<&K>
-        ensures { option_copied result ≡ kind_in (row_kinds self.now) (stood (row_places self.now) at) }
+        ensures { option_copied result ≡ kind_in (row_kinds self.now) (kind_at (row_places self.now) at) }
     {
-        let kind = stood(self.places.as_slice(), at)?;
+        let kind = kind_at(self.places.as_slice(), at)?;
         self.kinds.get(kind)
     }
 
@@ -243,7 +243,7 @@ impl<K> Row<K> {
     pub fn oldest(&self) -> Option<(usize, &K)>
         ensures { MatchOption result (place_of (is_wanted None) (row_places self.now) ≡ None)
             (λ first. (place_of (is_wanted None) (row_places self.now) ≡ Some first.0)
-            × (kind_in (row_kinds self.now) (stood (row_places self.now) first.0) ≡ Some first.1.now)) }
+            × (kind_in (row_kinds self.now) (kind_at (row_places self.now) first.0) ≡ Some first.1.now)) }
     {
         let kind = self.item(self.first)?;
         Some((self.first, kind))
@@ -251,7 +251,7 @@ impl<K> Row<K> {
 
     /// Returns a place before which all places are empty.
     pub fn front(&self) -> usize
-        ensures { (at : ℕ) → at < result → stood (row_places self.now) at ≡ None }
+        ensures { (at : ℕ) → at < result → kind_at (row_places self.now) at ≡ None }
     {
         self.first
     }
@@ -310,8 +310,8 @@ impl<K> Row<K> {
     /// Puts an item of a kind into an empty place.
     pub(crate) fn put_back(&mut self, at: usize, kind: usize)
         requires within { at < small_vec_len self.old.places }
-        requires empty { stood self.old.places.items at ≡ None }
-        requires there { kind < length self.old.kinds.items }
+        requires empty { kind_at self.old.places.items at ≡ None }
+        requires exists { kind < length self.old.kinds.items }
         ensures put { self.new.places.items ≡ slice_set self.old.places.items at (Some kind) }
         ensures kinds { self.new.kinds ≡ self.old.kinds }
     {
@@ -379,7 +379,7 @@ impl<K> Row<K> {
     }
 
     /// Removes the newest place.
-    pub(crate) fn leave(&mut self)
+    pub(crate) fn remove_newest(&mut self)
         ensures left { self.new.places.items ≡ take (length self.old.places.items - 1) self.old.places.items }
         ensures kinds { self.new.kinds ≡ self.old.kinds }
     {
@@ -389,19 +389,19 @@ impl<K> Row<K> {
 
     /// Removes the item in a place, and returns the number of its kind.
     pub(crate) fn take(&mut self, at: usize) -> usize
-        requires { IsSome (stood self.old.places.items at) }
-        ensures kind { stood self.old.places.items at ≡ Some result }
+        requires { IsSome (kind_at self.old.places.items at) }
+        ensures kind { kind_at self.old.places.items at ≡ Some result }
         ensures taken { self.new.places.items ≡ slice_set self.old.places.items at None }
         ensures kinds { self.new.kinds ≡ self.old.kinds }
     {
-        let Some(kind) = stood(self.places.as_slice(), at) else {
+        let Some(kind) = kind_at(self.places.as_slice(), at) else {
             unreachable!()
         };
         put(&mut self.places, at, None);
         let oldest = place_of_kind(self.oldest.as_slice(), kind);
         let oldest = oldest_of_kind(self.places.as_slice(), &self.index, kind, oldest, at);
         put(&mut self.oldest, kind, oldest);
-        self.first = oldest_behind(self.places.as_slice(), None, self.first, at);
+        self.first = oldest_after(self.places.as_slice(), None, self.first, at);
         kind
     }
 }

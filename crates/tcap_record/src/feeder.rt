@@ -121,12 +121,12 @@ fn keep_rest(
     if !keep_front(alloc, frames, waiting)? {
         return Ok(None);
     }
-    let mut behind = frames.behind_front(alloc);
-    let kept = keep_all(alloc, &mut behind, piece, waiting);
+    let mut later = frames.after_front(alloc);
+    let kept = keep_all(alloc, &mut later, piece, waiting);
     if ran_out(kept) {
         return Err(AllocError);
     }
-    Ok(Some((behind, kept)))
+    Ok(Some((later, kept)))
 }
 
 impl Feeder {

@@ -357,7 +357,7 @@ impl Frames {
     }
 
     /// Returns an empty framer that begins after the entry at the front.
-    pub(crate) fn behind_front(&self, alloc: Global) -> Frames
+    pub(crate) fn after_front(&self, alloc: Global) -> Frames
         requires sound { self.now.fault ≡ None }
         requires whole { IsWhole self.now.octets }
         ensures { result ≡ dropped self.now }

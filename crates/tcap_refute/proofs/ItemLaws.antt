@@ -16,7 +16,7 @@ use Rattle.tcap_refute.specs.declared.notes.Notes.{Notes}
 use Rattle.tcap_refute.specs.EarlierMessages.{message_of, sent_by, since_quiet}
 use Rattle.tcap_refute.specs.Facts.{EndFact, shows_end, fact_since_mark}
 use Rattle.tcap_refute.specs.KeptFacts.{AreNotesOf, fact_by_notes}
-use Rattle.tcap_refute.specs.Kind.{lowest_kind, refuted, refuted_behind}
+use Rattle.tcap_refute.specs.Kind.{lowest_kind, refuted, refuted_after}
 use Rattle.tcap_refute.specs.EntryConclusion.{Judges}
 use Rattle.tcap_refute.proofs.TestLaws.{or_none}
 
@@ -105,4 +105,4 @@ marked table items new told = (refl, noted_mark table items new told)
 pub record Searches (table : Table) (entries : List Entry) (number : ℕ) (notes : Notes) : Type 0 where
   pub items : List Item
   pub noted : AreNotesOf table items notes
-  pub left : refuted_behind table items number (map item_of (drop number entries)) ≡ refuted table (map item_of entries)
+  pub left : refuted_after table items number (map item_of (drop number entries)) ≡ refuted table (map item_of entries)

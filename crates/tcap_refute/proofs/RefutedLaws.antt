@@ -18,7 +18,7 @@ use Rattle.tcap_refute.specs.declared.kind.Kind.{Kind}
 use Rattle.tcap_refute.specs.declared.kind.Kind.TheVariants as kinds
 use Rattle.tcap_refute.specs.declared.kind.Refutation.{Refutation}
 use Rattle.tcap_refute.specs.EarlierMessages.{since_quiet}
-use Rattle.tcap_refute.specs.Kind.{is_limit, is_of_kind, kind_of_reason, refutation_at, refuted, refuted_behind, refuting_kinds}
+use Rattle.tcap_refute.specs.Kind.{is_limit, is_of_kind, kind_of_reason, refutation_at, refuted, refuted_after, refuting_kinds}
 use Rattle.tcap_refute.specs.Unsendable.{IsAtFault, IsBadByKind}
 use Rattle.tcap_refute.proofs.KindLaws.{none_of_kind}
 
@@ -56,7 +56,7 @@ bad_reason reason kind is = cc
 
 -- If none of these items has a kind, the refuted entry after them is at fault.
 at_fault_behind : (table : Table) (before : List Item) (more : List (Result Item Reason)) (r : Refutation)
-    → refuted_behind table before (length before) more ≡ Some r → IsAtFault table (oks before ++ more) r
+    → refuted_after table before (length before) more ≡ Some r → IsAtFault table (oks before ++ more) r
 at_fault_behind table before [] r is = cc
 at_fault_behind table before (Err reason ∷ more) r is = by (kind_of_reason reason) refl is
   where
@@ -87,10 +87,10 @@ at_fault_behind table before (Ok (Sent side message) ∷ more) r is =
     is
   where
     by : (o : Option Kind) → find (is_of_kind table side (since_quiet before) message) refuting_kinds ≡ o
-        → (refuted_behind table (before ++ Sent side message ∷ []) (length before + 1) more ≡ Some r
+        → (refuted_after table (before ++ Sent side message ∷ []) (length before + 1) more ≡ Some r
         → IsAtFault table (oks before ++ Ok (Sent side message) ∷ more) r)
         → option_or (refutation_at (length before) o)
-        (refuted_behind table (before ++ Sent side message ∷ []) (length before + 1) more)
+        (refuted_after table (before ++ Sent side message ∷ []) (length before + 1) more)
         ≡ Some r
         → IsAtFault table (oks before ++ Ok (Sent side message) ∷ more) r
     by None named on is = on is

@@ -241,13 +241,13 @@ refutation_at entry kind = option_map (λ k. record { entry = entry; kind = k })
 
 -- The first of these entries that has a kind, with its lowest kind. `entry` is the count of the `items` before them,
 -- which have no kind. Nothing after the first entry that is no item is looked at.
-abbrev pub refuted_behind : Table → List Item → ℕ → List (Result Item Reason) → Option Refutation
-refuted_behind table items entry [] = None
-refuted_behind table items entry (Err reason ∷ more) = refutation_at entry (kind_of_reason reason)
-refuted_behind table items entry (Ok item ∷ more) =
+abbrev pub refuted_after : Table → List Item → ℕ → List (Result Item Reason) → Option Refutation
+refuted_after table items entry [] = None
+refuted_after table items entry (Err reason ∷ more) = refutation_at entry (kind_of_reason reason)
+refuted_after table items entry (Ok item ∷ more) =
     option_or (refutation_at entry (lowest_kind table items item))
-    (refuted_behind table (items ++ item ∷ []) (entry + 1) more)
+    (refuted_after table (items ++ item ∷ []) (entry + 1) more)
 
 -- The first entry of a record that has a kind, with its lowest kind.
 abbrev pub refuted : Table → List (Result Item Reason) → Option Refutation
-refuted table entries = refuted_behind table [] 0 entries
+refuted table entries = refuted_after table [] 0 entries

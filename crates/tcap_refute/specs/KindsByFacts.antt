@@ -144,33 +144,33 @@ dialogue_is_misplaced is_asked _ dialogue = is_misplaced_in_continue is_asked di
 
 -- ---- the lowest kind of a message that an end sends
 
--- The lowest of F2 to F4. `own` has the facts about the originating ID, and `peers` those about the destination ID;
+-- The lowest of F2 to F4. `own` has the facts about the originating ID, and `from_peer` those about the destination ID;
 -- `ended` is whether the end ended this dialogue before.
 abbrev pub kind_of_ids : (FromFact → Bool) → (FromFact → Bool) → Bool → Message → Option Kind
-kind_of_ids own peers ended message =
-    cond (transaction_is_unknown peers message) (Some kinds.UnknownTransaction)
+kind_of_ids own from_peer ended message =
+    cond (transaction_is_unknown from_peer message) (Some kinds.UnknownTransaction)
     (cond (id_is_reused own (dtid_in message) (kind_in message)) (Some kinds.ReusedId)
     (cond (comes_after_end ended (cause_in message)) (Some kinds.AfterEnd) None))
 
 -- The lowest of F5 to F7, from the facts about the destination ID.
 abbrev pub kind_of_parts : Bool → Table → (FromFact → Bool) → Message → Option Kind
-kind_of_parts of_one table peers message =
-    cond (is_some (component_by of_one table peers message kinds.AnswersNothing)) (Some kinds.AnswersNothing)
-    (cond (is_some (component_by of_one table peers message kinds.WrongOperation)) (Some kinds.WrongOperation)
-    (cond (dialogue_is_misplaced (peers Asked) (kind_in message) (dialogue_in message)) (Some kinds.MisplacedDialogue)
-    None))
+kind_of_parts of_one table from_peer message =
+    cond (is_some (component_by of_one table from_peer message kinds.AnswersNothing)) (Some kinds.AnswersNothing)
+    (cond (is_some (component_by of_one table from_peer message kinds.WrongOperation)) (Some kinds.WrongOperation)
+    (cond (dialogue_is_misplaced (from_peer Asked) (kind_in message) (dialogue_in message))
+    (Some kinds.MisplacedDialogue) None))
 
 -- The lowest of F2 to F7. `of_one` is whether one end alone is judged (`FirstKinds`).
 abbrev pub kind_by : Bool → Table → (FromFact → Bool) → (FromFact → Bool) → Bool → Message → Option Kind
-kind_by of_one table own peers ended message =
-    option_or (kind_of_ids own peers ended message) (kind_of_parts of_one table peers message)
+kind_by of_one table own from_peer ended message =
+    option_or (kind_of_ids own from_peer ended message) (kind_of_parts of_one table from_peer message)
 
 -- The notes agree with the list: each fact about the message's IDs holds by them exactly if it holds in these items
 -- since the last quiet mark.
-pub record AreOfIds (table : Table) (items : List Item) (side : Side) (message : Message) (own peers : Option FromId)
-    (ended : Bool) : Type 0 where
+pub record AreOfIds (table : Table) (items : List Item) (side : Side) (message : Message)
+    (own from_peer : Option FromId) (ended : Bool) : Type 0 where
   pub from_own : (fact : FromFact) → fact_by_from own fact
       ≡ fact_from (fact_since_mark table items side) (otid_in message) fact
   pub from_peers : (fact : FromFact)
-      → fact_by_from peers fact ≡ fact_from (fact_since_mark table items (other side)) (dtid_in message) fact
+      → fact_by_from from_peer fact ≡ fact_from (fact_since_mark table items (other side)) (dtid_in message) fact
   pub has_ended : ended ≡ fact_ended (fact_since_mark table items side) (dtid_in message)

@@ -41,39 +41,40 @@ pub fn kind_of_reason(reason: Reason) -> Option<Kind>
 /// The kinds are those of `refute`, with one exception: a Reject with general problem 1 or 2 may reject what the peer
 /// sent with its invoke ID.
 ///
-/// `own` has what the end sent from the originating ID, and `peers` what the peer sent from the destination ID, if
+/// `own` has what the end sent from the originating ID, and `from_peer` what the peer sent from the destination ID, if
 /// anything is kept of these. `has_ended` is whether the end sent an End, or an Abort without cause, to the
 /// destination ID. Each component takes a few look-ups.
 pub fn first_kind<M: MessageParts>(
     table: &Table,
     own: Option<&FromId>,
-    peers: Option<&FromId>,
+    from_peer: Option<&FromId>,
     has_ended: bool,
     message: &M,
 ) -> Option<Kind>
     ensures { (side : Side) (items : List Item)
-        → AreOfIds table.now items side (M.meaning message.now) (option_copied own.entry) (option_copied peers.entry) has_ended
+        → AreOfIds table.now items side (M.meaning message.now) (option_copied own.entry)
+        (option_copied from_peer.entry) has_ended
         → result ≡ find (is_of_first_kind table.now side (since_quiet items) (M.meaning message.now)) first_kinds }
 {
-    kind_by(true, table, own, peers, has_ended, message)
+    kind_by(true, table, own, from_peer, has_ended, message)
 }
 
 /// Returns the number, from 0, of the first component with this kind, F5 or F6 (Q.774 3.2, Q.771 3.1).
 ///
 /// Returns `None` if no component has the kind, or if the kind is another. If `of_one` holds, one end alone is
-/// judged, as by `first_kind`; else both are, as by `refute`. `peers` has what the peer sent from the destination ID,
-/// if anything is kept of it. Each component takes a few look-ups.
+/// judged, as by `first_kind`; else both are, as by `refute`. `from_peer` has what the peer sent from the destination
+/// ID, if anything is kept of it. Each component takes a few look-ups.
 pub fn faulty_component<M: MessageParts>(
     of_one: bool,
     table: &Table,
-    peers: Option<&FromId>,
+    from_peer: Option<&FromId>,
     message: &M,
     kind: Kind,
 ) -> Option<u64>
     ensures { (side : Side) (items : List Item)
-        → ((fact : FromFact) → fact_by_from (option_copied peers.entry) fact
+        → ((fact : FromFact) → fact_by_from (option_copied from_peer.entry) fact
         ≡ fact_from (fact_since_mark table.now items (other side)) (dtid_in (M.meaning message.now)) fact)
         → result ≡ first_component of_one table.now side (since_quiet items) (M.meaning message.now) kind }
 {
-    component_of(of_one, table, peers, message, kind)
+    component_of(of_one, table, from_peer, message, kind)
 }

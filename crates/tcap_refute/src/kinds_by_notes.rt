@@ -16,31 +16,31 @@ use tcap_end::{Table, is_request};
 use tcap_msg::{Kind as Form, MessageParts, TransactionIdView};
 
 /// Returns whether a Begin was sent from the ID.
-fn begun(from: Option<&FromId>) -> bool
+fn has_begun(from: Option<&FromId>) -> bool
     ensures { result ≡ fact_by_from (option_copied from.entry) Begun }
 {
     matches!(from, Some(kept) if kept.begun)
 }
 
 /// Returns whether a Begin with a dialogue request was sent from the ID.
-fn asked(from: Option<&FromId>) -> bool
+fn has_asked(from: Option<&FromId>) -> bool
     ensures { result ≡ fact_by_from (option_copied from.entry) Asked }
 {
     matches!(from, Some(kept) if kept.asked)
 }
 
 /// Returns whether a Continue was sent from the ID.
-fn continued(from: Option<&FromId>) -> bool
+fn has_continued(from: Option<&FromId>) -> bool
     ensures { result ≡ fact_by_from (option_copied from.entry) WentOn }
 {
     matches!(from, Some(kept) if kept.continued)
 }
 
 /// Returns whether a message was sent from the ID.
-fn spoke(from: Option<&FromId>) -> bool
+fn has_sent(from: Option<&FromId>) -> bool
     ensures { result ≡ fact_by_from (option_copied from.entry) Spoke }
 {
-    begun(from) || continued(from)
+    has_begun(from) || has_continued(from)
 }
 
 /// Returns whether a Continue was sent from the ID to another ID than `dtid`.
@@ -58,8 +58,8 @@ fn cause_is_unfounded(from: Option<&FromId>, cause: SmallView) -> bool
     ensures { result ≡ cause_is_unfounded (fact_by_from (option_copied from.entry)) cause.number }
 {
     match cause.number {
-        1 => !continued(from),
-        4 => !begun(from),
+        1 => !has_continued(from),
+        4 => !has_begun(from),
         _ => true,
     }
 }
@@ -69,8 +69,8 @@ fn was_not_asked(from: Option<&FromId>, cause: Option<SmallView>) -> bool
     ensures { result ≡ was_not_asked (fact_by_from (option_copied from.entry)) (cause_of cause) }
 {
     match cause {
-        None => !spoke(from),
-        Some(cause) => !spoke(from) || cause_is_unfounded(from, cause),
+        None => !has_sent(from),
+        Some(cause) => !has_sent(from) || cause_is_unfounded(from, cause),
     }
 }
 
@@ -87,7 +87,7 @@ fn id_is_reused<M: MessageParts>(from: Option<&FromId>, message: &M) -> bool
         (dtid_in (M.meaning message.now)) (kind_in (M.meaning message.now)) }
 {
     match (message.kind(), message.dtid()) {
-        (Form::Begin, _) => spoke(from),
+        (Form::Begin, _) => has_sent(from),
         (Form::Continue, Some(dtid)) => went_elsewhere(from, dtid),
         _ => false,
     }
@@ -102,8 +102,8 @@ fn dialogue_is_misplaced<M: MessageParts>(from: Option<&FromId>, message: &M) ->
     match message.kind() {
         Form::Unidirectional => dialogue.is_some() && !is_uni(dialogue),
         Form::Begin => dialogue.is_some() && !is_request(dialogue),
-        Form::Abort => is_misplaced_in_abort(asked(from), dialogue),
-        _ => is_misplaced_in_continue(asked(from), dialogue),
+        Form::Abort => is_misplaced_in_abort(has_asked(from), dialogue),
+        _ => is_misplaced_in_continue(has_asked(from), dialogue),
     }
 }
 
@@ -119,18 +119,18 @@ fn comes_after_end<M: MessageParts>(has_ended: bool, message: &M) -> bool
 
 /// Returns the lowest of F2 to F4 that the message has.
 ///
-/// `own` has what its end sent from the originating ID, and `peers` what the peer sent from the destination ID.
+/// `own` has what its end sent from the originating ID, and `from_peer` what the peer sent from the destination ID.
 fn kind_of_ids<M: MessageParts>(
     own: Option<&FromId>,
-    peers: Option<&FromId>,
+    from_peer: Option<&FromId>,
     has_ended: bool,
     message: &M,
 ) -> Option<Kind>
     ensures { result ≡ kind_of_ids (fact_by_from (option_copied own.entry))
-        (fact_by_from (option_copied peers.entry)) has_ended
+        (fact_by_from (option_copied from_peer.entry)) has_ended
         (M.meaning message.now) }
 {
-    if transaction_is_unknown(peers, message) {
+    if transaction_is_unknown(from_peer, message) {
         Some(Kind::UnknownTransaction)
     } else if id_is_reused(own, message) {
         Some(Kind::ReusedId)
@@ -141,21 +141,21 @@ fn kind_of_ids<M: MessageParts>(
     }
 }
 
-/// Returns the lowest of F5 to F7 that the message has. `peers` has what the peer sent from the destination ID.
+/// Returns the lowest of F5 to F7 that the message has. `from_peer` has what the peer sent from the destination ID.
 fn kind_of_parts<M: MessageParts>(
     of_one: bool,
     table: &Table,
-    peers: Option<&FromId>,
+    from_peer: Option<&FromId>,
     message: &M,
 ) -> Option<Kind>
-    ensures { result ≡ kind_of_parts of_one table.now (fact_by_from (option_copied peers.entry))
+    ensures { result ≡ kind_of_parts of_one table.now (fact_by_from (option_copied from_peer.entry))
         (M.meaning message.now) }
 {
-    if component_of(of_one, table, peers, message, Kind::AnswersNothing).is_some() {
+    if component_of(of_one, table, from_peer, message, Kind::AnswersNothing).is_some() {
         Some(Kind::AnswersNothing)
-    } else if component_of(of_one, table, peers, message, Kind::WrongOperation).is_some() {
+    } else if component_of(of_one, table, from_peer, message, Kind::WrongOperation).is_some() {
         Some(Kind::WrongOperation)
-    } else if dialogue_is_misplaced(peers, message) {
+    } else if dialogue_is_misplaced(from_peer, message) {
         Some(Kind::MisplacedDialogue)
     } else {
         None
@@ -164,22 +164,22 @@ fn kind_of_parts<M: MessageParts>(
 
 /// Returns the lowest of F2 to F7 that the message has.
 ///
-/// `own` has what its end sent from the originating ID, and `peers` what the peer sent from the destination ID.
+/// `own` has what its end sent from the originating ID, and `from_peer` what the peer sent from the destination ID.
 /// `has_ended` is whether its end ended this dialogue before, and `of_one` whether that end alone is judged.
 pub(crate) fn kind_by<M: MessageParts>(
     of_one: bool,
     table: &Table,
     own: Option<&FromId>,
-    peers: Option<&FromId>,
+    from_peer: Option<&FromId>,
     has_ended: bool,
     message: &M,
 ) -> Option<Kind>
     ensures { result ≡ kind_by of_one table.now (fact_by_from (option_copied own.entry))
-        (fact_by_from (option_copied peers.entry))
+        (fact_by_from (option_copied from_peer.entry))
         has_ended (M.meaning message.now) }
 {
-    match kind_of_ids(own, peers, has_ended, message) {
+    match kind_of_ids(own, from_peer, has_ended, message) {
         Some(kind) => Some(kind),
-        None => kind_of_parts(of_one, table, peers, message),
+        None => kind_of_parts(of_one, table, from_peer, message),
     }
 }

@@ -181,9 +181,9 @@ impl Notes {
     {
         let sender = self.at(side);
         let own = sender.from(message.otid());
-        let peers = self.at(side.other()).from(message.dtid());
+        let from_peer = self.at(side.other()).from(message.dtid());
         let has_ended = sender.has_ended(message.dtid());
-        kind_by(false, table, own, peers, has_ended, message)
+        kind_by(false, table, own, from_peer, has_ended, message)
     }
 
     /// Notes a message that this end sent. Fails if memory runs out.

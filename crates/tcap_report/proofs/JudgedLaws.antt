@@ -71,7 +71,7 @@ first_of d n has = from 0 n (omega arith) (λ i is. omega arith)
 module _ (options : TraceOptions) (s : State) (done waiting : List Course) (names : IdOf → Bool) (d : Course) (t : Trace) (case : Case)
     (next : NextItem) (are : IsCompleteDialogue d case.gathered) (separate : AreSeparate options s (d ∷ waiting)) (before : IsBefore next s d)
     (keeps : Keeps options s done (d ∷ waiting) names t)
-    (next_is : case.behind ≡ cond (is_some case.gathered.over) items.More next)
+    (next_is : case.next ≡ cond (is_some case.gathered.over) items.More next)
     (question_is : question_by case.rules ≡ (asked_of t.options).question)
     (directive_is : case.under_way ≡ t.under_way)
     (entries_are : case.entries.items ≡ filter_map (tree.get nat_cmp t.held) case.gathered.numbers.items)
@@ -100,7 +100,7 @@ module _ (options : TraceOptions) (s : State) (done waiting : List Course) (name
   first_same : option_map heading_in (slice_get case.entries.items 0) ≡ first
   first_same = ap (λ es. option_map heading_in (slice_get es 0)) (taken_same ∙ entries_same s.before s.segment d g are below)
 
-  after_same : after_of case.behind ≡ after_it d.over s.segment.end
+  after_same : after_of case.next ≡ after_it d.over s.segment.end
   after_same = ap after_of next_is ∙ ap (λ o. after_of (cond (is_some o) items.More next)) are.over ∙ by d.over before
     where
       by : (o : Option ℕ) → (is_some o ≡ true) ⊎ (s.segment.end ≡ after_of next)
@@ -147,10 +147,10 @@ module _ (options : TraceOptions) (s : State) (done waiting : List Course) (name
   -- The case describes the dialogue.
   pub case_is : dialogue_in case ≡ dialogue_at s d
   case_is =
-      ap (λ es. gathered_as g es (after_of case.behind) case.under_way (is_some case.in_use) case.unread) taken_same
-      ∙ ap (λ o. gathered_as g (entries_at s.segment.entries g.numbers.items) (after_of case.behind) o (is_some case.in_use) case.unread)
+      ap (λ es. gathered_as g es (after_of case.next) case.under_way (is_some case.in_use) case.unread) taken_same
+      ∙ ap (λ o. gathered_as g (entries_at s.segment.entries g.numbers.items) (after_of case.next) o (is_some case.in_use) case.unread)
       (directive_is ∙ keeps.under_way)
-      ∙ facts_same s.before s.segment d g are below (after_of case.behind) (is_some case.in_use) case.unread after_same in_use_same unread_right
+      ∙ facts_same s.before s.segment d g are below (after_of case.next) (is_some case.in_use) case.unread after_same in_use_same unread_right
 
   -- ---- its verdict is counted
 
@@ -194,10 +194,10 @@ module _ (options : TraceOptions) (s : State) (done waiting : List Course) (name
       by false = refl
 
   counts_then : (u : Trace) (verdict : Verdict) → verdict ≡ verdict_on t.options.book.now (question_in case) (dialogue_in case)
-      → u.dialogues ≡ cond (not (is_broken (after_of case.behind)) || is_fail verdict) (with_one verdict t.dialogues) t.dialogues
+      → u.dialogues ≡ cond (not (is_broken (after_of case.next)) || is_fail verdict) (with_one verdict t.dialogues) t.dialogues
       → u.dialogues ≡ counts_of (verdicts (s.reported ++ reported_of options s (done ++ d ∷ [])))
   counts_then u verdict verdict_is counted =
-      counted ∙ ap (λ v. counted_if (not (is_broken (after_of case.behind)) || is_fail v) v t.dialogues) (verdict_same verdict verdict_is)
+      counted ∙ ap (λ v. counted_if (not (is_broken (after_of case.next)) || is_fail v) v t.dialogues) (verdict_same verdict verdict_is)
       ∙ ap (λ (x : Dialogue). counted_if (not (is_broken x.after) || is_fail (verdict_of (asked_of options) one))
       (verdict_of (asked_of options) one) t.dialogues) case_is
       ∙ ap (counted_if (is_reported (asked_of options) one) (verdict_of (asked_of options) one)) keeps.counts
@@ -222,7 +222,7 @@ module _ (options : TraceOptions) (s : State) (done waiting : List Course) (name
 
   -- The dialogue is judged: its verdict is counted if it is reported, and its IDs are noted.
   pub judged_kept : (u : Trace) (verdict : Verdict) → verdict ≡ verdict_on t.options.book.now (question_in case) (dialogue_in case)
-      → u.dialogues ≡ cond (not (is_broken (after_of case.behind)) || is_fail verdict) (with_one verdict t.dialogues) t.dialogues
+      → u.dialogues ≡ cond (not (is_broken (after_of case.next)) || is_fail verdict) (with_one verdict t.dialogues) t.dialogues
       → Notes (may_go_on (dialogue_in case)) case.gathered t.marks u.marks
       → ((n : ℕ) → list_any (λ i. i == n) case.gathered.numbers.items ≡ false → tree.get nat_cmp u.held n ≡ tree.get nat_cmp t.held n)
       → u ≡ record t { held = u.held; marks = u.marks; dialogues = u.dialogues; unheard = u.unheard }
@@ -246,7 +246,7 @@ module _ (options : TraceOptions) (s : State) (done waiting : List Course) (name
 pub case_judged : {T E : Type 0} (r : Result T E) (options : TraceOptions) (s : State) (done waiting : List Course) (names : IdOf → Bool)
     (d : Course) (old mid new : Trace) (case : Case) (next : NextItem) (g : CompleteDialogue) (verdict : Verdict)
     → IsCompleteDialogue d g → AreSeparate options s (d ∷ waiting) → IsBefore next s d → Keeps options s done (d ∷ waiting) names old
-    → (case.gathered ≡ g) × (case.behind ≡ cond (is_some g.over) items.More next)
+    → (case.gathered ≡ g) × (case.next ≡ cond (is_some g.over) items.More next)
     × (question_by case.rules ≡ (asked_of old.options).question) × (case.under_way ≡ old.under_way)
     → (IsStrictlySortedBy nat_cmp g.numbers.items → case.entries.items ≡ filter_map (tree.get nat_cmp old.held) g.numbers.items)
     → is_some case.in_use ≡ is_in_use_by old.marks g (option_map heading_in (slice_get case.entries.items 0))
@@ -254,7 +254,7 @@ pub case_judged : {T E : Type 0} (r : Result T E) (options : TraceOptions) (s : 
     ≡ unread_by (notes_in old.unread).0 g (option_map heading_in (slice_get case.entries.items 0)))
     → ((n : ℕ) → list_any (λ i. i == n) g.numbers.items ≡ false → tree.get nat_cmp mid.held n ≡ tree.get nat_cmp old.held n)
     → mid ≡ record old { held = mid.held } → verdict ≡ verdict_on mid.options.book.now (question_in case) (dialogue_in case)
-    → OnOk r (new.dialogues ≡ cond (not (is_broken (after_of case.behind)) || is_fail verdict) (with_one verdict mid.dialogues) mid.dialogues)
+    → OnOk r (new.dialogues ≡ cond (not (is_broken (after_of case.next)) || is_fail verdict) (with_one verdict mid.dialogues) mid.dialogues)
     → OnOk r (Notes (may_go_on (dialogue_in case)) case.gathered mid.marks new.marks)
     → OnOk r (new ≡ record mid { marks = new.marks; dialogues = new.dialogues; unheard = new.unheard })
     → OnOk r (Keeps options s (done ++ d ∷ []) waiting names new)
@@ -271,7 +271,7 @@ case_judged (Ok x) options s done waiting names d old mid new case next g verdic
     (unread keeps.noted.sorted ∙ ap (λ k. unread_by (notes_in old.unread).0 k first) those) new verdict
     (verdict_is ∙ ap (λ (t : Trace). verdict_on t.options.book.now (question_in case) (dialogue_in case)) rest)
     (counted
-    ∙ ap (λ (t : Trace). cond (not (is_broken (after_of case.behind)) || is_fail verdict) (with_one verdict t.dialogues) t.dialogues) rest)
+    ∙ ap (λ (t : Trace). cond (not (is_broken (after_of case.next)) || is_fail verdict) (with_one verdict t.dialogues) t.dialogues) rest)
     (subst (λ (t : Trace). Notes (may_go_on (dialogue_in case)) case.gathered t.marks new.marks) rest noted)
     (λ n none.
     ap (λ (t : Trace). tree.get nat_cmp t.held n) same

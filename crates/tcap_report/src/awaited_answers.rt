@@ -83,7 +83,7 @@ fn asking(judged: &JudgedDialogue, component: ComponentView) -> Option<i8> {
     }
 }
 
-/// Returns the answers that the end `of` owes to the message of an entry. `behind` is what that end sent after the
+/// Returns the answers that the end `of` owes to the message of an entry. `later` is what that end sent after the
 /// entry.
 fn waits_of(
     alloc: Global,
@@ -91,10 +91,10 @@ fn waits_of(
     of: End,
     entry: usize,
     message: &Message,
-    behind: &Answers,
+    later: &Answers,
 ) -> Result<Vec<Wait>, AllocError> {
     let mut waits = Vec::new(alloc);
-    if message.kind() == Form::Begin && !behind.any {
+    if message.kind() == Form::Begin && !later.any {
         waits.push(Wait {
             of,
             entry,
@@ -103,7 +103,7 @@ fn waits_of(
     }
     for component in message.components() {
         match asking(judged, component) {
-            Some(id) if !behind.answered.contains(&id) => waits.push(Wait {
+            Some(id) if !later.answered.contains(&id) => waits.push(Wait {
                 of,
                 entry,
                 invocation: Some(id),

@@ -141,7 +141,7 @@ pub(crate) fn push_ids(text: &mut String, case: &Case, end: End) -> Result<(), A
 pub(crate) fn line_of(case: &Case, entry: u64) -> u64 {
     match case.entries.get(entry as usize) {
         Some(held) => held.line,
-        None => match case.behind {
+        None => match case.next {
             NextItem::Mark { line, .. } => line,
             _ => 0,
         },

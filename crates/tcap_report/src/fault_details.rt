@@ -84,7 +84,7 @@ fn push_invocation(
 
 /// Appends what is wrong with the answer at fault, if there is one; else the ID that the invocation is linked to, if
 /// any.
-fn push_behind(
+fn push_after(
     text: &mut String,
     invocation: &Invocation,
     class: Option<u8>,
@@ -111,7 +111,7 @@ fn push_invocations(
     for invocation in found.invocations.iter().take(MOST) {
         let class = table.table().class_of(invocation.code.view());
         push_invocation(text, table, id, invocation, class)?;
-        push_behind(text, invocation, class, answer)?;
+        push_after(text, invocation, class, answer)?;
         text.push_str("\n")?;
     }
     let count = found.invocations.len();

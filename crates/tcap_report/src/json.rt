@@ -11,7 +11,7 @@ use crate::order::{is_asked, last_open};
 use crate::reason::push_reason;
 use crate::sinks::TraceSummary;
 use crate::sum::Sum;
-use crate::text::{push_behind, push_undecided};
+use crate::text::{push_after, push_undecided};
 use std::alloc::{AllocError, Global};
 use tcap_evidence::{Evidence, push_fact};
 use tcap_page::{push_flag, push_named, push_numbers, push_octets, push_text};
@@ -42,7 +42,7 @@ fn push_entries(json: &mut String, case: &Case) -> Result<(), AllocError> {
         write!(json, "{number}")?;
         first = false;
     }
-    if let NextItem::Mark { number, .. } = case.behind {
+    if let NextItem::Mark { number, .. } = case.next {
         json.push_str(if first { "" } else { "," })?;
         write!(json, "{number}")?;
     }
@@ -54,7 +54,7 @@ fn push_entries(json: &mut String, case: &Case) -> Result<(), AllocError> {
         write!(json, "{line}")?;
         first = false;
     }
-    if let NextItem::Mark { line, .. } = case.behind {
+    if let NextItem::Mark { line, .. } = case.next {
         json.push_str(if first { "" } else { "," })?;
         write!(json, "{line}")?;
     }
@@ -188,7 +188,7 @@ fn push_ends(
 ) -> Result<(), AllocError> {
     let Some(ends) = judged.ends else {
         let mut text = String::new(alloc);
-        push_behind(alloc, &mut text, case, judged, of, grounds)?;
+        push_after(alloc, &mut text, case, judged, of, grounds)?;
         return push_named(json, "text", &text);
     };
     for end in [End::A, End::B] {

@@ -245,13 +245,13 @@ pub(crate) fn push_case(
     grounds: &Grounds,
 ) -> Result<(), AllocError> {
     push_dialogue(text, trace, case, judged)?;
-    push_behind(alloc, text, case, judged, of, grounds)?;
+    push_after(alloc, text, case, judged, of, grounds)?;
     push_entries(alloc, text, case, judged)
 }
 
 /// Appends the text after the line of a dialogue: the result for each end that is asked, and once what an open dialogue
 /// waits for. If both ends are blamed, the end with the lower entry comes first.
-pub(crate) fn push_behind(
+pub(crate) fn push_after(
     alloc: Global,
     text: &mut String,
     case: &Case,

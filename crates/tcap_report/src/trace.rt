@@ -280,7 +280,7 @@ impl<'a> Trace<'a> {
         judged: &JudgedDialogue,
         sinks: &mut Sinks<W, J, P>,
     ) -> Result<(), Stop>
-        ensures counted { OnOk result (self.new.dialogues ≡ cond (not (is_broken (after_of case.now.behind)) || is_fail judged.now.verdict)
+        ensures counted { OnOk result (self.new.dialogues ≡ cond (not (is_broken (after_of case.now.next)) || is_fail judged.now.verdict)
             (with_one judged.now.verdict self.old.dialogues) self.old.dialogues) }
         ensures marks { OnOk result (Notes (may_go_on (dialogue_in case.now)) case.now.gathered self.old.marks self.new.marks) }
         ensures rest { OnOk result (self.new ≡ record self.old { marks = self.new.marks; dialogues = self.new.dialogues; unheard = self.new.unheard }) }
@@ -439,9 +439,9 @@ fn broken_off_text(alloc: Global, line: u64, missing: &[u8]) -> Result<String, A
 /// Returns whether a judged dialogue is reported: always, unless a fault ends the trace before the dialogue is over and
 /// the dialogue does not fail.
 fn is_reported(case: &Case, judged: &JudgedDialogue) -> bool
-    ensures { result ≡ not (is_broken (after_of case.now.behind)) || is_fail judged.now.verdict }
+    ensures { result ≡ not (is_broken (after_of case.now.next)) || is_fail judged.now.verdict }
 {
-    match (case.behind, judged.verdict) {
+    match (case.next, judged.verdict) {
         (NextItem::Fault, Verdict::Fail) => true,
         (NextItem::Fault, _) => false,
         _ => true,

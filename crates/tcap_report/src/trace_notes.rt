@@ -112,7 +112,7 @@ impl Trace<'_> {
         next: NextItem,
     ) -> Result<Case, AllocError>
         ensures is { IfOk result (λ case. (case.gathered ≡ gathered)
-            × (case.behind ≡ cond (is_some gathered.over) items.More next)
+            × (case.next ≡ cond (is_some gathered.over) items.More next)
             × (question_by case.rules ≡ (asked_of self.old.options).question)
             × (case.under_way ≡ self.old.under_way)) }
         ensures entries { IsStrictlySortedBy nat_cmp gathered.numbers.items → IfOk result (λ case. case.entries.items
@@ -132,7 +132,7 @@ impl Trace<'_> {
             unread: self.unread_for(&gathered, &entries),
             entries,
             before: self.before,
-            behind: if gathered.over.is_some() {
+            next: if gathered.over.is_some() {
                 NextItem::More
             } else {
                 next

@@ -7,7 +7,7 @@ use Rattle.tcap_record.specs.declared.entry.Entry.{Entry}
 use Rattle.tcap_record.specs.Ends.{other, is_entry_of}
 use Rattle.tcap_search.specs.declared.leasts.Leasts.{Leasts}
 use Rattle.tcap_search.specs.LeastNumbers.{HasRoom, is_below, is_transaction, least_at, lesser, is_within}
-use Rattle.tcap_search.specs.SegmentEntries.{Line, is_of_peer, line_behind, lines_of, message_of, share_transaction, are_of_one_end}
+use Rattle.tcap_search.specs.SegmentEntries.{Line, is_of_peer, line_after, lines_of, message_of, share_transaction, are_of_one_end}
 use Rattle.tcap_search.specs.ProposedCertificate.{ends, was_ended, Fated, fated, is_delivered_by, is_end_or_abort, was_end_delivered, closing_by, closings_from, closings_of, is_closing_of, is_continue, with_closing}
 use Rattle.tcap_search.specs.ClosedByTie.{KeepsEnded, KeepsDelivered, end_delivery_gap, KeepsListed, both_of, shown_by}
 use Rattle.tcap_search.proofs.LineLaws.{count_taken, lines_more, count_lines, entry_line, transaction_below, transaction_is}
@@ -37,7 +37,7 @@ module _ (entries : List Entry) (i : ℕ) (old : Leasts) (e : Entry) (below : i 
     (is : e ≡ get_or entries i e) (so_far : Ended entries i old) where
   -- the line of the next entry
   abbrev next : Line
-  next = line_behind (lines_of (take i entries)) e
+  next = line_after (lines_of (take i entries)) e
 
   abbrev was : Line → ℕ → Bool
   was x limit = was_ended (lines_of (take i entries)) x limit
@@ -116,7 +116,7 @@ module _ (entries : List Entry) (fates : List Fate) (i : ℕ) (old : Leasts) (e 
     (below : i < length entries) (counted : length fates ≡ length entries) (is : e ≡ get_or entries i e)
     (is_fate : fate ≡ get_or fates i other_fate) (so_far : Delivered entries fates i old) where
   abbrev next_line : Line
-  next_line = line_behind (lines_of (take i entries)) e
+  next_line = line_after (lines_of (take i entries)) e
 
   abbrev fated_so_far : List Fated
   fated_so_far = fated (lines_of (take i entries)) (take i fates)
@@ -226,7 +226,7 @@ both_same false x = refl
 module _ (entries : List Entry) (transactions : List (Option ℕ)) (all : List Fated) (k reply : ℕ) (e : Entry)
     (are : AreTransactions entries transactions) (below : k < length entries) (read : e ≡ get_or entries k e) where
   abbrev line : Line
-  line = line_behind (lines_of (take k entries)) e
+  line = line_after (lines_of (take k entries)) e
 
   there : slice_get (lines_of entries) k ≡ Some line
   there = entry_line entries k e (slice_get_read entries (length entries) k e refl below read)

@@ -10,7 +10,7 @@ use Rattle.tcap_record.specs.declared.entry.Entry.{Entry}
 use Rattle.tcap_model.proofs.ListLaws.{all_more}
 use Rattle.tcap_search.specs.declared.tie.Tie.{Tie}
 use Rattle.tcap_search.specs.SegmentEntries.{Line, last, lines_of, message_of}
-use Rattle.tcap_search.specs.ProposedCertificate.{answered_line, gap_behind_reply, reply_of, ties_from, with_tie_by, Fated, fate_before, fate_of, fated, holds_back, with_losses}
+use Rattle.tcap_search.specs.ProposedCertificate.{answered_line, gap_after_reply, reply_of, ties_from, with_tie_by, Fated, fate_before, fate_of, fated, holds_back, with_losses}
 use Rattle.tcap_search.specs.SegmentLists.{AreTies, AreTransactions}
 use Rattle.tcap_search.proofs.LatestLaws.{last_among}
 use Rattle.tcap_search.proofs.LineLaws.{count_lines, count_transactions, AreNumbered, lines_numbered, entries_of_lines, line_at, line_more, transaction_within}
@@ -22,7 +22,7 @@ use Rattle.tcap_certificate.specs.declared.certificate.Fate.TheVariants.{Gap}
 use Rattle.tcap_certificate.specs.Replay.{time_of}
 use Rattle.tcap_search.specs.declared.end_values.PerEnd.{PerEnd}
 use Rattle.tcap_search.specs.EndValues.{at_end}
-use Rattle.tcap_search.specs.Fates.{fate_behind_least, fate_from, gap_behind_last, gap_kept, gap_raised, highest, is_of, least_time, receiver_gap, sooner, time_kept}
+use Rattle.tcap_search.specs.Fates.{fate_after_least, fate_from, gap_after_last, gap_kept, gap_raised, highest, is_of, least_time, receiver_gap, sooner, time_kept}
 use Rattle.tcap_search.proofs.GapLaws.{fate_is, gap_more, gap_of_receiver, gap_so_far, highest_more, reply_more}
 use Rattle.tcap_search.proofs.LossLaws.{count_fated, entries_fated, fate_before_is, fates_fated, least_so_far}
 
@@ -77,10 +77,10 @@ replies_below entries ties are =
 
 -- The gap after a reply is one of the segment.
 pub behind_reply : (n : ℕ) (ties : List Tie) (number : ℕ) → RepliesBelow n ties
-    → gap_behind_reply (reply_of ties number) ≤ n
+    → gap_after_reply (reply_of ties number) ≤ n
 behind_reply n ties number below = by (last (λ t. t.entry == number) ties) refl
   where
-    by : (o : Option Tie) → last (λ t. t.entry == number) ties ≡ o → gap_behind_reply (option_map (λ t. t.reply) o) ≤ n
+    by : (o : Option Tie) → last (λ t. t.entry == number) ties ≡ o → gap_after_reply (option_map (λ t. t.reply) o) ≤ n
     by None at = omega arith
     by (Some t) at =
         let reply : t.reply < n = last_among (λ t. t.reply < n) (λ t. t.entry == number) ties t below at in omega arith
@@ -106,7 +106,7 @@ reply_step ties i number d old within is = rw is
 -- the gaps kept are those of these entries
 abbrev pub KeepsGaps : Option Side → List Entry → List (PerEnd ℕ) → Type 0
 KeepsGaps judged entries gaps = (side : Side) (t : ℕ) → t < length entries
-    → gap_kept side t gaps ≡ gap_behind_last judged side t (lines_of entries)
+    → gap_kept side t gaps ≡ gap_after_last judged side t (lines_of entries)
 
 module _ (entries : List Entry) (transactions : List (Option ℕ)) (are : AreTransactions entries transactions)
     (i : ℕ) (within : i < length entries) (e : Entry) (is_entry : e ≡ get_or entries i e) where
@@ -119,15 +119,15 @@ module _ (entries : List Entry) (transactions : List (Option ℕ)) (are : AreTra
       (get_or_default transactions i None (get_or transactions i None) (omega arith))
 
   pub gap_step : (judged : Option Side) (side : Side) (t old : ℕ)
-      → old ≡ gap_behind_last judged side t (take i (lines_of entries))
+      → old ≡ gap_after_last judged side t (take i (lines_of entries))
       → cond (holds_back judged (message_of e) && is_of side t e (get_or transactions i None)) (i + 1) old
-      ≡ gap_behind_last judged side t (take (i + 1) (lines_of entries))
+      ≡ gap_after_last judged side t (take (i + 1) (lines_of entries))
   gap_step judged side t old is = rw is
       (sym (gap_more judged side t (take i (lines_of entries)) (line_at i e (get_or transactions i None))))
-      ∙ ap (gap_behind_last judged side t) (sym lines_more)
+      ∙ ap (gap_after_last judged side t) (sym lines_more)
 
   pub highest_step : (ties : List Tie) (side : Side) (old : ℕ) → old ≡ highest side (take i (lines_of entries)) ties
-      → cond (is_entry_of side e.side) (max old (gap_behind_reply (reply_of ties i))) old
+      → cond (is_entry_of side e.side) (max old (gap_after_reply (reply_of ties i))) old
       ≡ highest side (take (i + 1) (lines_of entries)) ties
   highest_step ties side old is = rw is
       (sym (highest_more side (take i (lines_of entries)) (line_at i e (get_or transactions i None)) ties))
@@ -182,9 +182,9 @@ pub reply_read : (replies : List (Option ℕ)) (i : ℕ) (reply : Option ℕ) (t
 reply_read replies i reply ties there is = is ∙ get_or_from_slice_get replies i (reply_of ties i) reply there
 
 pub reply_fits : (entries : List Entry) (ties : List Tie) (i : ℕ) → AreTies entries ties → length entries ≤ 100000
-    → gap_behind_reply (reply_of ties i) < 2 ^ 32
+    → gap_after_reply (reply_of ties i) < 2 ^ 32
 reply_fits entries ties i are few =
-    let below : gap_behind_reply (reply_of ties i) ≤ length entries =
+    let below : gap_after_reply (reply_of ties i) ≤ length entries =
     behind_reply (length entries) ties i (replies_below entries ties are) in
     omega arith
 
@@ -238,7 +238,7 @@ module _ (entries : List Entry) (old : List Fate) (same : length old ≡ length 
   module _ (fates : List Fate) (least : PerEnd (Option ℕ)) (made : Fate)
       (are : fates ≡ take n old ++ map (λ x. x.fate) later)
       (times : (side : Side) → at_end side least ≡ least_time side later)
-      (is : made ≡ fate_behind_least e (get_or fates k (Gap 0)) (time_kept least e.side)) where
+      (is : made ≡ fate_after_least e (get_or fates k (Gap 0)) (time_kept least e.side)) where
     kept : (s : Option Side) → time_kept least s ≡ least_so_far later s
     kept None = refl
     kept (Some side) = times side
@@ -246,9 +246,9 @@ module _ (entries : List Entry) (old : List Fate) (same : length old ≡ length 
     -- The new fate is that after losses.
     loss_is : made ≡ fate_before later here
     loss_is = is
-        ∙ ap (λ (f : Fate). fate_behind_least e f (time_kept least e.side)) (fate_read fates are ∙ sym fate_here)
-        ∙ ap (fate_behind_least e here.fate) (kept e.side)
-        ∙ ap (λ (x : Entry). fate_behind_least x here.fate (least_so_far later x.side)) (sym entry_here)
+        ∙ ap (λ (f : Fate). fate_after_least e f (time_kept least e.side)) (fate_read fates are ∙ sym fate_here)
+        ∙ ap (fate_after_least e here.fate) (kept e.side)
+        ∙ ap (λ (x : Entry). fate_after_least x here.fate (least_so_far later x.side)) (sym entry_here)
         ∙ sym (fate_before_is later here)
 
     pub losses_step : set fates k made ≡ take k old ++ map (λ x. x.fate) (with_losses (drop k all))

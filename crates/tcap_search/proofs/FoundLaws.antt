@@ -156,10 +156,10 @@ same_as_both side marked entries both is fates are same =
     (sym (ap (λ (c : Certificate). c.fates) is) ∙ sym same ∙ are)
 
 -- It is within the limits after `first` entries.
-pub fits_behind : (judged : Option Side) (marked : Bool) (first : ℕ) (entries : List Entry)
+pub fits_after : (judged : Option Side) (marked : Bool) (first : ℕ) (entries : List Entry)
     → first + length entries ≤ number_limit → (c : Certificate) → c ≡ of_segment judged marked entries
     → FitsBehind first c
-fits_behind judged marked first entries few c is = (
+fits_after judged marked first entries few c is = (
   fates_fit judged marked first entries few c.fates (ap (λ (c : Certificate). c.fates) is),
   expiries_fit judged marked first entries few c.expire (ap (λ (c : Certificate). c.expire) is),
   closings_fit judged marked first entries few c.close (ap (λ (c : Certificate). c.close) is),

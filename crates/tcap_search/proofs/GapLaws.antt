@@ -13,8 +13,8 @@ use Rattle.tcap_model.specs.Run.{only_if}
 use Rattle.tcap_certificate.specs.declared.certificate.Fate.TheVariants.{Gap}
 use Rattle.tcap_search.specs.declared.tie.Tie.{Tie}
 use Rattle.tcap_search.specs.SegmentEntries.{Line, is_of_peer, last, message_of, share_transaction}
-use Rattle.tcap_search.specs.ProposedCertificate.{fate_by, fate_of, first_gap, first_gap_by, gap_behind, gap_behind_reply, holds_back, last_of_receiver, raised, reply_of}
-use Rattle.tcap_search.specs.Fates.{earliest, fate_from, gap_behind_last, gap_behind_line, highest, holds_back_in, is_line_of, is_of, untied_fate}
+use Rattle.tcap_search.specs.ProposedCertificate.{fate_by, fate_of, first_gap, first_gap_by, gap_after, gap_after_reply, holds_back, last_of_receiver, raised, reply_of}
+use Rattle.tcap_search.specs.Fates.{earliest, fate_from, gap_after_last, gap_after_line, highest, holds_back_in, is_line_of, is_of, untied_fate}
 use Rattle.tcap_search.proofs.LatestLaws.{last_never, last_same}
 use Rattle.tcap_search.proofs.LineLaws.{last_push, AreNumbered}
 use Rattle.tcap_search.proofs.TestLaws.{of_peer, of_peer_none, one_end, one_end_none, and_and, and_false, and_swap}
@@ -86,25 +86,25 @@ last_later k n (x ∷ lines) passes are = by (last passes lines) refl (last_late
         rw is (behind z (omega arith) (nat_lt k z.number) (passes x) refl)
 
 -- The gap after it, or after x, is the greater of both.
-gap_is : (x : Line) (o : Option Line) → gap_behind x (if_later x.number o) ≡ max (x.number + 1) (gap_behind_line o)
+gap_is : (x : Line) (o : Option Line) → gap_after x (if_later x.number o) ≡ max (x.number + 1) (gap_after_line o)
 gap_is x None = omega arith
 gap_is x (Some y) = by (nat_lt x.number y.number) refl
   where
     by : (b : Bool) → nat_lt x.number y.number ≡ b
-        → gap_behind x (only_if b (Some y)) ≡ max (x.number + 1) (y.number + 1)
+        → gap_after x (only_if b (Some y)) ≡ max (x.number + 1) (y.number + 1)
     by true test = omega (arith, ltb-true x.number y.number test)
     by false test = omega (arith, ltb-false x.number y.number test)
 
 abbrev pub gap_of_receiver : Option Side → List Line → Option Side → Option ℕ → ℕ
-gap_of_receiver judged lines (Some side) (Some t) = gap_behind_last judged (other side) t lines
+gap_of_receiver judged lines (Some side) (Some t) = gap_after_last judged (other side) t lines
 gap_of_receiver judged lines _ _ = 0
 
 -- The same for the last later line of the receiver in the transaction.
 pub receiver_gap_is : (judged : Option Side) (lines : List Line) (x : Line) → AreNumbered 0 lines
-    → gap_behind x (last_of_receiver judged lines x)
+    → gap_after x (last_of_receiver judged lines x)
     ≡ max (x.number + 1) (gap_of_receiver judged lines x.entry.side x.transaction)
 receiver_gap_is judged lines x are =
-    ap (gap_behind x) later ∙ gap_is x (last passes lines)
+    ap (gap_after x) later ∙ gap_is x (last passes lines)
     ∙ ap (λ (n : ℕ). max (x.number + 1) n) (by x.entry.side refl x.transaction refl)
   where
     holds : Line → Bool
@@ -122,17 +122,17 @@ receiver_gap_is judged lines x are =
         ∙ and_and (nat_lt x.number y.number) (is_of_peer x.entry y.entry && share_transaction x y) (holds y)) lines
         ∙ last_later x.number 0 lines passes are
 
-    none : ((y : Line) → passes y ≡ false) → gap_behind_line (last passes lines) ≡ 0
-    none never = ap gap_behind_line (last_never passes lines never)
+    none : ((y : Line) → passes y ≡ false) → gap_after_line (last passes lines) ≡ 0
+    none never = ap gap_after_line (last_never passes lines never)
 
     by : (s : Option Side) → x.entry.side ≡ s → (o : Option ℕ) → x.transaction ≡ o
-        → gap_behind_line (last passes lines) ≡ gap_of_receiver judged lines s o
+        → gap_after_line (last passes lines) ≡ gap_of_receiver judged lines s o
     by None at o is = none (λ y. ap (λ (b : Bool). b && share_transaction x y && holds y)
         (of_peer_none x.entry y.entry at))
     by (Some side) at None is = none (λ y. ap (λ (b : Bool). b && holds y)
         (ap (λ (b : Bool). is_of_peer x.entry y.entry && b) (shares_none x y is)
         ∙ and_false (is_of_peer x.entry y.entry)))
-    by (Some side) at (Some t) is = ap gap_behind_line (last_same passes (holds_back_in judged (other side) t)
+    by (Some side) at (Some t) is = ap gap_after_line (last_same passes (holds_back_in judged (other side) t)
         (λ y. ap (λ (b : Bool). b && holds y)
         (ap (λ (b : Bool). b && share_transaction x y) (of_peer x.entry y.entry side at)
         ∙ of_both (other side) t x y is)
@@ -168,7 +168,7 @@ raised_of side n (y ∷ lines) ties x zero gap at are is =
     raised_late n (y ∷ lines) ties x gap are (omega arith) ∙ omega arith
 raised_of side n (y ∷ lines) ties x (suc i) gap at are is =
     let before : nat_lt y.number x.number ≡ true = lt-ltb y.number x.number (omega (arith, are.0)) in
-    let reply = gap_behind_reply (reply_of ties y.number) in
+    let reply = gap_after_reply (reply_of ties y.number) in
     rw (before, one_end x.entry y.entry side at)
     (raised_of side (n + 1) lines ties x i (cond (is_entry_of side y.entry.side) (max gap reply) gap) at are.1 (omega arith)
     ∙ raise_step (is_entry_of side y.entry.side) gap reply (highest side (take i lines) ties))
@@ -228,19 +228,19 @@ fate_is judged lines ties x are = by (reply_of ties x.number) (message_of x.entr
 -- the highest gap, with one more line
 pub highest_more : (side : Side) (lines : List Line) (x : Line) (ties : List Tie)
     → highest side (lines ++ x ∷ []) ties
-    ≡ cond (is_entry_of side x.entry.side) (max (highest side lines ties) (gap_behind_reply (reply_of ties x.number)))
+    ≡ cond (is_entry_of side x.entry.side) (max (highest side lines ties) (gap_after_reply (reply_of ties x.number)))
     (highest side lines ties)
 highest_more side [] x ties = by (is_entry_of side x.entry.side)
   where
-    by : (b : Bool) → max (cond b (gap_behind_reply (reply_of ties x.number)) 0) 0
-        ≡ cond b (max 0 (gap_behind_reply (reply_of ties x.number))) 0
+    by : (b : Bool) → max (cond b (gap_after_reply (reply_of ties x.number)) 0) 0
+        ≡ cond b (max 0 (gap_after_reply (reply_of ties x.number))) 0
     by true = omega arith
     by false = omega arith
 highest_more side (y ∷ lines) x ties =
-    ap (λ (n : ℕ). max (cond (is_entry_of side y.entry.side) (gap_behind_reply (reply_of ties y.number)) 0) n)
+    ap (λ (n : ℕ). max (cond (is_entry_of side y.entry.side) (gap_after_reply (reply_of ties y.number)) 0) n)
     (highest_more side lines x ties)
-    ∙ by (is_entry_of side x.entry.side) (cond (is_entry_of side y.entry.side) (gap_behind_reply (reply_of ties y.number)) 0)
-    (highest side lines ties) (gap_behind_reply (reply_of ties x.number))
+    ∙ by (is_entry_of side x.entry.side) (cond (is_entry_of side y.entry.side) (gap_after_reply (reply_of ties y.number)) 0)
+    (highest side lines ties) (gap_after_reply (reply_of ties x.number))
   where
     by : (b : Bool) (first high reply : ℕ)
         → max first (cond b (max high reply) high) ≡ cond b (max (max first high) reply) (max first high)
@@ -249,13 +249,13 @@ highest_more side (y ∷ lines) x ties =
 
 -- the gap after the last, with one more line
 pub gap_more : (judged : Option Side) (side : Side) (t : ℕ) (lines : List Line) (x : Line)
-    → gap_behind_last judged side t (lines ++ x ∷ [])
-    ≡ cond (holds_back_in judged side t x) (x.number + 1) (gap_behind_last judged side t lines)
+    → gap_after_last judged side t (lines ++ x ∷ [])
+    ≡ cond (holds_back_in judged side t x) (x.number + 1) (gap_after_last judged side t lines)
 gap_more judged side t lines x =
-    ap gap_behind_line (last_push (holds_back_in judged side t) lines x) ∙ by (holds_back_in judged side t x)
+    ap gap_after_line (last_push (holds_back_in judged side t) lines x) ∙ by (holds_back_in judged side t x)
   where
-    by : (b : Bool) → gap_behind_line (cond b (Some x) (last (holds_back_in judged side t) lines))
-        ≡ cond b (x.number + 1) (gap_behind_last judged side t lines)
+    by : (b : Bool) → gap_after_line (cond b (Some x) (last (holds_back_in judged side t) lines))
+        ≡ cond b (x.number + 1) (gap_after_last judged side t lines)
     by true = refl
     by false = refl
 

@@ -4,7 +4,7 @@ use Rattle.std.specs.Option.{option_or}
 use Rattle.std.specs.List.{AllByRecursion}
 use Rattle.std.proofs.lemmas.Option.{none-some, same_Some}
 use Rattle.tcap_model.specs.Run.{only_if, option_then}
-use Rattle.tcap_search.specs.SegmentEntries.{last, Line, is_from, line_behind, lines_of, message_of, transaction_by, transaction_from}
+use Rattle.tcap_search.specs.SegmentEntries.{last, Line, is_from, line_after, lines_of, message_of, transaction_by, transaction_from}
 use Rattle.std.specs.Prelude.{◌&&◌, is_some, nat_lt}
 use Rattle.std.proofs.lemmas.Bool.{false≢true, le-ltb, lt-ltb}
 use Rattle.tcap_search.specs.Sweep.{last_given}
@@ -186,7 +186,7 @@ asked_is lines latest is e dtid = by e.side dtid
     by (Some side) (Some id) = is (other side) id
 
 pub belongs_is : (lines : List Line) (latest : Latest) (number : ℕ) (e : Entry) → IsLatest lines latest
-    → length lines ≡ number → belongs number e latest ≡ (line_behind lines e).transaction
+    → length lines ≡ number → belongs number e latest ≡ (line_after lines e).transaction
 belongs_is lines latest number e is counted = by (message_of e)
   where
     by : (message : Option Message) → belongs_by number e latest message ≡ transaction_by lines e message
@@ -205,13 +205,13 @@ chosen true x o = refl
 chosen false x o = refl
 
 pub latest_more : (lines : List Line) (old new : Latest) (e : Entry) (transaction : Option ℕ) → IsLatest lines old
-    → transaction ≡ (line_behind lines e).transaction
+    → transaction ≡ (line_after lines e).transaction
     → ((side : Side) (id : List ℕ) → latest_at side id new
     ≡ cond (is_entry_of side e.side && is_from id e) transaction (latest_at side id old))
-    → IsLatest (lines ++ line_behind lines e ∷ []) new
+    → IsLatest (lines ++ line_after lines e ∷ []) new
 latest_more lines old new e transaction is has noted side id =
     let passes : Line → Bool = λ (f : Line). is_entry_of side f.entry.side && is_from id f.entry in
-    let x : Line = line_behind lines e in
+    let x : Line = line_after lines e in
     noted side id
     ∙ (ap (λ (t : Option ℕ). cond (passes x) t (latest_at side id old)) has
     ∙ (ap (λ (t : Option ℕ). cond (passes x) x.transaction t) (is side id)
@@ -226,7 +226,7 @@ pub record Noted (entries : List Entry) (count : ℕ) (l : Latest) (found : List
 
 pub belongs_next : (entries : List Entry) (i : ℕ) (latest : Latest) (transactions : List (Option ℕ)) (e : Entry)
     → i < length entries → Noted entries i latest transactions
-    → belongs i e latest ≡ (line_behind (lines_of (take i entries)) e).transaction
+    → belongs i e latest ≡ (line_after (lines_of (take i entries)) e).transaction
 belongs_next entries i latest transactions e below noted =
     belongs_is (lines_of (take i entries)) latest i e noted.latest (count_taken entries i (omega arith))
 
@@ -242,11 +242,11 @@ noted_more entries i old new transactions e transaction below is noted has says 
   transactions =
       rw (lines_more entries i e below is) (ap (λ (ts : List (Option ℕ)). ts ++ transaction ∷ []) noted.transactions
       ∙ (ap (λ (t : Option ℕ). map (λ (x : Line). x.transaction) lines ++ t ∷ []) whose
-      ∙ sym (map_push (λ (x : Line). x.transaction) lines (line_behind lines e))));
+      ∙ sym (map_push (λ (x : Line). x.transaction) lines (line_after lines e))));
 }
   where
     lines : List Line
     lines = lines_of (take i entries)
 
-    whose : transaction ≡ (line_behind (lines_of (take i entries)) e).transaction
+    whose : transaction ≡ (line_after (lines_of (take i entries)) e).transaction
     whose = has ∙ belongs_next entries i old transactions e below noted

@@ -20,7 +20,7 @@ use Rattle.tcap_model.proofs.ListLaws.{all_more, all_weaker}
 use Rattle.tcap_model.proofs.RunLaws.{map_some, then_some}
 use Rattle.tcap_search.specs.declared.tie.Tie.{Tie}
 use Rattle.tcap_search.specs.SegmentEntries.{Line, are_of_one_end, lines_of, message_of}
-use Rattle.tcap_search.specs.ProposedCertificate.{Fated, all_fated, closing_behind, closing_by, closings_from, expiries_by, expiries_from, expiry_behind, expiry_by, expiry_in, fate_before, fate_behind, fate_by, fate_of, fated, first_fates, first_gap, first_gap_by, gap_behind, gap_behind_reply, gap_in, invocation_at, is_closing_of, is_continue, is_expiry_of, is_gap, is_invoke_of, is_overtaken, is_unanswered, last_invocation, last_invoke, last_of_receiver, may_invoke, components_at, number_limit, of_segment, raised, rejected_line, reply_of, ties_of, unrecognized, was_ended, was_end_delivered, with_closing, with_expiry, with_losses, without_unanswered}
+use Rattle.tcap_search.specs.ProposedCertificate.{Fated, all_fated, closing_after, closing_by, closings_from, expiries_by, expiries_from, expiry_after, expiry_by, expiry_in, fate_before, fate_after, fate_by, fate_of, fated, first_fates, first_gap, first_gap_by, gap_after, gap_after_reply, gap_in, invocation_at, is_closing_of, is_continue, is_expiry_of, is_gap, is_invoke_of, is_overtaken, is_unanswered, last_invocation, last_invoke, last_of_receiver, may_invoke, components_at, number_limit, of_segment, raised, rejected_line, reply_of, ties_of, unrecognized, was_ended, was_end_delivered, with_closing, with_expiry, with_losses, without_unanswered}
 use Rattle.tcap_search.specs.SegmentLists.{AreFates}
 use Rattle.tcap_search.proofs.LatestLaws.{last_among}
 use Rattle.tcap_search.proofs.LossLaws.{before_losses, count_fates}
@@ -50,7 +50,7 @@ all_mapped P f (x ∷ xs) all = (all.0, all_mapped P f xs all.1)
 
 module _ (judged : Option Side) (n : ℕ) (lines : List Line) (numbers : AllByRecursion (λ x. x.number < n) lines)
     (ties : List Tie) (replies : RepliesBelow n ties) where
-  behind_within : (x : Line) (o : Option Line) → x.number < n → last_of_receiver judged lines x ≡ o → gap_behind x o ≤ n
+  behind_within : (x : Line) (o : Option Line) → x.number < n → last_of_receiver judged lines x ≡ o → gap_after x o ≤ n
   behind_within x None within is = omega (arith, within)
   behind_within x (Some y) within is =
       let there : y.number < n = last_among (λ z. z.number < n) _ lines y numbers is in omega (arith, there)
@@ -70,15 +70,15 @@ module _ (judged : Option Side) (n : ℕ) (lines : List Line) (numbers : AllByRe
       raised_within some x _
       (by (nat_lt y.number x.number && are_of_one_end x.entry y.entry) (behind_reply n ties y.number replies))
     where
-      by : (b : Bool) → gap_behind_reply (reply_of ties y.number) ≤ n
-          → cond b (max gap (gap_behind_reply (reply_of ties y.number))) gap ≤ n
+      by : (b : Bool) → gap_after_reply (reply_of ties y.number) ≤ n
+          → cond b (max gap (gap_after_reply (reply_of ties y.number))) gap ≤ n
       by true reply = omega (arith, within, reply)
       by false reply = within
 
   fate_within : (x : Line) (o : Option ℕ) (m : Option Message) → x.number < n → reply_of ties x.number ≡ o
       → FateWithin n (fate_by judged lines ties x o m)
   fate_within x (Some reply) m within is =
-      let below : gap_behind_reply (reply_of ties x.number) ≤ n = behind_reply n ties x.number replies in
+      let below : gap_after_reply (reply_of ties x.number) ≤ n = behind_reply n ties x.number replies in
       let so : reply + 1 ≤ n = rw is at below in omega (arith, so)
   fate_within x None None within is = omega (arith, within)
   fate_within x None (Some m) within is =
@@ -314,7 +314,7 @@ module _ (judged : Option Side) (marked : Bool) (entries : List Entry) where
 -- ---- the limits of a certificate
 
 fate_fits : (first n : ℕ) (fate : Fate) → first + n ≤ number_limit
-    → FateWithin n fate → FateFits (fate_behind first fate)
+    → FateWithin n fate → FateFits (fate_after first fate)
 fate_fits first n (Gap gap) few within = omega (arith, few, within)
 fate_fits first n (By reply) few within = omega (arith, few, within)
 fate_fits first n Lost few within = tt
@@ -323,28 +323,28 @@ module _ (judged : Option Side) (marked : Bool) (first : ℕ) (entries : List En
     (few : first + length entries ≤ number_limit) where
   -- The numbers are within the limits after `first` entries.
   pub fates_fit : (fates : List Fate) → AreFates judged marked entries fates
-      → AllByRecursion FateFits (map (fate_behind first) fates)
+      → AllByRecursion FateFits (map (fate_after first) fates)
   fates_fit fates are =
-      all_mapped FateFits (fate_behind first) fates
-      (all_weaker (FateWithin (length entries)) (λ fate. FateFits (fate_behind first fate)) fates
+      all_mapped FateFits (fate_after first) fates
+      (all_weaker (FateWithin (length entries)) (λ fate. FateFits (fate_after first fate)) fates
       (λ fate within. fate_fits first (length entries) fate few within)
       (subst (λ (x : List Fate). AllByRecursion (FateWithin (length entries)) x) (sym are)
       (fates_of_segment judged marked entries)))
 
   pub expiries_fit : (listed : List Expiry) → listed ≡ (of_segment judged marked entries).expire
-      → AllByRecursion ExpiryFits (map (expiry_behind first) listed)
+      → AllByRecursion ExpiryFits (map (expiry_after first) listed)
   expiries_fit listed are =
-      all_mapped ExpiryFits (expiry_behind first) listed
-      (all_weaker (ExpiryWithin (length entries)) (λ x. ExpiryFits (expiry_behind first x)) listed
+      all_mapped ExpiryFits (expiry_after first) listed
+      (all_weaker (ExpiryWithin (length entries)) (λ x. ExpiryFits (expiry_after first x)) listed
       (λ x within. (omega (arith, few, within.0), within.1, omega (arith, few, within.2)))
       (subst (λ (xs : List Expiry). AllByRecursion (ExpiryWithin (length entries)) xs) (sym are)
       (expiries_of_segment judged marked entries)))
 
   pub closings_fit : (listed : List Closing) → listed ≡ (of_segment judged marked entries).close
-      → AllByRecursion ClosingFits (map (closing_behind first) listed)
+      → AllByRecursion ClosingFits (map (closing_after first) listed)
   closings_fit listed are =
-      all_mapped ClosingFits (closing_behind first) listed
-      (all_weaker (ClosingWithin (length entries)) (λ x. ClosingFits (closing_behind first x)) listed
+      all_mapped ClosingFits (closing_after first) listed
+      (all_weaker (ClosingWithin (length entries)) (λ x. ClosingFits (closing_after first x)) listed
       (λ x within. (omega (arith, few, within.0), omega (arith, few, within.1)))
       (subst (λ (xs : List Closing). AllByRecursion (ClosingWithin (length entries)) xs) (sym are)
       (closings_of_segment judged marked entries)))

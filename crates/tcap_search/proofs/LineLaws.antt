@@ -9,19 +9,19 @@ use Rattle.tcap_msg.specs.declared.message.Message.TheVariants.{Unidirectional, 
 use Rattle.tcap_record.specs.declared.entry.Entry.{Entry}
 use Rattle.tcap_model.specs.Run.{only_if}
 use Rattle.tcap_model.proofs.ListLaws.{all_more}
-use Rattle.tcap_search.specs.SegmentEntries.{Line, is_peer_message_from, last, line_behind, lines_behind, lines_of, message_of, transaction_by, transaction_from}
+use Rattle.tcap_search.specs.SegmentEntries.{Line, is_peer_message_from, last, line_after, lines_after, lines_of, message_of, transaction_by, transaction_from}
 use Rattle.tcap_search.specs.SegmentLists.{AreTransactions}
 use Rattle.std.proofs.lemmas.Option.{get_or_from_slice_get, slice_get-map, slice_get_read, none-some, same_Some}
 
 -- ---- one more entry
 
 pub lines_push : (earlier : List Line) (es : List Entry) (e : Entry)
-    → lines_behind earlier (es ++ e ∷ []) ≡ lines_behind earlier es ++ line_behind (lines_behind earlier es) e ∷ []
+    → lines_after earlier (es ++ e ∷ []) ≡ lines_after earlier es ++ line_after (lines_after earlier es) e ∷ []
 lines_push earlier [] e = refl
-lines_push earlier (f ∷ es) e = lines_push (earlier ++ line_behind earlier f ∷ []) es e
+lines_push earlier (f ∷ es) e = lines_push (earlier ++ line_after earlier f ∷ []) es e
 
 pub lines_more : (es : List Entry) (i : ℕ) (e : Entry) → i < length es → e ≡ get_or es i e
-    → lines_of (take (i + 1) es) ≡ lines_of (take i es) ++ line_behind (lines_of (take i es)) e ∷ []
+    → lines_of (take (i + 1) es) ≡ lines_of (take i es) ++ line_after (lines_of (take i es)) e ∷ []
 lines_more es i e below is =
     ap lines_of (take_more es i e below)
     ∙ (ap (λ (d : Entry). lines_of (take i es ++ d ∷ [])) (sym is) ∙ lines_push [] (take i es) e)
@@ -32,12 +32,12 @@ reverse_push xs x = reverse-append xs (x ∷ [])
 -- ---- their number
 
 pub count_behind : (earlier : List Line) (es : List Entry)
-    → length (lines_behind earlier es) ≡ length earlier + length es
+    → length (lines_after earlier es) ≡ length earlier + length es
 count_behind earlier [] = omega arith
 count_behind earlier (e ∷ es) =
-    let one : length (earlier ++ line_behind earlier e ∷ []) ≡ length earlier + 1 =
-    length_push earlier (line_behind earlier e) in
-    let rest = count_behind (earlier ++ line_behind earlier e ∷ []) es in
+    let one : length (earlier ++ line_after earlier e ∷ []) ≡ length earlier + 1 =
+    length_push earlier (line_after earlier e) in
+    let rest = count_behind (earlier ++ line_after earlier e ∷ []) es in
     omega arith
 
 pub count_lines : (es : List Entry) → length (lines_of es) ≡ length es
@@ -58,34 +58,34 @@ get_pushed [] x = refl
 get_pushed (y ∷ xs) x = get_pushed xs x
 
 kept_line : (earlier : List Line) (es : List Entry) (k : ℕ) → k < length earlier
-    → slice_get (lines_behind earlier es) k ≡ slice_get earlier k
+    → slice_get (lines_after earlier es) k ≡ slice_get earlier k
 kept_line earlier [] k below = refl
 kept_line earlier (e ∷ es) k below =
-    let one : length (earlier ++ line_behind earlier e ∷ []) ≡ length earlier + 1 =
-    length_push earlier (line_behind earlier e) in
-    kept_line (earlier ++ line_behind earlier e ∷ []) es k (omega arith)
-    ∙ get_push earlier (line_behind earlier e) k below
+    let one : length (earlier ++ line_after earlier e ∷ []) ≡ length earlier + 1 =
+    length_push earlier (line_after earlier e) in
+    kept_line (earlier ++ line_after earlier e ∷ []) es k (omega arith)
+    ∙ get_push earlier (line_after earlier e) k below
 
 line_from : (earlier : List Line) (es : List Entry) (i : ℕ) (e : Entry) → slice_get es i ≡ Some e
-    → slice_get (lines_behind earlier es) (length earlier + i) ≡ Some (line_behind (lines_behind earlier (take i es)) e)
+    → slice_get (lines_after earlier es) (length earlier + i) ≡ Some (line_after (lines_after earlier (take i es)) e)
 line_from earlier [] i e is = cc
 line_from earlier (f ∷ es) zero e is =
-    let one : length (earlier ++ line_behind earlier f ∷ []) ≡ length earlier + 1 =
-    length_push earlier (line_behind earlier f) in
+    let one : length (earlier ++ line_after earlier f ∷ []) ≡ length earlier + 1 =
+    length_push earlier (line_after earlier f) in
     let here : length earlier + 0 ≡ length earlier = omega arith in
     let same : f ≡ e = cc in
-    ap (slice_get (lines_behind (earlier ++ line_behind earlier f ∷ []) es)) here
-    ∙ (kept_line (earlier ++ line_behind earlier f ∷ []) es (length earlier) (omega arith)
-    ∙ (get_pushed earlier (line_behind earlier f) ∙ ap (λ (d : Entry). Some (line_behind earlier d)) same))
+    ap (slice_get (lines_after (earlier ++ line_after earlier f ∷ []) es)) here
+    ∙ (kept_line (earlier ++ line_after earlier f ∷ []) es (length earlier) (omega arith)
+    ∙ (get_pushed earlier (line_after earlier f) ∙ ap (λ (d : Entry). Some (line_after earlier d)) same))
 line_from earlier (f ∷ es) (suc i) e is =
-    let one : length (earlier ++ line_behind earlier f ∷ []) ≡ length earlier + 1 =
-    length_push earlier (line_behind earlier f) in
-    let here : length earlier + suc i ≡ length (earlier ++ line_behind earlier f ∷ []) + i = omega arith in
-    ap (slice_get (lines_behind (earlier ++ line_behind earlier f ∷ []) es)) here
-    ∙ line_from (earlier ++ line_behind earlier f ∷ []) es i e is
+    let one : length (earlier ++ line_after earlier f ∷ []) ≡ length earlier + 1 =
+    length_push earlier (line_after earlier f) in
+    let here : length earlier + suc i ≡ length (earlier ++ line_after earlier f ∷ []) + i = omega arith in
+    ap (slice_get (lines_after (earlier ++ line_after earlier f ∷ []) es)) here
+    ∙ line_from (earlier ++ line_after earlier f ∷ []) es i e is
 
 pub entry_line : (es : List Entry) (i : ℕ) (e : Entry) → slice_get es i ≡ Some e
-    → slice_get (lines_of es) i ≡ Some (line_behind (lines_of (take i es)) e)
+    → slice_get (lines_of es) i ≡ Some (line_after (lines_of (take i es)) e)
 entry_line es i e is =
     let here : i ≡ 0 + i = omega arith in
     ap (slice_get (lines_of es)) here ∙ line_from [] es i e is
@@ -134,9 +134,9 @@ abbrev IsNumber : ℕ → Option ℕ → Type 0
 IsNumber count None = Unit {0}
 IsNumber count (Some transaction) = transaction < count
 
-number_behind : (count : ℕ) (earlier : List Line) (e : Entry) (message : Option Message) → length earlier < count
+number_after : (count : ℕ) (earlier : List Line) (e : Entry) (message : Option Message) → length earlier < count
     → AllByRecursion (λ x. IsNumber count x.transaction) earlier → IsNumber count (transaction_by earlier e message)
-number_behind count earlier e message room all = by message
+number_after count earlier e message room all = by message
   where
     found : (o : Option Line) → IfSome o (λ x. IsNumber count x.transaction)
         → IsNumber count (elim o as (λ o. Option ℕ) [ None ↦ None | Some x ↦ x.transaction ])
@@ -159,14 +159,14 @@ number_behind count earlier e message room all = by message
 
 numbers_behind : (count : ℕ) (earlier : List Line) (es : List Entry) → length earlier + length es ≤ count
     → AllByRecursion (λ x. IsNumber count x.transaction) earlier
-    → AllByRecursion (λ x. IsNumber count x.transaction) (lines_behind earlier es)
+    → AllByRecursion (λ x. IsNumber count x.transaction) (lines_after earlier es)
 numbers_behind count earlier [] room all = all
 numbers_behind count earlier (e ∷ es) room all =
-    let one : length (earlier ++ line_behind earlier e ∷ []) ≡ length earlier + 1 =
-    length_push earlier (line_behind earlier e) in
-    numbers_behind count (earlier ++ line_behind earlier e ∷ []) es (omega arith)
-    (all_more (λ (x : Line). IsNumber count x.transaction) earlier (line_behind earlier e) all
-    (number_behind count earlier e (message_of e) (omega arith) all))
+    let one : length (earlier ++ line_after earlier e ∷ []) ≡ length earlier + 1 =
+    length_push earlier (line_after earlier e) in
+    numbers_behind count (earlier ++ line_after earlier e ∷ []) es (omega arith)
+    (all_more (λ (x : Line). IsNumber count x.transaction) earlier (line_after earlier e) all
+    (number_after count earlier e (message_of e) (omega arith) all))
 
 pub transaction_below : (es : List Entry) (k : ℕ) (x : Line) (transaction : ℕ) → slice_get (lines_of es) k ≡ Some x
     → x.transaction ≡ Some transaction → transaction < length es
@@ -184,10 +184,10 @@ count_transactions entries transactions are =
 
 pub transaction_is : (entries : List Entry) (transactions : List (Option ℕ)) (i : ℕ) (e : Entry)
     → AreTransactions entries transactions → i < length entries → e ≡ get_or entries i e
-    → get_or transactions i None ≡ (line_behind (lines_of (take i entries)) e).transaction
+    → get_or transactions i None ≡ (line_after (lines_of (take i entries)) e).transaction
 transaction_is entries transactions i e are below read =
     let there = entry_line entries i e (slice_get_read entries (length entries) i e refl below read) in
-    get_or_from_slice_get transactions i (line_behind (lines_of (take i entries)) e).transaction None
+    get_or_from_slice_get transactions i (line_after (lines_of (take i entries)) e).transaction None
     (ap (λ (ts : List (Option ℕ)). slice_get ts i) are
     ∙ (slice_get-map (λ (x : Line). x.transaction) (lines_of entries) i
     ∙ ap (option_map (λ (x : Line). x.transaction)) there))
@@ -196,11 +196,11 @@ transaction_is entries transactions i e are below read =
 
 -- the entries of the lines
 lines_entries : (earlier : List Line) (entries : List Entry)
-    → map (λ x. x.entry) (lines_behind earlier entries) ≡ map (λ x. x.entry) earlier ++ entries
+    → map (λ x. x.entry) (lines_after earlier entries) ≡ map (λ x. x.entry) earlier ++ entries
 lines_entries earlier [] = sym (append-nil (map (λ x. x.entry) earlier))
 lines_entries earlier (e ∷ entries) =
-    lines_entries (earlier ++ line_behind earlier e ∷ []) entries
-    ∙ ap (λ es. es ++ entries) (map-append (λ x. x.entry) earlier (line_behind earlier e ∷ []))
+    lines_entries (earlier ++ line_after earlier e ∷ []) entries
+    ∙ ap (λ es. es ++ entries) (map-append (λ x. x.entry) earlier (line_after earlier e ∷ []))
     ∙ append_assoc (map (λ x. x.entry) earlier) (e ∷ []) entries
 
 pub entries_of_lines : (entries : List Entry) → map (λ x. x.entry) (lines_of entries) ≡ entries
@@ -219,11 +219,11 @@ numbered_more n [] x are is = (omega arith, tt)
 numbered_more n (y ∷ lines) x are is = (are.0, numbered_more (n + 1) lines x are.1 (omega arith))
 
 numbered_behind : (earlier : List Line) (entries : List Entry) → AreNumbered 0 earlier
-    → AreNumbered 0 (lines_behind earlier entries)
+    → AreNumbered 0 (lines_after earlier entries)
 numbered_behind earlier [] are = are
 numbered_behind earlier (e ∷ entries) are =
-    numbered_behind (earlier ++ line_behind earlier e ∷ []) entries
-    (numbered_more 0 earlier (line_behind earlier e) are (omega arith))
+    numbered_behind (earlier ++ line_after earlier e ∷ []) entries
+    (numbered_more 0 earlier (line_after earlier e) are (omega arith))
 
 -- The lines of entries are numbered from 0.
 pub lines_numbered : (entries : List Entry) → AreNumbered 0 (lines_of entries)

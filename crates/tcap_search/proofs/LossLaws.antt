@@ -14,7 +14,7 @@ use Rattle.tcap_record.specs.Ends.{is_entry_of}
 use Rattle.tcap_search.specs.ProposedCertificate.{Fated, all_fated, fate_before, fate_of, fated, first_fates, is_gap, is_overtaken, ties_of, with_losses, without_unanswered}
 use Rattle.tcap_search.specs.declared.tie.Tie.{Tie}
 use Rattle.tcap_search.specs.SegmentLists.{AreFates, AreTies}
-use Rattle.tcap_search.specs.Fates.{fate_behind_least, least_time, sooner}
+use Rattle.tcap_search.specs.Fates.{fate_after_least, least_time, sooner}
 use Rattle.tcap_search.proofs.LineLaws.{count_lines}
 use Rattle.tcap_search.proofs.TestLaws.{one_end, one_end_none, or_false}
 use Rattle.std.proofs.lemmas.Bool.{ltb-false, or_parts}
@@ -55,7 +55,7 @@ least_so_far later (Some side) = least_time side later
 
 -- The least time gives the fate after losses.
 pub fate_before_is : (later : List Fated) (x : Fated)
-    → fate_before later x ≡ fate_behind_least x.line.entry x.fate (least_so_far later x.line.entry.side)
+    → fate_before later x ≡ fate_after_least x.line.entry x.fate (least_so_far later x.line.entry.side)
 fate_before_is later x =
     ap (λ (b : Bool). cond (is_gap x.fate && is_some (message_of x.line.entry) && b) Lost x.fate)
     (by x.line.entry.side refl)

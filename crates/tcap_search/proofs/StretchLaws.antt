@@ -8,7 +8,7 @@ use Rattle.std.proofs.Math.Seq.{drop-nil, take-length}
 use Rattle.tcap_record.specs.declared.entry.End.{End as Side}
 use Rattle.tcap_record.specs.declared.entry.Entry.{Entry}
 use Rattle.tcap_certificate.specs.Certificate.{Certificate}
-use Rattle.tcap_search.specs.ProposedCertificate.{behind, fate_behind, is_mark, of_mark, of_segment, of_segments, segments, then_certificate, with_entry, proposed_by}
+use Rattle.tcap_search.specs.ProposedCertificate.{behind, fate_after, is_mark, of_mark, of_segment, of_segments, segments, then_certificate, with_entry, proposed_by}
 use Rattle.tcap_search.proofs.LimitLaws.{count_of_segment}
 
 abbrev pub has_mark : List Entry → Bool
@@ -197,9 +197,9 @@ module _ (judged : Option Side) where
       → length ((then_certificate found (behind first (of_segment judged marked segment))).fates)
       ≡ length found.fates + length segment
   with_count marked found first segment =
-      length-append found.fates (map (fate_behind first) ((of_segment judged marked segment).fates))
+      length-append found.fates (map (fate_after first) ((of_segment judged marked segment).fates))
       ∙ ap (λ n. length found.fates + n)
-      (length-map ((of_segment judged marked segment).fates) (fate_behind first)
+      (length-map ((of_segment judged marked segment).fates) (fate_after first)
       ∙ count_of_segment judged marked segment)
 
   pub count_ends : (entries : List Entry) (found : Certificate) (first : ℕ) → first ≤ length entries

@@ -18,7 +18,7 @@ use Rattle.tcap_model.specs.World.{is_side}
 use Rattle.tcap_search.specs.declared.candidates.Candidates.{Candidates}
 use Rattle.tcap_search.specs.declared.tie.Tie.{Tie}
 use Rattle.tcap_search.specs.Candidates.{AreUntied, answered_by, answered_of, asks, asks_by, candidates_at, is_candidate, newest_of, top, under_top, untied, without}
-use Rattle.tcap_search.specs.SegmentEntries.{Line, is_from, line_behind, lines_of, message_of}
+use Rattle.tcap_search.specs.SegmentEntries.{Line, is_from, line_after, lines_of, message_of}
 use Rattle.tcap_search.specs.ProposedCertificate.{answered_line, is_answered_by, is_tied, ties_from, ties_of, with_tie, with_tie_by}
 use Rattle.tcap_search.proofs.LineLaws.{count_taken, last_none, lines_more, reverse_push}
 use Rattle.tcap_search.proofs.UntiedLaws.{AreBelow, Falls, are_below, falls_of, first_holds, first_passes, is_left, last_reversed, left, left_others, left_popped, top_of}
@@ -309,7 +309,7 @@ collected_more entries i old new e below is so_far pushed = record {
     lines = reverse (lines_of (take i entries))
 
     x : Line
-    x = line_behind (lines_of (take i entries)) e
+    x = line_after (lines_of (take i entries)) e
 
     by : (side : Side) (id : List ℕ) (cause : ℕ) (b : Bool)
         → cond b (x.number ∷ untied side id cause [] lines) (untied side id cause [] lines)
@@ -346,7 +346,7 @@ tied_more entries i old dropped new ties more e answered below is so_far drops h
     lines = reverse (lines_of (take i entries))
 
     x : Line
-    x = line_behind (lines_of (take i entries)) e
+    x = line_after (lines_of (take i entries)) e
 
     number : x.number ≡ i
     number = count_taken entries i (omega arith)

@@ -15,7 +15,7 @@ use Rattle.std.specs.List.{AllByRecursion, list_any}
 use Rattle.std.proofs.lemmas.Bool.{and_right, eq-eqb, ne_eqb, or_parts}
 use Rattle.tcap_record.specs.declared.entry.Entry.{Entry}
 use Rattle.tcap_search.specs.declared.tie.Tie.{Tie}
-use Rattle.tcap_search.specs.SegmentEntries.{Line, last, line_behind, lines_behind, lines_of, message_of}
+use Rattle.tcap_search.specs.SegmentEntries.{Line, last, line_after, lines_after, lines_of, message_of}
 use Rattle.tcap_search.specs.ProposedCertificate.{is_tied, is_provider_abort, ties_from, with_tie_by}
 use Rattle.std.proofs.lemmas.List.Folds.{list_any-append}
 use Rattle.tcap_msg.specs.declared.message.AbortReason.TheVariants as reasons
@@ -96,11 +96,11 @@ Falls [] = Unit {0}
 Falls (x ∷ lines) = (x.number ≡ length lines) × Falls lines
 
 falls_behind : (earlier : List Line) (es : List Entry) → Falls (reverse earlier)
-    → Falls (reverse (lines_behind earlier es))
+    → Falls (reverse (lines_after earlier es))
 falls_behind earlier [] falls = falls
 falls_behind earlier (e ∷ es) falls =
-    falls_behind (earlier ++ line_behind earlier e ∷ []) es
-    (rw (reverse_push earlier (line_behind earlier e)) (sym (length-reverse earlier), falls))
+    falls_behind (earlier ++ line_after earlier e ∷ []) es
+    (rw (reverse_push earlier (line_after earlier e)) (sym (length-reverse earlier), falls))
 
 pub falls_of : (es : List Entry) → Falls (reverse (lines_of es))
 falls_of es = falls_behind [] es tt

@@ -12,7 +12,7 @@ use Rattle.tcap_certificate.specs.Replay.{is_later, time_of}
 use Rattle.tcap_search.specs.declared.end_values.PerEnd.{PerEnd}
 use Rattle.tcap_search.specs.declared.tie.Tie.{Tie}
 use Rattle.tcap_search.specs.SegmentEntries.{Line, last, message_of}
-use Rattle.tcap_search.specs.ProposedCertificate.{Fated, gap_behind_reply, holds_back, is_gap, reply_of}
+use Rattle.tcap_search.specs.ProposedCertificate.{Fated, gap_after_reply, holds_back, is_gap, reply_of}
 use Rattle.tcap_search.specs.EndValues.{at_end}
 
 -- ---- the last entry of each end in each transaction
@@ -27,17 +27,17 @@ abbrev pub is_line_of : Side → ℕ → Line → Bool
 is_line_of side transaction x = is_of side transaction x.entry x.transaction
 
 -- the gap after a line, or 0 if there is none
-abbrev pub gap_behind_line : Option Line → ℕ
-gap_behind_line None = 0
-gap_behind_line (Some x) = x.number + 1
+abbrev pub gap_after_line : Option Line → ℕ
+gap_after_line None = 0
+gap_after_line (Some x) = x.number + 1
 
 -- whether a line is from this end and in this transaction, and holds back an End or an Abort to its end
 abbrev pub holds_back_in : Option Side → Side → ℕ → Line → Bool
 holds_back_in judged side transaction x = holds_back judged (message_of x.entry) && is_line_of side transaction x
 
 -- the gap after the last of these lines that holds back, or 0 if there is none
-abbrev pub gap_behind_last : Option Side → Side → ℕ → List Line → ℕ
-gap_behind_last judged side transaction lines = gap_behind_line (last (holds_back_in judged side transaction) lines)
+abbrev pub gap_after_last : Option Side → Side → ℕ → List Line → ℕ
+gap_after_last judged side transaction lines = gap_after_line (last (holds_back_in judged side transaction) lines)
 
 -- the gap kept for an end, or 0 if there is none
 abbrev pub gap_of_end : Side → Option (PerEnd ℕ) → ℕ
@@ -64,7 +64,7 @@ gap_raised raised (Some side) = at_end side raised
 abbrev pub highest : Side → List Line → List Tie → ℕ
 highest side [] ties = 0
 highest side (x ∷ lines) ties =
-    max (cond (is_entry_of side x.entry.side) (gap_behind_reply (reply_of ties x.number)) 0) (highest side lines ties)
+    max (cond (is_entry_of side x.entry.side) (gap_after_reply (reply_of ties x.number)) 0) (highest side lines ties)
 
 -- ---- first fates
 
@@ -105,5 +105,5 @@ time_kept least None = None
 time_kept least (Some side) = at_end side least
 
 -- A message is lost if it would be delivered after a later message of its end.
-abbrev pub fate_behind_least : Entry → Fate → Option ℕ → Fate
-fate_behind_least e fate least = cond (is_gap fate && is_some (message_of e) && is_later least (time_of fate)) Lost fate
+abbrev pub fate_after_least : Entry → Fate → Option ℕ → Fate
+fate_after_least e fate least = cond (is_gap fate && is_some (message_of e) && is_later least (time_of fate)) Lost fate

@@ -100,16 +100,16 @@ last_of_receiver judged lines x =
     lines
 
 -- the gap after the entry y, or after x itself if there is none
-abbrev pub gap_behind : Line → Option Line → ℕ
-gap_behind x None = x.number + 1
-gap_behind x (Some y) = y.number + 1
+abbrev pub gap_after : Line → Option Line → ℕ
+gap_after x None = x.number + 1
+gap_after x (Some y) = y.number + 1
 
 -- An End or an Abort is delivered after the last later entry of its receiver in the transaction, any other message at
 -- once.
 abbrev pub first_gap_by : Option Side → List Line → Line → Option Message → ℕ
 first_gap_by judged lines x (Some (EndMessage dtid dialogue components)) =
-    gap_behind x (last_of_receiver judged lines x)
-first_gap_by judged lines x (Some (Abort dtid reason)) = gap_behind x (last_of_receiver judged lines x)
+    gap_after x (last_of_receiver judged lines x)
+first_gap_by judged lines x (Some (Abort dtid reason)) = gap_after x (last_of_receiver judged lines x)
 first_gap_by judged lines x _ = x.number + 1
 
 -- the first gap in which the message of a line can be delivered, by its form
@@ -117,9 +117,9 @@ abbrev pub first_gap : Option Side → List Line → Line → ℕ
 first_gap judged lines x = first_gap_by judged lines x (message_of x.entry)
 
 -- the gap after a reply, or 0 if there is none
-abbrev pub gap_behind_reply : Option ℕ → ℕ
-gap_behind_reply None = 0
-gap_behind_reply (Some reply) = reply + 1
+abbrev pub gap_after_reply : Option ℕ → ℕ
+gap_after_reply None = 0
+gap_after_reply (Some reply) = reply + 1
 
 -- For each earlier entry of the same end that is tied to an Abort, the gap is raised to that after the Abort.
 abbrev pub raised : List Line → List Tie → Line → ℕ → ℕ
@@ -127,7 +127,7 @@ raised [] ties x gap = gap
 raised (y ∷ lines) ties x gap =
     raised lines ties x
     (cond (nat_lt y.number x.number && are_of_one_end x.entry y.entry)
-    (max gap (gap_behind_reply (reply_of ties y.number))) gap)
+    (max gap (gap_after_reply (reply_of ties y.number))) gap)
 
 -- A tied message is taken by its Abort. An entry that is no message has the gap after it, which no rule changes.
 abbrev pub fate_by : Option Side → List Line → List Tie → Line → Option ℕ → Option Message → Fate
@@ -421,25 +421,25 @@ abbrev pub of_segment : Option Side → Bool → List Entry → Certificate
 of_segment judged marked entries = of_lines judged marked (lines_of entries)
 
 -- the same parts if `first` entries come before the segment
-abbrev pub fate_behind : ℕ → Fate → Fate
-fate_behind first (Gap gap) = Gap (first + gap)
-fate_behind first (By reply) = By (first + reply)
-fate_behind first Lost = Lost
+abbrev pub fate_after : ℕ → Fate → Fate
+fate_after first (Gap gap) = Gap (first + gap)
+fate_after first (By reply) = By (first + reply)
+fate_after first Lost = Lost
 
 -- an expiry, if `first` entries come before the segment
-abbrev pub expiry_behind : ℕ → Expiry → Expiry
-expiry_behind first x = record x { gap = first + x.gap; entry = first + x.entry }
+abbrev pub expiry_after : ℕ → Expiry → Expiry
+expiry_after first x = record x { gap = first + x.gap; entry = first + x.entry }
 
 -- a closing, if `first` entries come before the segment
-abbrev pub closing_behind : ℕ → Closing → Closing
-closing_behind first x = record x { gap = first + x.gap; entry = first + x.entry }
+abbrev pub closing_after : ℕ → Closing → Closing
+closing_after first x = record x { gap = first + x.gap; entry = first + x.entry }
 
 -- a certificate, if `first` entries come before the segment
 abbrev pub behind : ℕ → Certificate → Certificate
 behind first c = record {
-  fates = map (fate_behind first) c.fates;
-  expire = map (expiry_behind first) c.expire;
-  close = map (closing_behind first) c.close;
+  fates = map (fate_after first) c.fates;
+  expire = map (expiry_after first) c.expire;
+  close = map (closing_after first) c.close;
 }
 
 -- one certificate, followed by another

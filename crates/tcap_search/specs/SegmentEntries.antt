@@ -79,21 +79,21 @@ transaction_by earlier e (Some (Begin otid dialogue components)) = Some (length 
 transaction_by earlier e (Some message) = transaction_from earlier e (dtid_in message)
 
 -- the line of an entry after the earlier lines
-abbrev pub line_behind : List Line → Entry → Line
-line_behind earlier e = record {
+abbrev pub line_after : List Line → Entry → Line
+line_after earlier e = record {
   number = length earlier;
   entry = e;
   transaction = transaction_by earlier e (message_of e);
 }
 
 -- the lines of these entries after the earlier lines
-abbrev pub lines_behind : List Line → List Entry → List Line
-lines_behind earlier [] = earlier
-lines_behind earlier (e ∷ entries) = lines_behind (earlier ++ line_behind earlier e ∷ []) entries
+abbrev pub lines_after : List Line → List Entry → List Line
+lines_after earlier [] = earlier
+lines_after earlier (e ∷ entries) = lines_after (earlier ++ line_after earlier e ∷ []) entries
 
 -- the lines of the entries of a segment
 abbrev pub lines_of : List Entry → List Line
-lines_of entries = lines_behind [] entries
+lines_of entries = lines_after [] entries
 
 -- whether two lines are in the same transaction
 abbrev pub share_transaction : Line → Line → Bool

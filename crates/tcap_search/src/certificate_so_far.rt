@@ -5,7 +5,7 @@ ghost use Rattle.std.specs.List.{AllByRecursion};
 ghost use Rattle.tcap_record.specs.declared.entry.End.{End as Side};
 ghost use Rattle.tcap_certificate.specs.Certificate.{ClosingFits, ExpiryFits, FateFits};
 ghost use Rattle.tcap_search.specs.SegmentEntries.{lines_of};
-ghost use Rattle.tcap_search.specs.ProposedCertificate.{behind, closing_behind, expiry_behind, fate_behind, of_mark, of_segment, then_certificate};
+ghost use Rattle.tcap_search.specs.ProposedCertificate.{behind, closing_after, expiry_after, fate_after, of_mark, of_segment, then_certificate};
 ghost use Rattle.tcap_search.specs.CertificateSoFar.{FitsBehind, nothing_found, or_both};
 ghost use Rattle.tcap_search.specs.SegmentLists.{AreFates, AreTies, AreTransactions};
 
@@ -42,10 +42,10 @@ impl Model for PartialCertificate {
 }
 
 /// Returns a fate as it is if `first` entries come before the segment.
-fn fate_behind(first: u32, fate: Fate) -> Fate
+fn fate_after(first: u32, fate: Fate) -> Fate
     requires few { first ≤ 100000 }
     requires fits { FateFits fate }
-    ensures { result ≡ fate_behind first fate }
+    ensures { result ≡ fate_after first fate }
 {
     match fate {
         Fate::Gap(gap) => Fate::Gap(first + gap),
@@ -55,10 +55,10 @@ fn fate_behind(first: u32, fate: Fate) -> Fate
 }
 
 /// Returns an expiry as it is if `first` entries come before the segment.
-fn expiry_behind(first: u32, x: Expiry) -> Expiry
+fn expiry_after(first: u32, x: Expiry) -> Expiry
     requires few { first ≤ 100000 }
     requires fits { ExpiryFits x }
-    ensures { result ≡ expiry_behind first x }
+    ensures { result ≡ expiry_after first x }
 {
     Expiry {
         gap: first + x.gap,
@@ -69,10 +69,10 @@ fn expiry_behind(first: u32, x: Expiry) -> Expiry
 }
 
 /// Returns a closing as it is if `first` entries come before the segment.
-fn closing_behind(first: u32, x: Closing) -> Closing
+fn closing_after(first: u32, x: Closing) -> Closing
     requires few { first ≤ 100000 }
     requires fits { ClosingFits x }
-    ensures { result ≡ closing_behind first x }
+    ensures { result ≡ closing_after first x }
 {
     Closing {
         gap: first + x.gap,
@@ -85,10 +85,10 @@ fn closing_behind(first: u32, x: Closing) -> Closing
 fn add_fates(fates: &mut Vec<Fate>, first: u32, more: &[Fate]) -> Result<(), AllocError>
     requires few { first ≤ 100000 }
     requires fit { AllByRecursion FateFits more.now }
-    ensures { OnOk result (fates.new.items ≡ fates.old.items ++ map (fate_behind first) more.now) }
+    ensures { OnOk result (fates.new.items ≡ fates.old.items ++ map (fate_after first) more.now) }
 {
     for fate in more {
-        fates.push(fate_behind(first, *fate))?;
+        fates.push(fate_after(first, *fate))?;
     }
     Ok(())
 }
@@ -97,10 +97,10 @@ fn add_fates(fates: &mut Vec<Fate>, first: u32, more: &[Fate]) -> Result<(), All
 fn add_expiries(expire: &mut Vec<Expiry>, first: u32, more: &[Expiry]) -> Result<(), AllocError>
     requires few { first ≤ 100000 }
     requires fit { AllByRecursion ExpiryFits more.now }
-    ensures { OnOk result (expire.new.items ≡ expire.old.items ++ map (expiry_behind first) more.now) }
+    ensures { OnOk result (expire.new.items ≡ expire.old.items ++ map (expiry_after first) more.now) }
 {
     for x in more {
-        expire.push(expiry_behind(first, *x))?;
+        expire.push(expiry_after(first, *x))?;
     }
     Ok(())
 }
@@ -109,10 +109,10 @@ fn add_expiries(expire: &mut Vec<Expiry>, first: u32, more: &[Expiry]) -> Result
 fn add_closings(close: &mut Vec<Closing>, first: u32, more: &[Closing]) -> Result<(), AllocError>
     requires few { first ≤ 100000 }
     requires fit { AllByRecursion ClosingFits more.now }
-    ensures { OnOk result (close.new.items ≡ close.old.items ++ map (closing_behind first) more.now) }
+    ensures { OnOk result (close.new.items ≡ close.old.items ++ map (closing_after first) more.now) }
 {
     for x in more {
-        close.push(closing_behind(first, *x))?;
+        close.push(closing_after(first, *x))?;
     }
     Ok(())
 }
@@ -197,7 +197,7 @@ impl PartialCertificate {
     }
 
     /// Appends the certificate of a segment after `first` entries. Fails if memory runs out.
-    pub(crate) fn with_behind(
+    pub(crate) fn with_after(
         self,
         first: usize,
         segment: &PartialCertificate,
@@ -237,7 +237,7 @@ impl PartialCertificate {
             &transactions,
             &ties,
         )?;
-        self.with_behind(first, &segment)
+        self.with_after(first, &segment)
     }
 
     /// Appends the fate of a quiet mark with this number. Fails if memory runs out.

@@ -5,10 +5,10 @@ ghost use Rattle.tcap_record.specs.declared.entry.End.{End as Side};
 ghost use Rattle.tcap_certificate.specs.Replay.{time_of};
 ghost use Rattle.tcap_search.specs.SegmentEntries.{lines_of, message_of};
 ghost use Rattle.tcap_record.specs.Ends.{is_entry_of};
-ghost use Rattle.tcap_search.specs.ProposedCertificate.{fated, first_fates, gap_behind_reply, holds_back, is_provider_abort, reply_of, with_losses};
+ghost use Rattle.tcap_search.specs.ProposedCertificate.{fated, first_fates, gap_after_reply, holds_back, is_provider_abort, reply_of, with_losses};
 ghost use Rattle.tcap_search.specs.SegmentLists.{AreFates, AreTies, AreTransactions};
 ghost use Rattle.tcap_search.specs.EndValues.{at_end};
-ghost use Rattle.tcap_search.specs.Fates.{fate_behind_least, fate_from, gap_behind_last, gap_kept, gap_raised, is_of};
+ghost use Rattle.tcap_search.specs.Fates.{fate_after_least, fate_from, gap_after_last, gap_kept, gap_raised, is_of};
 ghost use Rattle.tcap_search.specs.Fates.{receiver_gap, sooner, time_kept};
 
 use crate::end_values::PerEnd;
@@ -99,7 +99,7 @@ fn last_gaps(
     requires few { length entries.now ≤ 100000 }
     requires transactions { AreTransactions entries.now transactions.now }
     ensures { IfOk result (λ gaps. (side : Side) (t : ℕ) → t < length entries.now
-        → gap_kept side t gaps.items ≡ gap_behind_last judged side t (lines_of entries.now)) }
+        → gap_kept side t gaps.items ≡ gap_after_last judged side t (lines_of entries.now)) }
 {
     let mut gaps = Vec::new(alloc);
     gaps.resize(entries.len(), PerEnd::both(0))?;
@@ -143,9 +143,9 @@ fn gap_raised(raised: &PerEnd<u32>, side: Option<End>) -> u32
 
 /// Raises the fates of later entries of an end to the gap after a reply.
 fn raise(raised: &mut PerEnd<u32>, side: Option<End>, reply: Option<u32>)
-    requires { gap_behind_reply reply < 2 ^ 32 }
+    requires { gap_after_reply reply < 2 ^ 32 }
     ensures { (s : Side) → at_end s raised.new
-        ≡ cond (is_entry_of s side) (max (at_end s raised.old) (gap_behind_reply reply)) (at_end s raised.old) }
+        ≡ cond (is_entry_of s side) (max (at_end s raised.old) (gap_after_reply reply)) (at_end s raised.old) }
 {
     if let (Some(side), Some(reply)) = (side, reply) {
         let gap = raised.get(side).max(reply + 1);
@@ -231,8 +231,8 @@ fn note_time(least: &mut PerEnd<Option<u64>>, side: Option<End>, fate: Fate)
 }
 
 /// Returns the fate of an entry: a loss if `least`, the least time of later entries of its end, is before its gap.
-fn fate_behind_least(entry: &Entry, fate: Fate, least: Option<u64>) -> Fate
-    ensures { result ≡ fate_behind_least entry.now fate least }
+fn fate_after_least(entry: &Entry, fate: Fate, least: Option<u64>) -> Fate
+    ensures { result ≡ fate_after_least entry.now fate least }
 {
     match (fate, &entry.body, least) {
         (Fate::Gap(gap), Body::Good(_), Some(time)) if time < 2 * u64::from(gap) => Fate::Lost,
@@ -248,7 +248,7 @@ fn lose_overtaken(entries: &[Entry], fates: &mut [Fate])
     let mut least = PerEnd::both(None);
     for number in (0..entries.len()).rev() {
         let entry = &entries[number];
-        let fate = fate_behind_least(entry, fates[number], time_kept(&least, entry.side));
+        let fate = fate_after_least(entry, fates[number], time_kept(&least, entry.side));
         fates[number] = fate;
         note_time(&mut least, entry.side, fate);
     }

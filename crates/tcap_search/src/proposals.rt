@@ -77,9 +77,9 @@ impl PartialCertificates {
         let a = both.of_end(alloc, End::A, marked, entries, &transactions, &ties)?;
         let b = both.of_end(alloc, End::B, marked, entries, &transactions, &ties)?;
         Ok(PartialCertificates {
-            a: self.a.with_behind(first, or_both(&both, &a))?,
-            b: self.b.with_behind(first, or_both(&both, &b))?,
-            both: self.both.with_behind(first, &both)?,
+            a: self.a.with_after(first, or_both(&both, &a))?,
+            b: self.b.with_after(first, or_both(&both, &b))?,
+            both: self.both.with_after(first, &both)?,
         })
     }
 

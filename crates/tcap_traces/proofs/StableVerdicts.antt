@@ -15,7 +15,7 @@ use Rattle.tcap_refute.specs.declared.kind.Refutation.{Refutation}
 use Rattle.std.specs.Option.{option_or}
 use Rattle.tcap_refute.specs.Kind.{refutation_at}
 use Rattle.tcap_refute.specs.EarlierMessages.{since_quiet}
-use Rattle.tcap_faults.specs.Fault.{blamed, blamed_behind, bad_entry_of, fault_since}
+use Rattle.tcap_faults.specs.Fault.{blamed, blamed_after, bad_entry_of, fault_since}
 use Rattle.tcap_books.specs.Book.{NamedTable}
 use Rattle.tcap_judge.specs.declared.findings.Finding.{Finding}
 use Rattle.tcap_judge.specs.declared.findings.Finding.TheVariants as findings
@@ -46,17 +46,17 @@ either None other r is = inr is
 either (Some x) other r is = inl is
 
 blamed_within : (table : Table) (side : Side) (items : List Item) (n : ℕ) (xs : List (Option Side × Result Item Reason)) (r : Refutation)
-    → blamed_behind table side items n xs ≡ Some r → r.entry < n + length xs
+    → blamed_after table side items n xs ≡ Some r → r.entry < n + length xs
 blamed_within table side items n [] r is = cc
 blamed_within table side items n ((sender, Err reason) ∷ xs) r is =
     let at = refutation_entry n (bad_entry_of side sender reason) r is in omega (at, arith)
 blamed_within table side items n ((sender, Ok item) ∷ xs) r is =
-    by (either (refutation_at n (fault_since table side (since_quiet items) item)) (blamed_behind table side (items ++ item ∷ []) (n + 1) xs) r is)
+    by (either (refutation_at n (fault_since table side (since_quiet items) item)) (blamed_after table side (items ++ item ∷ []) (n + 1) xs) r is)
     (blamed_within table side (items ++ item ∷ []) (n + 1) xs r)
   where
     by : (refutation_at n (fault_since table side (since_quiet items) item) ≡ Some r)
-        ⊎ (blamed_behind table side (items ++ item ∷ []) (n + 1) xs ≡ Some r)
-        → (blamed_behind table side (items ++ item ∷ []) (n + 1) xs ≡ Some r → r.entry < (n + 1) + length xs)
+        ⊎ (blamed_after table side (items ++ item ∷ []) (n + 1) xs ≡ Some r)
+        → (blamed_after table side (items ++ item ∷ []) (n + 1) xs ≡ Some r → r.entry < (n + 1) + length xs)
         → r.entry < n + length ((sender, Ok item) ∷ xs)
     by (inl here) rest = let at = refutation_entry n (fault_since table side (since_quiet items) item) r here in omega (at, arith)
     by (inr later) rest = let at = rest later in omega (at, arith)

@@ -53,7 +53,7 @@ unread_by notes g first =
 -- the dialogue of a case
 abbrev pub dialogue_in : Case → Dialogue
 dialogue_in case =
-    gathered_as case.gathered case.entries.items (after_of case.behind) case.under_way (is_some case.in_use) case.unread
+    gathered_as case.gathered case.entries.items (after_of case.next) case.under_way (is_some case.in_use) case.unread
 
 -- the number of the dialogue: that of its first entry in the trace
 abbrev pub number_of : Case → ℕ

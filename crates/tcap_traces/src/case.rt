@@ -106,7 +106,7 @@ pub struct Case {
     /// The number of entries of the trace before the segment.
     pub before: u64,
     /// The item after its entries.
-    pub behind: NextItem,
+    pub next: NextItem,
     /// The ID that suggests that it continues a dialogue from before the last quiet mark.
     pub in_use: Option<InUse>,
     /// The number in the segment of the first unreadable entry that may belong to it.
@@ -175,14 +175,14 @@ impl Case {
     pub fn is_cut(&self) -> bool
         ensures { result ≡ is_long (dialogue_in self.now) }
     {
-        self.entries.len() > MOST || (self.behind.is_mark() && self.entries.len() == MOST)
+        self.entries.len() > MOST || (self.next.is_mark() && self.entries.len() == MOST)
     }
 
     /// Returns whether a quiet mark comes after its entries.
     pub fn is_marked(&self) -> bool
         ensures { result ≡ is_marked (dialogue_in self.now).after }
     {
-        self.behind.is_mark()
+        self.next.is_mark()
     }
 
     /// Returns whether one of its entries carries an ID.
@@ -200,7 +200,7 @@ impl Case {
         if self.gathered.over.is_some() {
             return false;
         }
-        match (self.behind, table) {
+        match (self.next, table) {
             (NextItem::End, _) => true,
             (NextItem::Mark { .. }, Some(table)) => !table.table().prearranged(),
             (NextItem::Mark { .. }, None) => true,
@@ -213,7 +213,7 @@ impl Case {
     fn has_judged_mark(&self) -> bool
         ensures { result ≡ is_marked (dialogue_in self.now).after && nat_lt (length (dialogue_in self.now).entries) most }
     {
-        self.behind.is_mark() && self.entries.len() < MOST
+        self.next.is_mark() && self.entries.len() < MOST
     }
 
     /// Returns the entries that are judged. Fails if memory runs out.
@@ -316,7 +316,7 @@ impl Case {
         ensures { result ≡ may_go_on (dialogue_in self.now) }
     {
         self.in_use.is_some()
-            || (self.behind.is_mark() && self.has_sent(End::A) && self.has_sent(End::B))
+            || (self.next.is_mark() && self.has_sent(End::A) && self.has_sent(End::B))
     }
 
     /// Returns whether an end sent one of its entries.

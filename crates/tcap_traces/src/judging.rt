@@ -129,9 +129,9 @@ fn find_before(
         × IsFound sides.B table.now (take number read.old.entries.items) found.b) }
     ensures stays { OnOk result (read.new.entries.items ≡ read.old.entries.items) }
 {
-    let mut behind = read.entries.split_off(read.entries.len().min(number))?;
+    let mut later = read.entries.split_off(read.entries.len().min(number))?;
     let found = find_both(alloc, read, table)?;
-    read.entries.append(&mut behind)?;
+    read.entries.append(&mut later)?;
     Ok(found)
 }
 

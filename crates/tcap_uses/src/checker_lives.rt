@@ -11,7 +11,7 @@ use tcap_record::End;
 
 /// How many messages wait behind a quiet mark, none, and the certificate. It guards callers that move a certificate before all
 /// is dropped that had a checker over it: here, what `match` looks at is dropped behind the move.
-pub fn waits_behind_mark(
+pub fn waits_after_mark(
     alloc: Global,
     table: &Table,
     certificate: Certificate,
@@ -33,7 +33,7 @@ pub fn waits_behind_mark(
 }
 
 /// The same of a checker of one end.
-pub fn end_waits_behind_mark(
+pub fn end_waits_after_mark(
     alloc: Global,
     table: &Table,
     certificate: Certificate,

@@ -29,7 +29,7 @@ pub use ber::integer_content;
 pub use books::operation_name;
 pub use certificate_text::written_again;
 pub use check::count_steps;
-pub use checker_lives::{end_waits_behind_mark, given_of_mark, heard_of_mark, waits_behind_mark};
+pub use checker_lives::{end_waits_after_mark, given_of_mark, heard_of_mark, waits_after_mark};
 pub use command_line::status_of_words;
 pub use diagnostics::explained;
 pub use dialogues::fault_of_a_part;

@@ -17,7 +17,7 @@ use Rattle.tcap_check.specs.declared.progress.Progress.{Progress}
 use Rattle.tcap_model.specs.Run.{Expires, Sends, Event, Replies}
 use Rattle.tcap_certificate.specs.DescribedRun.{invoke_id, invoking_half}
 use Rattle.tcap_check.specs.GivenRun.{IsInUse}
-use Rattle.tcap_check.specs.Progress.{ids_ended, ids_ended_over, or_still, seat_at, send_kept, sent_by, sent_or_not, with_seat_end, IsAsMany, end_tried, moved, with_waiting, first_answered, first_may_be_answered, invoked_ended}
+use Rattle.tcap_check.specs.Progress.{ids_ended, ids_ended_over, or_still, side_at, send_kept, sent_by, sent_or_not, with_side_end, IsAsMany, end_tried, moved, with_waiting, first_answered, first_may_be_answered, invoked_ended}
 use Rattle.tcap_check.proofs.described_run_laws.ExpiryLaws.{ends_in_use}
 use Rattle.tcap_check.proofs.described_run_laws.ImpliedLaws.{sent_frees}
 use Rattle.tcap_parts.specs.declared.component.Component.{Component}
@@ -29,20 +29,20 @@ use Rattle.tcap_certificate.specs.Replay.{fault_at}
 
 -- IDs that are not in use expire nothing.
 none_end : (table : Table) (side : Side) (name : HalfName) (ids : List ℤ) (p : Progress)
-    → ((id : ℤ) → Contains ids id → IsInUse (seat_at side p).end name id → ⊥) → ids_ended table side name ids p ≡ p
+    → ((id : ℤ) → Contains ids id → IsInUse (side_at side p).end name id → ⊥) → ids_ended table side name ids p ≡ p
 none_end table side name [] p free = refl
 none_end table side name (x ∷ ids) p free =
-    by (expire table (seat_at side p).end name x) refl
+    by (expire table (side_at side p).end name x) refl
     (none_end table side name ids p (λ id there. free id (Contains-append_right (x ∷ []) ids id there)))
   where
-    by : (o : Result End EndFault) → expire table (seat_at side p).end name x ≡ o → ids_ended table side name ids p ≡ p
-        → ids_ended table side name ids (or_still side (Expires side name x) p (expire table (seat_at side p).end name x)) ≡ p
-    by (Ok e) is rest = absurd (free x (0, omega arith, refl) (ends_in_use table (seat_at side p).end name x e is))
+    by : (o : Result End EndFault) → expire table (side_at side p).end name x ≡ o → ids_ended table side name ids p ≡ p
+        → ids_ended table side name ids (or_still side (Expires side name x) p (expire table (side_at side p).end name x)) ≡ p
+    by (Ok e) is rest = absurd (free x (0, omega arith, refl) (ends_in_use table (side_at side p).end name x e is))
     by (Err reason) is rest = rw is rest
 
 -- The IDs of a message that can be sent expire nothing.
 pub nothing_ends : (table : Table) (side : Side) (message : Message) (p : Progress) (next : End)
-    → send table (seat_at side p).end message ≡ Ok next
+    → send table (side_at side p).end message ≡ Ok next
     → ids_ended_over table side (invoking_half message) (filter_map invoke_id (components_in message)) p ≡ p
 nothing_ends table side message p next is = by (invoking_half message) refl
   where
@@ -51,14 +51,14 @@ nothing_ends table side message p next is = by (invoking_half message) refl
     by None over = refl
     by (Some name) over =
         none_end table side name (filter_map invoke_id (components_in message)) p
-        (λ id there. sent_frees table (seat_at side p).end next message name id is over there)
+        (λ id there. sent_frees table (side_at side p).end next message name id is over there)
 
 -- The message is sent without expiries.
 pub sends_as_is : (table : Table) (side : Side) (fate : Fate) (number : ℕ) (message : Message) (p : Progress) (next : End)
-    → send table (seat_at side p).end message ≡ Ok next
-    → send_kept table side fate number message p ≡ Ok (sent_by (Sends side message) side fate number message (with_seat_end side next p))
+    → send table (side_at side p).end message ≡ Ok next
+    → send_kept table side fate number message p ≡ Ok (sent_by (Sends side message) side fate number message (with_side_end side next p))
 sends_as_is table side fate number message p next is =
-    ap (λ (before : Progress). sent_or_not side fate number message before (send table (seat_at side before).end message))
+    ap (λ (before : Progress). sent_or_not side fate number message before (send table (side_at side before).end message))
     (nothing_ends table side message p next is)
     ∙ ap (sent_or_not side fate number message p) is
 
@@ -95,21 +95,21 @@ pub ends_all : (table : Table) (side : Side) (half : Option HalfName) (all : Lis
 ends_all table side half all start = record { same = refl; room = omega arith; still = (refl, refl) }
 
 tried : (table : Table) (side : Side) (name : HalfName) (id : ℤ) (p : Progress) → (end_tried table side name id p).moves ≤ p.moves + 1
-tried table side name id p = by (expire table (seat_at side p).end name id)
+tried table side name id p = by (expire table (side_at side p).end name id)
   where
     event : Event
     event = Expires side name id
 
-    sides_moves : (side : Side) (e : End) → (moved event (with_seat_end side e p)).moves ≡ p.moves + 1
+    sides_moves : (side : Side) (e : End) → (moved event (with_side_end side e p)).moves ≡ p.moves + 1
     sides_moves sides.A e = refl
     sides_moves sides.B e = refl
 
     by : (o : Result End EndFault) → (or_still side event p o).moves ≤ p.moves + 1
-    by (Ok e) = let is : (moved event (with_seat_end side e p)).moves ≡ p.moves + 1 = sides_moves side e in omega (arith, is)
+    by (Ok e) = let is : (moved event (with_side_end side e p)).moves ≡ p.moves + 1 = sides_moves side e in omega (arith, is)
     by (Err reason) = omega arith
 
 tried_still : (table : Table) (side : Side) (name : HalfName) (id : ℤ) (p : Progress) → IsAsMany p (end_tried table side name id p)
-tried_still table side name id p = by side (expire table (seat_at side p).end name id)
+tried_still table side name id p = by side (expire table (side_at side p).end name id)
   where
     event : Event
     event = Expires side name id

@@ -35,18 +35,18 @@ use Rattle.tcap_check.proofs.one_end_lemmas.AloneCounts.{own_keeps, own_most, un
 -- ---- messages that are left
 
 -- Fates in range come after their entries.
-fits_behind : (count n i : ℕ) (f : Fate) (fates : List Fate) → FatesFit count n fates → slice_get fates i ≡ Some f
+fits_after : (count n i : ℕ) (f : Fate) (fates : List Fate) → FatesFit count n fates → slice_get fates i ≡ Some f
     → ((g : ℕ) → f ≡ Gap g → n + i < g) × ((k : ℕ) → f ≡ By k → n + i < k)
-fits_behind count n i f [] fit at = cc
-fits_behind count n zero f (first ∷ fates) fit at = by first fit (cc)
+fits_after count n i f [] fit at = cc
+fits_after count n zero f (first ∷ fates) fit at = by first fit (cc)
   where
     by : (first : Fate) → FatesFit count n (first ∷ fates) → f ≡ first
         → ((g : ℕ) → f ≡ Gap g → n + 0 < g) × ((k : ℕ) → f ≡ By k → n + 0 < k)
     by (Gap h) fit same = (λ g is. let e : h ≡ g = cc in omega (arith, fit.0, e), λ k is. cc)
     by (By h) fit same = (λ g is. cc, λ k is. let e : h ≡ k = cc in omega (arith, fit.0, e))
     by Lost fit same = (λ g is. cc, λ k is. cc)
-fits_behind count n (suc i) f (first ∷ fates) fit at =
-    let rest = fits_behind count (n + 1) i f fates (by first fit) at in
+fits_after count n (suc i) f (first ∷ fates) fit at =
+    let rest = fits_after count (n + 1) i f fates (by first fit) at in
     (λ g is. omega (arith, rest.0 g is), λ k is. omega (arith, rest.1 k is))
   where
     by : (first : Fate) → FatesFit count n (first ∷ fates) → FatesFit count (n + 1) fates
@@ -102,11 +102,11 @@ left_is_lost side table c r fit count runs taken =
     by m was there None at = absurd (absent m was at)
     by m was there (Some Lost) at = ap says_lost at
     by m was there (Some (Gap g)) at =
-        let low = (fits_behind (length c.fates) 0 m.number (Gap g) c.fates fit at).0 g refl in
+        let low = (fits_after (length c.fates) 0 m.number (Gap g) c.fates fit at).0 g refl in
         let high = fits_gap (length c.fates) 0 c.fates m.number g fit at in
         absurd (apart m there (taken m (Gap g) at (omega (arith, low), omega arith, high) was))
     by m was there (Some (By k)) at =
-        let low = (fits_behind (length c.fates) 0 m.number (By k) c.fates fit at).1 k refl in
+        let low = (fits_after (length c.fates) 0 m.number (By k) c.fates fit at).1 k refl in
         let high = fits_reply (length c.fates) 0 c.fates m.number k fit at in
         absurd (apart m there (taken m (By k) at (omega (arith, low), omega arith, high) was))
 

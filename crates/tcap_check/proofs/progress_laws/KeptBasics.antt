@@ -18,7 +18,7 @@ use Rattle.tcap_model.specs.Run.{Event, Loses, numbers_of}
 use Rattle.tcap_certificate.specs.Certificate.{Certificate}
 use Rattle.tcap_certificate.specs.Replay.{Replay, all_lost_from, if_lost, is_received_from, losing, lost_front, lost_from_front, lost_last, with_step}
 use Rattle.tcap_certificate.specs.LossCounts.{is_lost_from}
-use Rattle.tcap_check.specs.Progress.{discard_listed, front_lost, last_lost, losing_kept, lost_counted, loss_listed, moved, seat_at, with_seat_end, with_waiting}
+use Rattle.tcap_check.specs.Progress.{discard_listed, front_lost, last_lost, losing_kept, lost_counted, loss_listed, moved, side_at, with_side_end, with_waiting}
 use Rattle.tcap_check.specs.ReplaySteps.{sent_lost}
 use Rattle.tcap_check.specs.CheckerMeaning.{fate_of, is_alone, kept_by, map_ok, progress_of, reported, waiting_at}
 use Rattle.tcap_check.specs.ReportedSteps.{ListedRun, with_one_discard, with_events, listed_run_if}
@@ -107,9 +107,9 @@ discard_counts listing judged side number reason events discards p =
 -- A step that changes only an end.
 pub end_step_is : (listing : Bool) (judged : Option Side) (c : Certificate) (event : Event) (side : Side) (e : End) (r : Replay)
     → ((at : Side) → is_lost_from at event ≡ false)
-    → progress_of listing judged c (with_step event r (with_end side e r.world)) ≡ moved event (with_seat_end side e (progress_of listing judged c r))
-end_step_is listing judged c event sides.A e r none = moved_counts listing judged r.events r.discards event (with_seat_end sides.A e (progress_of listing judged c r)) none
-end_step_is listing judged c event sides.B e r none = moved_counts listing judged r.events r.discards event (with_seat_end sides.B e (progress_of listing judged c r)) none
+    → progress_of listing judged c (with_step event r (with_end side e r.world)) ≡ moved event (with_side_end side e (progress_of listing judged c r))
+end_step_is listing judged c event sides.A e r none = moved_counts listing judged r.events r.discards event (with_side_end sides.A e (progress_of listing judged c r)) none
+end_step_is listing judged c event sides.B e r none = moved_counts listing judged r.events r.discards event (with_side_end sides.B e (progress_of listing judged c r)) none
 
 -- The replay after a discard, which changes only the events and the discards.
 abbrev pub discarding : Side → ℕ → EndFault → Replay → Replay
@@ -127,19 +127,19 @@ discard_step_is listing judged c side number reason r =
 
 pub end_put : (listing : Bool) (judged : Option Side) (c : Certificate) (side : Side) (e : End) (r : Replay)
     → (let x : Replay = record { events = r.events; discards = r.discards; world = with_end side e r.world } in progress_of listing judged c x)
-    ≡ with_seat_end side e (progress_of listing judged c r)
+    ≡ with_side_end side e (progress_of listing judged c r)
 end_put listing judged c sides.A e r = refl
 end_put listing judged c sides.B e r = refl
 
 -- ---- messages on their way
 
 pub end_kept : (listing : Bool) (judged : Option Side) (c : Certificate) (side : Side) (r : Replay)
-    → (seat_at side (progress_of listing judged c r)).end ≡ end_at side r.world
+    → (side_at side (progress_of listing judged c r)).end ≡ end_at side r.world
 end_kept listing judged c sides.A r = refl
 end_kept listing judged c sides.B r = refl
 
 pub waiting_kept : (listing : Bool) (judged : Option Side) (c : Certificate) (side : Side) (r : Replay)
-    → (seat_at side (progress_of listing judged c r)).waiting ≡ waiting_at judged side c.fates (channel_from side r.world)
+    → (side_at side (progress_of listing judged c r)).waiting ≡ waiting_at judged side c.fates (channel_from side r.world)
 waiting_kept listing judged c sides.A r = refl
 waiting_kept listing judged c sides.B r = refl
 

@@ -21,7 +21,7 @@ use Rattle.tcap_check.specs.declared.progress.Waiting.{Waiting}
 use Rattle.tcap_certificate.specs.Certificate.{Certificate}
 use Rattle.tcap_certificate.specs.Replay.{Replay, deliveries_by, delivery_by, fault_at, is_due, lost_from_front, lost_front, next_entry, received, refused, with_step, due_in}
 use Rattle.tcap_check.specs.EntryOutlines.{outlines_from}
-use Rattle.tcap_check.specs.Progress.{discard_listed, lost_counted, map_ok, moved, seat_at, with_seat_end, with_waiting}
+use Rattle.tcap_check.specs.Progress.{discard_listed, lost_counted, map_ok, moved, side_at, with_side_end, with_waiting}
 use Rattle.tcap_check.specs.ReplaySteps.{deliveries_kept, delivery_kept, first_received, is_received_from, received_or_not}
 use Rattle.tcap_check.specs.CheckerMeaning.{fate_of, kept_by, progress_of, waiting_at}
 use Rattle.tcap_check.proofs.replay_laws.ReplaySteps.{head_stays, same_end, channel_with}
@@ -42,7 +42,7 @@ pub record HasFront (c : Certificate) (sender : Side) (head : MessageInTransit) 
 -- The head is kept whole.
 pub front_waits : (listing : Bool) (judged : Option Side) (c : Certificate) (sender : Side) (head : MessageInTransit) (left : List MessageInTransit) (r : Replay)
     → is_received_from judged sender ≡ true → HasFront c sender head left r
-    → (seat_at sender (progress_of listing judged c (lost_from_front c sender r))).waiting
+    → (side_at sender (progress_of listing judged c (lost_from_front c sender r))).waiting
     ≡ (record { number = head.number; message = Some head.message }) ∷ waiting_at judged sender c.fates left
 front_waits listing judged c sender head left r heard front =
     let behind = drop (length (lost_front c.fates (channel_from sender r.world))) (channel_from sender r.world) in
@@ -63,7 +63,7 @@ without_head sender c left r = record {
 }
 
 pub end_behind : (listing : Bool) (judged : Option Side) (c : Certificate) (sender : Side) (r : Replay)
-    → (seat_at (other sender) (progress_of listing judged c (lost_from_front c sender r))).end ≡ end_at (other sender) r.world
+    → (side_at (other sender) (progress_of listing judged c (lost_from_front c sender r))).end ≡ end_at (other sender) r.world
 end_behind listing judged c sender r =
     end_kept listing judged c (other sender) (lost_from_front c sender r)
     ∙ same_end c sender (other sender) r
@@ -79,10 +79,10 @@ module _ (listing : Bool) (judged : Option Side) (c : Certificate) (sender : Sid
   kept_behind = with_waiting sender (waiting_at judged sender c.fates left) (progress_of listing judged c (lost_from_front c sender r))
 
   -- The end receives the message.
-  received_is : (e : End) → kept (moved (Receives (other sender) number) (with_seat_end (other sender) e kept_behind))
+  received_is : (e : End) → kept (moved (Receives (other sender) number) (with_side_end (other sender) e kept_behind))
       ≡ Ok (progress_of listing judged c (with_step (Receives (other sender) number) behind (with_end (other sender) e behind.world)))
   received_is e =
-      ap kept (ap (λ (p : Progress). moved (Receives (other sender) number) (with_seat_end (other sender) e p)) (sym (channel_put listing judged c sender left (lost_from_front c sender r)))
+      ap kept (ap (λ (p : Progress). moved (Receives (other sender) number) (with_side_end (other sender) e p)) (sym (channel_put listing judged c sender left (lost_from_front c sender r)))
       ∙ sym (end_step_is listing judged c (Receives (other sender) number) (other sender) e behind (λ at. refl)))
 
   -- The end discards the message, if it is judged alone.
@@ -140,14 +140,14 @@ pub delivered_is : (listing : Bool) (judged : Option Side) (table : Table) (c : 
     → delivery_kept judged table number (Some sender) (progress_of listing judged c r)
     ≡ map_ok (progress_of listing judged c) (received judged table c sender number r)
 delivered_is listing judged table c sender number r heard =
-    ap (λ (p : Progress). first_received judged table sender number (seat_at sender p).waiting p) (front_is listing judged c sender r heard)
+    ap (λ (p : Progress). first_received judged table sender number (side_at sender p).waiting p) (front_is listing judged c sender r heard)
     ∙ by (channel_from sender before.world) refl
   where
     before : Replay
     before = lost_from_front c sender r
 
     by : (messages : List MessageInTransit) → channel_from sender before.world ≡ messages
-        → first_received judged table sender number (seat_at sender (progress_of listing judged c before)).waiting (progress_of listing judged c before)
+        → first_received judged table sender number (side_at sender (progress_of listing judged c before)).waiting (progress_of listing judged c before)
         ≡ map_ok (progress_of listing judged c) (received judged table c sender number r)
     by [] is =
         ap (λ (messages : List Waiting). first_received judged table sender number messages (progress_of listing judged c before))
@@ -158,7 +158,7 @@ delivered_is listing judged table c sender number r heard =
         ap (λ (messages : List Waiting). first_received judged table sender number messages (progress_of listing judged c before))
         (front_waits listing judged c sender head left r heard front)
         ∙ needs_then (head.number == number) (fault_at BadReply number)
-        (receive table (seat_at (other sender) (progress_of listing judged c before)).end head.message)
+        (receive table (side_at (other sender) (progress_of listing judged c before)).end head.message)
         (received_or_not judged (other sender) number (kept_behind listing judged c sender number head left r))
         ∙ ap (λ (e : End). needs (head.number == number) (fault_at BadReply number)
         >> received_or_not judged (other sender) number (kept_behind listing judged c sender number head left r) (receive table e head.message))

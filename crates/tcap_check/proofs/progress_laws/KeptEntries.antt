@@ -19,7 +19,7 @@ use Rattle.tcap_certificate.specs.Certificate.{Certificate}
 use Rattle.tcap_certificate.specs.DescribedRun.{taken_by, sending_by}
 use Rattle.tcap_certificate.specs.Replay.{Replay, after_sending, fault_at, gap_by, is_gap, is_nothing, is_overtaking, is_sent_by, item_by, mark_judged, next_entry, own_message, tied, peer_replayed, with_step, all_lost_from, certificate_fits, closed_at_mark, deliveries_by, delivery_by, discarded, entry_by, delivered, lost_from_front, message_by, nothing_replayed, own_judged, stepped}
 use Rattle.tcap_check.specs.EntryOutlines.{is_named, outline_of, outlines_from, since_from}
-use Rattle.tcap_check.specs.Progress.{overtakes, seat_at}
+use Rattle.tcap_check.specs.Progress.{overtakes, side_at}
 use Rattle.tcap_check.specs.ReplaySteps.{is_received_from, is_sent_by_end, mark_taken, own_taken, sent_among, peer_message_taken}
 use Rattle.tcap_check.specs.CheckerMeaning.{gap_before, item_kept, kept_of, map_ok, progress_of, tied_now, taken, taken_from, taken_next}
 use Rattle.tcap_check.proofs.one_end_lemmas.AloneReplays.{gap_leads, item_leads, drop_all}
@@ -174,7 +174,7 @@ module _ (listing : Bool) (judged : Option Side) (table : Table) (c : Certificat
   -- The order check of messages to a judged end.
   in_order : (fate : Fate) (side : Side) (step : Progress → Result Progress CheckFault) (on : Result Replay CheckFault)
       → is_received_from judged side ≡ true → (gap >>= step) ≡ map_ok (progress_of listing judged c) on
-      → (needs (not (overtakes fate (seat_at side (progress_of listing judged c r)))) (fault_at OutOfOrder count) >> gap >>= step)
+      → (needs (not (overtakes fate (side_at side (progress_of listing judged c r)))) (fault_at OutOfOrder count) >> gap >>= step)
       ≡ map_ok (progress_of listing judged c) (needs (not (is_overtaking side fate c.fates r.world.sent)) (fault_at OutOfOrder n) >> on)
   in_order fate side step on so same =
       ap₂ (λ (b : Bool) (k : ℕ). needs (not b) (fault_at OutOfOrder k) >> gap >>= step)
@@ -188,7 +188,7 @@ module _ (listing : Bool) (judged : Option Side) (table : Table) (c : Certificat
 -- A message from the peer of an end that is judged alone.
 told_entry : (listing : Bool) (table : Table) (c : Certificate) (side : Side) (r : Replay) (fate : Fate) (message : Message)
     → is_received_from (Some side) (other side) ≡ true → slice_get c.fates (next_entry r) ≡ Some fate
-    → (needs (not (overtakes fate (seat_at (other side) (progress_of listing (Some side) c r)))) (fault_at OutOfOrder (count listing (Some side) table c r))
+    → (needs (not (overtakes fate (side_at (other side) (progress_of listing (Some side) c r)))) (fault_at OutOfOrder (count listing (Some side) table c r))
     >> gap listing (Some side) table c r
     >>= peer_message_taken (other side) fate (count listing (Some side) table c r) message (kept_now listing (Some side) table c r))
     ≡ map_ok (progress_of listing (Some side) c) (peer_replayed table c fate side message r)

@@ -20,7 +20,7 @@ use Rattle.tcap_check.specs.declared.outline.Outline.{Outline}
 use Rattle.tcap_check.specs.declared.progress.Progress.{Progress}
 use Rattle.tcap_check.specs.declared.progress.Waiting.{Waiting}
 use Rattle.tcap_check.specs.EntryOutlines.{half_closed, invocation_ended}
-use Rattle.tcap_check.specs.Progress.{GrewBy, HasNoMore, YieldsInMemory, discard_listed, end_moved, first_answered, front_lost, is_none_kept, losing_kept, lost_counted, loss_listed, may_be_answered, moved, on_way, reply_kept, seat_at, sent_by, unless_lost, with_seat_end, with_steps, with_waiting, all_kept, listed_kept, count_kept, first_lost}
+use Rattle.tcap_check.specs.Progress.{GrewBy, HasNoMore, YieldsInMemory, discard_listed, end_moved, first_answered, front_lost, is_none_kept, losing_kept, lost_counted, loss_listed, may_be_answered, moved, on_way, reply_kept, side_at, sent_by, unless_lost, with_side_end, with_steps, with_waiting, all_kept, listed_kept, count_kept, first_lost}
 use Rattle.tcap_model.specs.Run.{Event, Closes, Expires, Loses, Receives, Replies}
 use Rattle.tcap_check.specs.ReplaySteps.{first_delivered, first_received, halves_shut, message_received, received_or_not}
 use Rattle.tcap_certificate.specs.Replay.{fault_at, is_judged}
@@ -50,15 +50,15 @@ named_moves side event answer none refused p next (Some name) is = end_moves sid
 one_listed_grows : (table : Table) (entries : List Outline) (since : ℕ) (x : ListedStep) (p next : Progress)
     → listed_kept table entries since x p ≡ Ok next → IsMoved 1 p next
 one_listed_grows table entries since (listings.Closes x) p next is =
-    named_moves x.side (Closes x.side) (close table (seat_at x.side p).end) _ _ p next (half_closed entries since x) is
+    named_moves x.side (Closes x.side) (close table (side_at x.side p).end) _ _ p next (half_closed entries since x) is
 one_listed_grows table entries since (listings.Expires x) p next is =
-    named_moves x.side (λ (n : HalfName × ℤ). Expires x.side n.0 n.1) (λ n. expire table (seat_at x.side p).end n.0 n.1) _ _ p next
+    named_moves x.side (λ (n : HalfName × ℤ). Expires x.side n.0 n.1) (λ n. expire table (side_at x.side p).end n.0 n.1) _ _ p next
     (invocation_ended entries since x) is
 
 -- ---- losses
 
 -- A message that was taken from a channel was on its way.
-pub taken_way : (side : Side) (first : Waiting) (more : List Waiting) (p : Progress) → (seat_at side p).waiting ≡ first ∷ more
+pub taken_way : (side : Side) (first : Waiting) (more : List Waiting) (p : Progress) → (side_at side p).waiting ≡ first ∷ more
     → on_way p ≡ on_way (with_waiting side more p) + 1
 taken_way sides.A first more p is = let count : length p.a.waiting ≡ suc (length more) = ap length is in omega (arith, count)
 taken_way sides.B first more p is = let count : length p.b.waiting ≡ suc (length more) = ap length is in omega (arith, count)
@@ -78,7 +78,7 @@ lost_way (Some sides.B) sides.A p = (refl, omega arith, omega arith)
 lost_way (Some sides.B) sides.B p = (refl, omega arith, omega arith)
 
 pub lost_waits : (judged : Option Side) (side : Side) (number : ℕ) (more : List Waiting) (p : Progress)
-    → (seat_at side (loss_listed judged side number (with_waiting side more p))).waiting ≡ more
+    → (side_at side (loss_listed judged side number (with_waiting side more p))).waiting ≡ more
 lost_waits None sides.A number more p = refl
 lost_waits None sides.B number more p = refl
 lost_waits (Some sides.A) sides.A number more p = refl
@@ -88,7 +88,7 @@ lost_waits (Some sides.B) sides.B number more p = refl
 
 -- A message that is lost was on its way.
 pub one_lost_grows : (judged : Option Side) (side : Side) (first : Waiting) (more : List Waiting) (p : Progress)
-    → (seat_at side p).waiting ≡ first ∷ more → HasNoMore p (loss_listed judged side first.number (with_waiting side more p))
+    → (side_at side p).waiting ≡ first ∷ more → HasNoMore p (loss_listed judged side first.number (with_waiting side more p))
 one_lost_grows judged side first more p is =
     let way = taken_way side first more p is in
     let counts = taken_counts side more p in
@@ -101,7 +101,7 @@ no_more p mid q one two =
     let a = one.0 in let b = one.1 in let c = two.0 in let d = two.1 in (omega (arith, a, c), omega (arith, b, d))
 
 losing_grows : (judged : Option Side) (side : Side) (messages : List Waiting) (p : Progress)
-    → (seat_at side p).waiting ≡ messages → HasNoMore p (losing_kept judged side messages p)
+    → (side_at side p).waiting ≡ messages → HasNoMore p (losing_kept judged side messages p)
 losing_grows judged side [] p is = (omega arith, omega arith)
 losing_grows judged side (first ∷ more) p is =
     by (is_none_kept first.message)
@@ -116,13 +116,13 @@ losing_grows judged side (first ∷ more) p is =
     by false rest = (omega arith, omega arith)
 
 pub front_grows : (judged : Option Side) (side : Side) (p : Progress) → HasNoMore p (front_lost judged side p)
-front_grows judged side p = losing_grows judged side (seat_at side p).waiting p refl
+front_grows judged side p = losing_grows judged side (side_at side p).waiting p refl
 
 -- ---- messages that are received
 
 end_way : (side : Side) (event : Event) (e : End) (p : Progress)
-    → (on_way (moved event (with_seat_end side e p)) ≡ on_way p) × ((moved event (with_seat_end side e p)).moves ≡ p.moves + 1)
-    × ((moved event (with_seat_end side e p)).unheard ≡ p.unheard)
+    → (on_way (moved event (with_side_end side e p)) ≡ on_way p) × ((moved event (with_side_end side e p)).moves ≡ p.moves + 1)
+    × ((moved event (with_side_end side e p)).unheard ≡ p.unheard)
 end_way sides.A event e p = (refl, refl, refl)
 end_way sides.B event e p = (refl, refl, refl)
 
@@ -135,7 +135,7 @@ received_way judged side number p next (Ok e) is = subst Counts (ok_same {F = Ch
     Counts : Progress → Type 0
     Counts x = (on_way x ≡ on_way p) × (x.moves ≤ p.moves + 1) × (x.unheard ≤ p.unheard + 1)
 
-    here : Counts (moved (Receives side number) (with_seat_end side e p))
+    here : Counts (moved (Receives side number) (with_side_end side e p))
     here = let way = end_way side (Receives side number) e p in let a = way.0 in let b = way.1 in let d = way.2 in (a, omega (arith, b), omega (arith, d))
 received_way None side number p next (Err reason) is = cc
 received_way (Some judged) side number p next (Err reason) is =
@@ -143,10 +143,10 @@ received_way (Some judged) side number p next (Err reason) is =
     (ok_same {F = CheckFault} _ next is) (lost_way (Some judged) (other side) (discard_listed (other side) number reason p))
 
 first_grows : (judged : Option Side) (table : Table) (sender : Side) (number : ℕ) (messages : List Waiting) (p next : Progress)
-    → (seat_at sender p).waiting ≡ messages → first_received judged table sender number messages p ≡ Ok next → HasNoMore p next
+    → (side_at sender p).waiting ≡ messages → first_received judged table sender number messages p ≡ Ok next → HasNoMore p next
 first_grows judged table sender number [] p next at is = cc
 first_grows judged table sender number (first ∷ more) p next at is =
-    let heard = then_ok (first_delivered table number (first ∷ more) (seat_at (other sender) p).end) _ next is in
+    let heard = then_ok (first_delivered table number (first ∷ more) (side_at (other sender) p).end) _ next is in
     let way = taken_way sender first more p at in
     let counts = taken_counts sender more p in
     let kept = received_way judged (other sender) number (with_waiting sender more p) next heard.0 heard.2 in
@@ -184,11 +184,11 @@ sent_grows event sides.B fate number message p =
     (omega (arith, more), omega (arith, more))
 
 answered_grows : (side : Side) (fate : Fate) (number : ℕ) (abort : Message) (taken : ℕ) (messages : List Waiting) (p next : Progress)
-    → (seat_at (other side) p).waiting ≡ messages → first_answered side fate number abort taken messages p ≡ Ok next → GrewBy 2 1 p next
+    → (side_at (other side) p).waiting ≡ messages → first_answered side fate number abort taken messages p ≡ Ok next → GrewBy 2 1 p next
 answered_grows side fate number abort taken [] p next at is = cc
 answered_grows side fate number abort taken (first ∷ more) p next at is =
     let left = with_waiting (other side) more p in
-    let so = needs_ok ((first.number == taken) && may_be_answered (seat_at side p).end first.message abort) (fault_at BadReply number)
+    let so = needs_ok ((first.number == taken) && may_be_answered (side_at side p).end first.message abort) (fault_at BadReply number)
     (Ok (sent_by (Replies side taken) side fate number abort left)) next is in
     let way = taken_way (other side) first more p at in
     let counts = taken_counts (other side) more p in
@@ -201,7 +201,7 @@ pub reply_grows : (judged : Option Side) (side : Side) (fate : Fate) (number : �
 reply_grows judged side fate number abort taken p next is =
     let before = front_lost judged (other side) p in
     let lost = front_grows judged (other side) p in
-    let sent = answered_grows side fate number abort taken (seat_at (other side) before).waiting before next refl is in
+    let sent = answered_grows side fate number abort taken (side_at (other side) before).waiting before next refl is in
     let a = lost.0 in let b = lost.1 in let s0 = sent.0 in let s1 = sent.1 in
     (omega (arith, a, s0), omega (arith, b, s1))
 
@@ -222,8 +222,8 @@ pub shut_grows : (side : Side) (table : Table) (number : ℕ) (names : List Half
     → halves_shut side table number names p ≡ Ok next → IsMoved (length names) p next
 shut_grows side table number [] p next is = subst (IsMoved 0 p) (ok_same p next is) (omega arith, refl, refl)
 shut_grows side table number (name ∷ more) p next is =
-    let found = then_ok (end_moved side (Closes side name) (fault_at NotQuiet number) p (close table (seat_at side p).end name)) _ next is in
-    let one = end_moves side (Closes side name) (fault_at NotQuiet number) p found.0 (close table (seat_at side p).end name) found.1 in
+    let found = then_ok (end_moved side (Closes side name) (fault_at NotQuiet number) p (close table (side_at side p).end name)) _ next is in
+    let one = end_moves side (Closes side name) (fault_at NotQuiet number) p found.0 (close table (side_at side p).end name) found.1 in
     let rest = shut_grows side table number more found.0 next found.2 in
     let m0 = one.0 in let m1 = rest.0 in (omega (arith, m0, m1), rest.1 ∙ one.1, rest.2 ∙ one.2)
 
@@ -250,8 +250,8 @@ first_is first more number is = by (is_none_kept first.message) refl is
     by false at e = cc
 
 -- If nothing is on its way, nothing is lost.
-pub none_left : (judged : Option Side) (side : Side) (p : Progress) → length (seat_at side p).waiting ≡ 0 → front_lost judged side p ≡ p
-none_left judged side p is = by (seat_at side p).waiting is
+pub none_left : (judged : Option Side) (side : Side) (p : Progress) → length (side_at side p).waiting ≡ 0 → front_lost judged side p ≡ p
+none_left judged side p is = by (side_at side p).waiting is
   where
     by : (messages : List Waiting) → length messages ≡ 0 → losing_kept judged side messages p ≡ p
     by [] e = refl
@@ -259,12 +259,12 @@ none_left judged side p is = by (seat_at side p).waiting is
 
 -- the progress after the loss of the first message
 abbrev pub behind_first : Option Side → Side → ℕ → Progress → Progress
-behind_first judged side number p = loss_listed judged side number (with_waiting side (drop 1 (seat_at side p).waiting) p)
+behind_first judged side number p = loss_listed judged side number (with_waiting side (drop 1 (side_at side p).waiting) p)
 
 -- The first message is lost, and then the others.
-pub one_lost : (judged : Option Side) (side : Side) (number : ℕ) (p : Progress) → first_lost (seat_at side p).waiting ≡ Some number
+pub one_lost : (judged : Option Side) (side : Side) (number : ℕ) (p : Progress) → first_lost (side_at side p).waiting ≡ Some number
     → front_lost judged side (behind_first judged side number p) ≡ front_lost judged side p
-one_lost judged side number p is = by (seat_at side p).waiting is
+one_lost judged side number p is = by (side_at side p).waiting is
   where
     by : (messages : List Waiting) → first_lost messages ≡ Some number
         → front_lost judged side (loss_listed judged side number (with_waiting side (drop 1 messages) p)) ≡ losing_kept judged side messages p
@@ -277,33 +277,33 @@ one_lost judged side number p is = by (seat_at side p).waiting is
         ap (λ (x : List Waiting). losing_kept judged side x next) (lost_waits judged side number more p) ∙ sym one
 
 -- One message fewer is on its way.
-pub one_left : (judged : Option Side) (side : Side) (number : ℕ) (p : Progress) → first_lost (seat_at side p).waiting ≡ Some number
-    → length (seat_at side p).waiting ≡ length (seat_at side (behind_first judged side number p)).waiting + 1
-one_left judged side number p is = by (seat_at side p).waiting is
+pub one_left : (judged : Option Side) (side : Side) (number : ℕ) (p : Progress) → first_lost (side_at side p).waiting ≡ Some number
+    → length (side_at side p).waiting ≡ length (side_at side (behind_first judged side number p)).waiting + 1
+one_left judged side number p is = by (side_at side p).waiting is
   where
     by : (messages : List Waiting) → first_lost messages ≡ Some number
-        → length messages ≡ length (seat_at side (loss_listed judged side number (with_waiting side (drop 1 messages) p))).waiting + 1
+        → length messages ≡ length (side_at side (loss_listed judged side number (with_waiting side (drop 1 messages) p))).waiting + 1
     by [] e = cc
     by (first ∷ more) e =
-        let left : length (seat_at side (loss_listed judged side number (with_waiting side more p))).waiting ≡ length more =
+        let left : length (side_at side (loss_listed judged side number (with_waiting side more p))).waiting ≡ length more =
         ap length (lost_waits judged side number more p) in
         omega (arith, left)
 
 -- The loads do not grow.
-pub one_grows : (judged : Option Side) (side : Side) (number : ℕ) (p : Progress) → first_lost (seat_at side p).waiting ≡ Some number
+pub one_grows : (judged : Option Side) (side : Side) (number : ℕ) (p : Progress) → first_lost (side_at side p).waiting ≡ Some number
     → HasNoMore p (behind_first judged side number p)
-one_grows judged side number p is = by (seat_at side p).waiting refl is
+one_grows judged side number p is = by (side_at side p).waiting refl is
   where
-    by : (messages : List Waiting) → (seat_at side p).waiting ≡ messages → first_lost messages ≡ Some number
+    by : (messages : List Waiting) → (side_at side p).waiting ≡ messages → first_lost messages ≡ Some number
         → HasNoMore p (loss_listed judged side number (with_waiting side (drop 1 messages) p))
     by [] at e = cc
     by (first ∷ more) at e =
         subst (λ (n : ℕ). HasNoMore p (loss_listed judged side n (with_waiting side more p))) (first_is first more number e).1
         (one_lost_grows judged side first more p at)
 
-pub seat_way : (side : Side) (p : Progress) → length (seat_at side p).waiting ≤ on_way p
-seat_way sides.A p = omega arith
-seat_way sides.B p = omega arith
+pub side_way : (side : Side) (p : Progress) → length (side_at side p).waiting ≤ on_way p
+side_way sides.A p = omega arith
+side_way sides.B p = omega arith
 
 -- ---- the count of messages that will not be lost
 

@@ -6,7 +6,7 @@ use Rattle.tcap_check.specs.declared.progress.Progress.{Progress}
 use Rattle.tcap_end.specs.Table.{Table}
 use Rattle.tcap_check.specs.declared.outline.Outline.{Outline}
 use Rattle.tcap_certificate.specs.Replay.{is_judged, Replay, closed_at_mark, fault_at, gap_by, is_gap, is_received_from, is_nothing, is_overtaking, lost_from_front, lost_last, next_entry, received, stepped, tied, due_in}
-use Rattle.tcap_check.specs.Progress.{HasNoMore, end_moved, front_lost, last_lost, overtakes, seat_at, all_kept, listed_kept}
+use Rattle.tcap_check.specs.Progress.{HasNoMore, end_moved, front_lost, last_lost, overtakes, side_at, all_kept, listed_kept}
 use Rattle.tcap_check.specs.ReplaySteps.{deliveries_kept, delivery_kept, halves_shut}
 use Rattle.tcap_check.specs.PartialReplay.{behind_or, deliveries_so_far, fated_so_far, gap_so_far, halves_so_far, item_so_far, mark_so_far, message_so_far, next_so_far, quiet_so_far, sending_so_far, listed_so_far}
 use Rattle.tcap_check.specs.declared.listed_steps.ListedStep.{ListedStep}
@@ -245,7 +245,7 @@ sending_far judged table c side message r = by (is_judged judged side) refl
 
 half_is : (table : Table) (c : Certificate) (side : Side) (mark : ℕ) (name : HalfName) (r : Replay)
     → end_moved side (Closes side name) (fault_at NotQuiet mark) (progress_of true (Some side) c r)
-    (close table (seat_at side (progress_of true (Some side) c r)).end name)
+    (close table (side_at side (progress_of true (Some side) c r)).end name)
     ≡ map_ok (progress_of true (Some side) c) (ok_or (stepped table (Closes side name) r) (fault_at NotQuiet mark))
 half_is table c side mark name r =
     let fault = fault_at NotQuiet mark in
@@ -266,7 +266,7 @@ halves_far : (table : Table) (c : Certificate) (side : Side) (mark : ℕ) (names
 halves_far table c side mark [] r = refl
 halves_far table c side mark (name ∷ more) r =
     let p = progress_of true (Some side) c r in
-    let one = end_moved side (Closes side name) (fault_at NotQuiet mark) p (close table (seat_at side p).end name) in
+    let one = end_moved side (Closes side name) (fault_at NotQuiet mark) p (close table (side_at side p).end name) in
     behind_is (progress_of true (Some side) c) (closed_at_mark table side mark (name ∷ []) r) one r p (halves_so_far table side mark more)
     (halves_left side table mark more) (sym (ok_behind one) ∙ halves_are table c side mark (name ∷ []) r) refl
     (λ next is. halves_far table c side mark more next)
@@ -322,12 +322,12 @@ module _ (judged : Option Side) (table : Table) (c : Certificate) (r : Replay) w
       ∙ same next is)
 
 in_order : (judged : Option Side) (c : Certificate) (side : Side) (fate : Fate) (r : Replay)
-    → (is_alone judged side || not (overtakes fate (seat_at side (progress_of true judged c r))))
+    → (is_alone judged side || not (overtakes fate (side_at side (progress_of true judged c r))))
     ≡ (is_alone judged side || not (is_overtaking side fate c.fates r.world.sent))
 in_order judged c side fate r = by (is_alone judged side) refl
   where
     by : (b : Bool) → is_alone judged side ≡ b
-        → (b || not (overtakes fate (seat_at side (progress_of true judged c r)))) ≡ (b || not (is_overtaking side fate c.fates r.world.sent))
+        → (b || not (overtakes fate (side_at side (progress_of true judged c r)))) ≡ (b || not (is_overtaking side fate c.fates r.world.sent))
     by true is = refl
     by false is = ap not (overtakes_is true judged c side fate r is)
 

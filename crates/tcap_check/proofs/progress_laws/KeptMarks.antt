@@ -22,7 +22,7 @@ use Rattle.tcap_model.specs.World.{Item, MessageInTransit, Sent, World, channel_
 use Rattle.tcap_model.specs.Run.{Event, Closes, Quiet, after}
 use Rattle.tcap_certificate.specs.Certificate.{Certificate}
 use Rattle.tcap_certificate.specs.Replay.{Replay, closed_at_mark, closed_before, fault_at, is_nothing, lost_from_front, lost_last, stepped, with_step}
-use Rattle.tcap_check.specs.Progress.{YieldsInMemory, both_quiet, end_moved, front_lost, is_empty, is_none_kept, last_lost, losing_kept, loss_listed, moved, quiet_kept, seat_at, with_seat_end, with_steps, with_waiting}
+use Rattle.tcap_check.specs.Progress.{YieldsInMemory, both_quiet, end_moved, front_lost, is_empty, is_none_kept, last_lost, losing_kept, loss_listed, moved, quiet_kept, side_at, with_side_end, with_steps, with_waiting}
 use Rattle.tcap_check.specs.ReplaySteps.{alone_marked, closed_or_not, halves_closed, halves_shut, mark_taken, quieted}
 use Rattle.tcap_check.specs.CheckerMeaning.{is_alone, latest_at, latest_of, map_ok, progress_of, waiting_at}
 use Rattle.tcap_model.proofs.RunLaws.{map_some, quiet as quiet_step}
@@ -37,7 +37,7 @@ use Rattle.tcap_model.proofs.WorldLaws.{end_with}
 
 -- the progress after these halves closed, with this end
 abbrev pub later : Side → End → List HalfName → Progress → Progress
-later side e names p = record (with_steps (map (Closes side) names) (with_seat_end side e p)) { moves = p.moves + length names }
+later side e names p = record (with_steps (map (Closes side) names) (with_side_end side e p)) { moves = p.moves + length names }
 
 -- These halves closed.
 pub record Closed (listing : Bool) (table : Table) (c : Certificate) (side : Side) (mark : ℕ) (names : List HalfName) (r : Replay) (e : End) : Type 0 where
@@ -53,21 +53,21 @@ Closings listing table c side mark names r (Ok e) = Closed listing table c side 
 Closings listing table c side mark names r (Err reason) = closed_at_mark table side mark names r ≡ Err (fault_at NotQuiet mark)
 
 later_more : (side : Side) (first last : End) (name : HalfName) (more : List HalfName) (p : Progress)
-    → later side last more (moved (Closes side name) (with_seat_end side first p)) ≡ later side last (name ∷ more) p
+    → later side last more (moved (Closes side name) (with_side_end side first p)) ≡ later side last (name ∷ more) p
 later_more side first last name more p = by side
   where
     same : (p.moves + 1) + length more ≡ p.moves + length (name ∷ more)
     same = omega arith
 
-    by : (side : Side) → later side last more (moved (Closes side name) (with_seat_end side first p)) ≡ later side last (name ∷ more) p
+    by : (side : Side) → later side last more (moved (Closes side name) (with_side_end side first p)) ≡ later side last (name ∷ more) p
     by sides.A =
-        ap₂ (λ (m : ℕ) (told : Option ListedRun). let x : Progress = record (with_seat_end sides.A last p) { moves = m; steps = told } in x)
+        ap₂ (λ (m : ℕ) (told : Option ListedRun). let x : Progress = record (with_side_end sides.A last p) { moves = m; steps = told } in x)
         same (told_both (Closes sides.A name) (map (Closes sides.A) more) p.steps)
     by sides.B =
-        ap₂ (λ (m : ℕ) (told : Option ListedRun). let x : Progress = record (with_seat_end sides.B last p) { moves = m; steps = told } in x)
+        ap₂ (λ (m : ℕ) (told : Option ListedRun). let x : Progress = record (with_side_end sides.B last p) { moves = m; steps = told } in x)
         same (told_both (Closes sides.B name) (map (Closes sides.B) more) p.steps)
 
-later_none : (side : Side) (p : Progress) → p ≡ later side (seat_at side p).end [] p
+later_none : (side : Side) (p : Progress) → p ≡ later side (side_at side p).end [] p
 later_none sides.A p =
     let same : p.moves ≡ p.moves + 0 = omega arith in
     ap₂ (λ (m : ℕ) (told : Option ListedRun). let x : Progress = record p { moves = m; steps = told } in x) same (sym (told_still p.steps))
@@ -197,13 +197,13 @@ quiet_again e q is =
     subst (λ (x : End). quiet x ≡ Ok x) same refl
 
 -- It makes no difference whether an end was quieted before the mark or is quieted by it.
-quieted_is : (side : Side) (number : ℕ) (p : Progress) (q : End) → quiet (seat_at side p).end ≡ Ok q
-    → quiet_kept number (with_seat_end side q p) ≡ quiet_kept number p
+quieted_is : (side : Side) (number : ℕ) (p : Progress) (q : End) → quiet (side_at side p).end ≡ Ok q
+    → quiet_kept number (with_side_end side q p) ≡ quiet_kept number p
 quieted_is sides.A number p q is =
     rw (is, quiet_again p.a.end q is) (by (is_empty p.a.waiting && is_empty p.b.waiting) (quiet p.b.end))
   where
     by : (b : Bool) (o : Result End EndFault)
-        → (needs b (fault_at NotQuiet number) >> both_quiet number (with_seat_end sides.A q p) (Ok q) o)
+        → (needs b (fault_at NotQuiet number) >> both_quiet number (with_side_end sides.A q p) (Ok q) o)
         ≡ (needs b (fault_at NotQuiet number) >> both_quiet number p (Ok q) o)
     by false o = refl
     by true (Ok e) = refl
@@ -212,14 +212,14 @@ quieted_is sides.B number p q is =
     rw (is, quiet_again p.b.end q is) (by (is_empty p.a.waiting && is_empty p.b.waiting) (quiet p.a.end))
   where
     by : (b : Bool) (o : Result End EndFault)
-        → (needs b (fault_at NotQuiet number) >> both_quiet number (with_seat_end sides.B q p) o (Ok q))
+        → (needs b (fault_at NotQuiet number) >> both_quiet number (with_side_end sides.B q p) o (Ok q))
         ≡ (needs b (fault_at NotQuiet number) >> both_quiet number p o (Ok q))
     by false o = refl
     by true (Ok e) = refl
     by true (Err reason) = refl
 
 -- If an end is not quiet, the mark is refused.
-open_is : (side : Side) (number : ℕ) (p : Progress) (reason : EndFault) → quiet (seat_at side p).end ≡ Err reason
+open_is : (side : Side) (number : ℕ) (p : Progress) (reason : EndFault) → quiet (side_at side p).end ≡ Err reason
     → quiet_kept number p ≡ Err (fault_at NotQuiet number)
 open_is sides.A number p reason is = rw is (by (is_empty p.a.waiting && is_empty p.b.waiting))
   where
@@ -238,41 +238,41 @@ open_is sides.B number p reason is = rw is (by (is_empty p.a.waiting && is_empty
 
 -- The loss of a message to an end does not change the end.
 one_lost_puts : (side : Side) (q : End) (number : ℕ) (messages : List Waiting) (p : Progress)
-    → loss_listed (Some side) (other side) number (with_waiting (other side) messages (with_seat_end side q p))
-    ≡ with_seat_end side q (loss_listed (Some side) (other side) number (with_waiting (other side) messages p))
+    → loss_listed (Some side) (other side) number (with_waiting (other side) messages (with_side_end side q p))
+    ≡ with_side_end side q (loss_listed (Some side) (other side) number (with_waiting (other side) messages p))
 one_lost_puts sides.A q number messages p = refl
 one_lost_puts sides.B q number messages p = refl
 
 losing_puts : (side : Side) (q : End) (messages : List Waiting) (p : Progress)
-    → losing_kept (Some side) (other side) messages (with_seat_end side q p)
-    ≡ with_seat_end side q (losing_kept (Some side) (other side) messages p)
+    → losing_kept (Some side) (other side) messages (with_side_end side q p)
+    ≡ with_side_end side q (losing_kept (Some side) (other side) messages p)
 losing_puts side q [] p = refl
 losing_puts side q (first ∷ more) p =
     by (is_none_kept first.message) (losing_puts side q more (loss_listed (Some side) (other side) first.number (with_waiting (other side) more p)))
   where
     by : (b : Bool)
-        → losing_kept (Some side) (other side) more (with_seat_end side q (loss_listed (Some side) (other side) first.number (with_waiting (other side) more p)))
-        ≡ with_seat_end side q (losing_kept (Some side) (other side) more (loss_listed (Some side) (other side) first.number (with_waiting (other side) more p)))
-        → cond b (losing_kept (Some side) (other side) more (loss_listed (Some side) (other side) first.number (with_waiting (other side) more (with_seat_end side q p))))
-        (with_seat_end side q p)
-        ≡ with_seat_end side q (cond b (losing_kept (Some side) (other side) more (loss_listed (Some side) (other side) first.number (with_waiting (other side) more p))) p)
+        → losing_kept (Some side) (other side) more (with_side_end side q (loss_listed (Some side) (other side) first.number (with_waiting (other side) more p)))
+        ≡ with_side_end side q (losing_kept (Some side) (other side) more (loss_listed (Some side) (other side) first.number (with_waiting (other side) more p)))
+        → cond b (losing_kept (Some side) (other side) more (loss_listed (Some side) (other side) first.number (with_waiting (other side) more (with_side_end side q p))))
+        (with_side_end side q p)
+        ≡ with_side_end side q (cond b (losing_kept (Some side) (other side) more (loss_listed (Some side) (other side) first.number (with_waiting (other side) more p))) p)
     by true rest = ap (losing_kept (Some side) (other side) more) (one_lost_puts side q first.number more p) ∙ rest
     by false rest = refl
 
-waits_still : (side : Side) (q : End) (p : Progress) → (seat_at (other side) (with_seat_end side q p)).waiting ≡ (seat_at (other side) p).waiting
+waits_still : (side : Side) (q : End) (p : Progress) → (side_at (other side) (with_side_end side q p)).waiting ≡ (side_at (other side) p).waiting
 waits_still sides.A q p = refl
 waits_still sides.B q p = refl
 
 front_puts : (side : Side) (q : End) (p : Progress)
-    → front_lost (Some side) (other side) (with_seat_end side q p) ≡ with_seat_end side q (front_lost (Some side) (other side) p)
+    → front_lost (Some side) (other side) (with_side_end side q p) ≡ with_side_end side q (front_lost (Some side) (other side) p)
 front_puts side q p =
-    ap (λ (x : List Waiting). losing_kept (Some side) (other side) x (with_seat_end side q p)) (waits_still side q p)
-    ∙ losing_puts side q (seat_at (other side) p).waiting p
+    ap (λ (x : List Waiting). losing_kept (Some side) (other side) x (with_side_end side q p)) (waits_still side q p)
+    ∙ losing_puts side q (side_at (other side) p).waiting p
 
 -- ---- halves that close one by one
 
 put_later : (side : Side) (e q : End) (names : List HalfName) (p : Progress)
-    → with_seat_end side q (later side e names p) ≡ later side q names p
+    → with_side_end side q (later side e names p) ≡ later side q names p
 put_later sides.A e q names p = refl
 put_later sides.B e q names p = refl
 
@@ -280,33 +280,33 @@ abbrev shut_or_not : Side → ℕ → List HalfName → Progress → Result End 
 shut_or_not side number names p (Ok e) = Ok (later side e names p)
 shut_or_not side number names p (Err reason) = Err (fault_at NotQuiet number)
 
-moved_end : (side : Side) (event : Event) (e : End) (p : Progress) → (seat_at side (moved event (with_seat_end side e p))).end ≡ e
+moved_end : (side : Side) (event : Event) (e : End) (p : Progress) → (side_at side (moved event (with_side_end side e p))).end ≡ e
 moved_end sides.A event e p = refl
 moved_end sides.B event e p = refl
 
 shut_is : (side : Side) (table : Table) (number : ℕ) (names : List HalfName) (p : Progress)
-    → halves_shut side table number names p ≡ shut_or_not side number names p (close_each table names (seat_at side p).end)
+    → halves_shut side table number names p ≡ shut_or_not side number names p (close_each table names (side_at side p).end)
 shut_is side table number [] p = ap (λ (x : Progress). let y : Result Progress CheckFault = Ok x in y) (later_none side p)
-shut_is side table number (name ∷ more) p = by (close table (seat_at side p).end name) (shut_is side table number more)
+shut_is side table number (name ∷ more) p = by (close table (side_at side p).end name) (shut_is side table number more)
   where
     rest : (e : End) (o : Result End EndFault)
-        → shut_or_not side number more (moved (Closes side name) (with_seat_end side e p)) o ≡ shut_or_not side number (name ∷ more) p o
+        → shut_or_not side number more (moved (Closes side name) (with_side_end side e p)) o ≡ shut_or_not side number (name ∷ more) p o
     rest e (Ok last) = ap (λ (x : Progress). let y : Result Progress CheckFault = Ok x in y) (later_more side e last name more p)
     rest e (Err reason) = refl
 
     by : (o : Result End EndFault)
-        → ((q : Progress) → halves_shut side table number more q ≡ shut_or_not side number more q (close_each table more (seat_at side q).end))
+        → ((q : Progress) → halves_shut side table number more q ≡ shut_or_not side number more q (close_each table more (side_at side q).end))
         → (end_moved side (Closes side name) (fault_at NotQuiet number) p o >>= halves_shut side table number more)
         ≡ shut_or_not side number (name ∷ more) p (o >>= close_each table more)
     by (Err reason) is = refl
     by (Ok e) is =
-        let next = moved (Closes side name) (with_seat_end side e p) in
+        let next = moved (Closes side name) (with_side_end side e p) in
         is next
         ∙ ap (λ (x : End). shut_or_not side number more next (close_each table more x)) (moved_end side (Closes side name) e p)
         ∙ rest e (close_each table more e)
 
 losing_ends : (side : Side) (messages : List Waiting) (p : Progress)
-    → (seat_at side (losing_kept (Some side) (other side) messages p)).end ≡ (seat_at side p).end
+    → (side_at side (losing_kept (Some side) (other side) messages p)).end ≡ (side_at side p).end
 losing_ends side [] p = refl
 losing_ends side (first ∷ more) p =
     by (is_none_kept first.message) (losing_ends side more next ∙ one side)
@@ -314,16 +314,16 @@ losing_ends side (first ∷ more) p =
     next : Progress
     next = loss_listed (Some side) (other side) first.number (with_waiting (other side) more p)
 
-    one : (side : Side) → (seat_at side (loss_listed (Some side) (other side) first.number (with_waiting (other side) more p))).end ≡ (seat_at side p).end
+    one : (side : Side) → (side_at side (loss_listed (Some side) (other side) first.number (with_waiting (other side) more p))).end ≡ (side_at side p).end
     one sides.A = refl
     one sides.B = refl
 
-    by : (b : Bool) → (seat_at side (losing_kept (Some side) (other side) more next)).end ≡ (seat_at side p).end
-        → (seat_at side (cond b (losing_kept (Some side) (other side) more next) p)).end ≡ (seat_at side p).end
+    by : (b : Bool) → (side_at side (losing_kept (Some side) (other side) more next)).end ≡ (side_at side p).end
+        → (side_at side (cond b (losing_kept (Some side) (other side) more next) p)).end ≡ (side_at side p).end
     by true rest = rest
     by false rest = refl
 
-later_end : (side : Side) (e : End) (names : List HalfName) (p : Progress) → (seat_at side (later side e names p)).end ≡ e
+later_end : (side : Side) (e : End) (names : List HalfName) (p : Progress) → (side_at side (later side e names p)).end ≡ e
 later_end sides.A e names p = refl
 later_end sides.B e names p = refl
 
@@ -332,18 +332,18 @@ pub marks_alike : (side : Side) (table : Table) (number : ℕ) (p : Progress)
     → alone_marked side table number p
     ≡ (halves_closed (Some side) table number p >>= λ closed. quiet_kept number (last_lost (Some side) closed))
 marks_alike side table number p =
-    ap (λ (x : Result Progress CheckFault). x >>= marked) (shut_is side table number names p) ∙ by (close_each table names (seat_at side p).end)
+    ap (λ (x : Result Progress CheckFault). x >>= marked) (shut_is side table number names p) ∙ by (close_each table names (side_at side p).end)
   where
     names : List HalfName
-    names = open_halves (seat_at side p).end
+    names = open_halves (side_at side p).end
 
     marked : Progress → Result Progress CheckFault
     marked closed = quiet_kept number (last_lost (Some side) closed)
 
-    behind : (e : End) → (seat_at side (last_lost (Some side) (later side e names p))).end ≡ e
+    behind : (e : End) → (side_at side (last_lost (Some side) (later side e names p))).end ≡ e
     behind e =
         let shut = later side e names p in
-        losing_ends side (seat_at (other side) shut).waiting shut ∙ later_end side e names p
+        losing_ends side (side_at (other side) shut).waiting shut ∙ later_end side e names p
 
     then_quiet : (e : End) (o : Result End EndFault) → quiet e ≡ o
         → marked (later side e names p) ≡ (map_ok (with_steps (map (Closes side) names)) (closed_or_not side number p o) >>= marked)
@@ -404,29 +404,29 @@ module _ (listing : Bool) (table : Table) (c : Certificate) (side : Side) (mark 
 
   -- the progress with these closings listed
   abbrev told : Progress → Progress
-  told = with_steps (map (Closes side) (open_halves (seat_at side p).end))
+  told = with_steps (map (Closes side) (open_halves (side_at side p).end))
 
   abbrev last_step : Replay → Result Replay CheckFault
   last_step closed = ok_or (stepped table Quiet (lost_from_front c (other side) closed)) fault
 
   -- What is kept after the closings, with the end that was quieted.
   behind_is : (e q : End) (closed : Closed listing table c side mark halves r e)
-      → told (quieted side q p) ≡ with_seat_end side q (progress_of listing (Some side) c closed.behind)
+      → told (quieted side q p) ≡ with_side_end side q (progress_of listing (Some side) c closed.behind)
   behind_is e q closed =
       ap (λ (x : End). later side q (open_halves x) p) (end_kept listing (Some side) c side r)
       ∙ sym (put_later side e q halves p)
-      ∙ ap (with_seat_end side q) (sym closed.kept)
+      ∙ ap (with_side_end side q) (sym closed.kept)
 
   -- The mark over this is the mark after the closings.
   quiet_is : (e q : End) (closed : Closed listing table c side mark halves r e) → quiet e ≡ Ok q
       → quiet_kept mark (last_lost (Some side) (told (quieted side q p))) ≡ map_ok (progress_of listing (Some side) c) (last_step closed.behind)
   quiet_is e q closed is =
       let x = lost_from_front c (other side) closed.behind in
-      let end_is : (seat_at side (progress_of listing (Some side) c x)).end ≡ e =
+      let end_is : (side_at side (progress_of listing (Some side) c x)).end ≡ e =
       end_kept listing (Some side) c side x ∙ same_end c (other side) side closed.behind ∙ closed.end in
       ap (λ (y : Progress). quiet_kept mark (last_lost (Some side) y)) (behind_is e q closed)
       ∙ ap (quiet_kept mark) (front_puts side q (progress_of listing (Some side) c closed.behind)
-      ∙ ap (with_seat_end side q) (last_is listing (Some side) c closed.behind))
+      ∙ ap (with_side_end side q) (last_is listing (Some side) c closed.behind))
       ∙ quieted_is side mark (progress_of listing (Some side) c x) q (ap quiet end_is ∙ is)
       ∙ quiet_step_is listing (Some side) table c mark x
 
@@ -443,7 +443,7 @@ module _ (listing : Bool) (table : Table) (c : Certificate) (side : Side) (mark 
       by (Ok q) is = quiet_is e q closed is
       by (Err reason) is =
           let x = lost_from_front c (other side) closed.behind in
-          let end_is : (seat_at side (progress_of listing (Some side) c x)).end ≡ e =
+          let end_is : (side_at side (progress_of listing (Some side) c x)).end ≡ e =
           end_kept listing (Some side) c side x ∙ same_end c (other side) side closed.behind ∙ closed.end in
           sym (open_is side mark (progress_of listing (Some side) c x) reason (ap quiet end_is ∙ is)) ∙ quiet_step_is listing (Some side) table c mark x
 

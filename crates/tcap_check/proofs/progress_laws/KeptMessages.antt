@@ -30,7 +30,7 @@ use Rattle.tcap_certificate.specs.Certificate.{Certificate}
 use Rattle.tcap_certificate.specs.DescribedRun.{invoke_id, invoking_half, sending_by}
 use Rattle.tcap_certificate.specs.Replay.{Replay, after_sending, fault_at, implied, implied_over, is_nothing, lost_from_front, message_by, next_entry, or_same, refused, reply_replayed, send_replayed, sent_or_refused, stepped, with_step}
 use Rattle.tcap_certificate.specs.LossCounts.{is_lost_from}
-use Rattle.tcap_check.specs.Progress.{end_tried, first_answered, ids_ended, ids_ended_over, message_kept, or_still, reply_kept, seat_at, send_kept, sent_by, sent_or_not, with_waiting}
+use Rattle.tcap_check.specs.Progress.{end_tried, first_answered, ids_ended, ids_ended_over, message_kept, or_still, reply_kept, side_at, send_kept, sent_by, sent_or_not, with_waiting}
 use Rattle.tcap_check.specs.ReplaySteps.{is_received_from, own_fate, own_taken, sent_lost, peer_message_taken}
 use Rattle.tcap_check.specs.CheckerMeaning.{map_ok, progress_of, waiting_at}
 use Rattle.tcap_model.proofs.ChannelLaws.{get_new}
@@ -131,7 +131,7 @@ send_is : (listing : Bool) (table : Table) (judged : Option Side) (c : Certifica
 send_is listing table judged c fate side message r so has =
     let before = implied_over table side message (invoking_half message) r in
     let number : next_entry before ≡ next_entry r = ap length (over_sends_nothing table side message (invoking_half message) r) in
-    ap (λ (p : Progress). sent_or_not side (own_fate judged fate) (next_entry r) message p (send table (seat_at side p).end message))
+    ap (λ (p : Progress). sent_or_not side (own_fate judged fate) (next_entry r) message p (send table (side_at side p).end message))
     (over_is listing table judged c side message (invoking_half message) r)
     ∙ ap (λ (e : End). sent_or_not side (own_fate judged fate) (next_entry r) message (progress_of listing judged c before) (send table e message))
     (end_kept listing judged c side before)
@@ -270,7 +270,7 @@ reply_is : (listing : Bool) (table : Table) (judged : Option Side) (c : Certific
     → reply_kept judged side (own_fate judged fate) (next_entry r) abort taken (progress_of listing judged c r)
     ≡ map_ok (progress_of listing judged c) (reply_replayed table c side abort taken r)
 reply_is listing table judged c fate side abort taken r so has =
-    ap (λ (p : Progress). first_answered side (own_fate judged fate) (next_entry r) abort taken (seat_at (other side) p).waiting p)
+    ap (λ (p : Progress). first_answered side (own_fate judged fate) (next_entry r) abort taken (side_at (other side) p).waiting p)
     (front_is listing judged c (other side) r so)
     ∙ by (channel_from (other side) before.world) refl
   where
@@ -284,7 +284,7 @@ reply_is listing table judged c fate side abort taken r so has =
     none sides.B is = rw is refl
 
     by : (messages : List MessageInTransit) → channel_from (other side) before.world ≡ messages
-        → first_answered side (own_fate judged fate) (next_entry r) abort taken (seat_at (other side) (progress_of listing judged c before)).waiting
+        → first_answered side (own_fate judged fate) (next_entry r) abort taken (side_at (other side) (progress_of listing judged c before)).waiting
         (progress_of listing judged c before)
         ≡ map_ok (progress_of listing judged c) (reply_replayed table c side abort taken r)
     by [] is =

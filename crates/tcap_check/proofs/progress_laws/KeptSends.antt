@@ -14,7 +14,7 @@ use Rattle.tcap_certificate.specs.Certificate.{Certificate}
 use Rattle.tcap_certificate.specs.Replay.{Replay, is_later, is_overtaking, next_entry, time_of, with_step}
 use Rattle.tcap_record.specs.Ends.{other}
 use Rattle.tcap_certificate.specs.LossCounts.{is_lost_from}
-use Rattle.tcap_check.specs.Progress.{greater, overtakes, seat_at, sent_by, time_or_zero, unless_lost}
+use Rattle.tcap_check.specs.Progress.{greater, overtakes, side_at, sent_by, time_or_zero, unless_lost}
 use Rattle.tcap_check.specs.CheckerMeaning.{fate_of, is_alone, kept_by, latest_at, latest_of, progress_of, waiting_at}
 use Rattle.tcap_check.proofs.progress_laws.KeptBasics.{moved_counts}
 use Rattle.tcap_model.proofs.WorldLaws.{itself}
@@ -121,7 +121,7 @@ nothing_lost side (first ∷ fates) (Sent sender message ∷ items) = by (is_sid
 
 -- Whether a message overtakes an earlier one depends only on the latest time.
 pub overtakes_is : (listing : Bool) (judged : Option Side) (c : Certificate) (side : Side) (fate : Fate) (r : Replay) → is_alone judged side ≡ false
-    → overtakes fate (seat_at side (progress_of listing judged c r)) ≡ is_overtaking side fate c.fates r.world.sent
+    → overtakes fate (side_at side (progress_of listing judged c r)) ≡ is_overtaking side fate c.fates r.world.sent
 overtakes_is listing judged c side Lost r so = sym (nothing_lost side c.fates r.world.sent)
 overtakes_is listing judged c sides.A (Gap g) r so = rw so (overtaking sides.A (Gap g) (2 * g) c.fates r.world.sent refl)
 overtakes_is listing judged c sides.B (Gap g) r so = rw so (overtaking sides.B (Gap g) (2 * g) c.fates r.world.sent refl)

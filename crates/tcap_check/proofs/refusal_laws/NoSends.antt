@@ -21,7 +21,7 @@ use Rattle.tcap_certificate.specs.Certificate.{Certificate}
 use Rattle.tcap_check.specs.CheckerMeaning.{taken}
 use Rattle.tcap_check.specs.ReplaySteps.{closed_or_not, deliveries_kept, delivery_kept, first_delivered, gap_kept, halves_closed, halves_quieted, received_sender, mark_taken, message_delivered, message_received, received_or_not}
 use Rattle.tcap_check.specs.EntryOutlines.{half_closed, invocation_ended}
-use Rattle.tcap_check.specs.Progress.{both_quiet, end_moved, first_answered, front_lost, is_empty, last_lost, map_ok, may_be_answered, quiet_kept, seat_at, sent_by, with_steps, with_waiting, all_kept, listed_kept}
+use Rattle.tcap_check.specs.Progress.{both_quiet, end_moved, first_answered, front_lost, is_empty, last_lost, map_ok, may_be_answered, quiet_kept, side_at, sent_by, with_steps, with_waiting, all_kept, listed_kept}
 use Rattle.tcap_certificate.specs.Replay.{fault_at, is_nothing, due_in}
 use Rattle.tcap_check.specs.RunSoFar.{refusal_to_send}
 use Rattle.tcap_check.proofs.refusal_laws.ReasonGaps.{needs_err, then_err}
@@ -52,9 +52,9 @@ named_no side event answer none refused fault p (Some name) is never_none never 
 one_no : (table : Table) (entries : List Outline) (since : ℕ) (x : ListedStep) (p : Progress) (fault : CheckFault)
     → listed_kept table entries since x p ≡ Err fault → NoSend fault
 one_no table entries since (listings.Closes x) p fault is =
-    named_no x.side (Closes x.side) (close table (seat_at x.side p).end) _ _ fault p (half_closed entries since x) is refl refl
+    named_no x.side (Closes x.side) (close table (side_at x.side p).end) _ _ fault p (half_closed entries since x) is refl refl
 one_no table entries since (listings.Expires x) p fault is =
-    named_no x.side (λ (n : HalfName × ℤ). Expires x.side n.0 n.1) (λ n. expire table (seat_at x.side p).end n.0 n.1) _ _ fault p
+    named_no x.side (λ (n : HalfName × ℤ). Expires x.side n.0 n.1) (λ n. expire table (side_at x.side p).end n.0 n.1) _ _ fault p
     (invocation_ended entries since x) is refl refl
 
 listed_no : (table : Table) (entries : List Outline) (since : ℕ) (xs : List ListedStep) (p : Progress) (fault : CheckFault)
@@ -99,10 +99,10 @@ received_no judged table sender number p fault is =
     before = front_lost judged sender p
 
     messages : List Waiting
-    messages = (seat_at sender before).waiting
+    messages = (side_at sender before).waiting
 
     e : End
-    e = (seat_at (other sender) before).end
+    e = (side_at (other sender) before).end
 
     left : Progress
     left = with_waiting sender (drop 1 messages) before
@@ -159,7 +159,7 @@ answered_no side fate number abort taken (first ∷ more) p fault is =
     (Ok (sent_by (Replies side taken) side fate number abort (with_waiting (other side) more p))) fault is)
   where
     so : Bool
-    so = (first.number == taken) && may_be_answered (seat_at side p).end first.message abort
+    so = (first.number == taken) && may_be_answered (side_at side p).end first.message abort
 
     by : ((so ≡ false) × (fault_at BadReply number ≡ fault)) ⊎ ((so ≡ true)
         × ((let x : Result Progress CheckFault = Ok (sent_by (Replies side taken) side fate number abort (with_waiting (other side) more p)) in x) ≡ Err fault))
@@ -194,8 +194,8 @@ halves_no : (judged : Option Side) (table : Table) (number : ℕ) (p : Progress)
     → NoSend fault
 halves_no None table number p fault is = cc
 halves_no (Some side) table number p fault is =
-    closed_no side number p (quiet_after_closings table (seat_at side p).end) fault
-    (map_err (with_steps (map (Closes side) (open_halves (seat_at side p).end))) (halves_quieted side table number p) fault is)
+    closed_no side number p (quiet_after_closings table (side_at side p).end) fault
+    (map_err (with_steps (map (Closes side) (open_halves (side_at side p).end))) (halves_quieted side table number p) fault is)
 
 pub mark_no : (judged : Option Side) (table : Table) (number : ℕ) (takes : List ℕ) (p : Progress) (fault : CheckFault)
     → mark_taken judged table number takes p ≡ Err fault → NoSend fault

@@ -29,7 +29,7 @@ use Rattle.tcap_check.specs.CheckerMeaning.{ReplayState, HasTakenListing, entry_
 use Rattle.tcap_check.specs.GivenRun.{IsAt}
 use Rattle.tcap_check.specs.ReplayInvariants.{checking_of, kept_in}
 use Rattle.tcap_check.specs.ReplaySteps.{gap_kept, mark_taken, peer_message_taken}
-use Rattle.tcap_check.specs.Progress.{IsMemory, YieldsInMemory, front_lost, last_lost, map_ok, reply_kept, seat_at, sent_by}
+use Rattle.tcap_check.specs.Progress.{IsMemory, YieldsInMemory, front_lost, last_lost, map_ok, reply_kept, side_at, sent_by}
 use Rattle.tcap_certificate.specs.Replay.{Replay, all_fit, certificate_fits, fate_fits, fates_fit, fault_at, is_gap, is_nothing}
 use Rattle.tcap_check.specs.RunSoFar.{IsRefusedThere, ShowsAmong, ShowsItem, ShowsSend, of_side, refusal_to_send}
 use Rattle.tcap_check.proofs.progress_laws.KeptGaps.{outlines_count}
@@ -82,7 +82,7 @@ pub reply_shows : (judged : Option Side) (table : Table) (side from : Side) (fat
 reply_shows judged table side from fate number at taken abort message p q left result yields =
     let before = front_lost judged (other from) p in
     step_shows (reply_kept judged from fate at abort taken p) table side number message result q left
-    (answered_no from fate at abort taken (seat_at (other from) before).waiting before) yields
+    (answered_no from fate at abort taken (side_at (other from) before).waiting before) yields
 
 pub told_shows : (table : Table) (side from : Side) (fate : Fate) (number at : ℕ) (told message : Message) (takes : List ℕ) (p q left : Progress)
     (result : Result (Unit {0}) CheckFault) → YieldsInMemory (peer_message_taken from fate at told takes p) result q
@@ -164,22 +164,22 @@ pub entry_shows : (table : Table) (entries : List Entry) (entry : Entry) (number
     → IsRefusedThere table entries fault left.a.end left.b.end
 entry_shows table entries entry number fault left there shows = by (item_of entry) refl (refusal_to_send fault.reason) refl shows
   where
-    seat_is : (side : Side) → (seat_at side left).end ≡ of_side side left.a.end left.b.end
-    seat_is sides.A = refl
-    seat_is sides.B = refl
+    side_is : (side : Side) → (side_at side left).end ≡ of_side side left.a.end left.b.end
+    side_is sides.A = refl
+    side_is sides.B = refl
 
     Found : Option EndFault → Type 0
     Found o = IfSome o (λ reason. (side : Side) × (message : Message) × IsAt entries fault.entry (Sent side message)
         × (send table (of_side side left.a.end left.b.end) message ≡ Err reason))
 
     sent : (side : Side) (message : Message) (o : Option EndFault) → item_of entry ≡ Ok (Sent side message)
-        → IfSome o (λ reason. (fault.entry ≡ number) × (send table (seat_at side left).end message ≡ Err reason)) → Found o
+        → IfSome o (λ reason. (fault.entry ≡ number) × (send table (side_at side left).end message ≡ Err reason)) → Found o
     sent side message None at shows = tt
     sent side message (Some reason) at shows = (
       side,
       message,
       (entry, ap (slice_get entries) shows.0 ∙ there, item_is entry (Sent side message) at),
-      ap (λ (e : End). send table e message) (sym (seat_is side)) ∙ shows.1,
+      ap (λ (e : End). send table e message) (sym (side_is side)) ∙ shows.1,
     )
 
     none : (o : Option EndFault) → refusal_to_send fault.reason ≡ o → refusal_to_send fault.reason ≡ None

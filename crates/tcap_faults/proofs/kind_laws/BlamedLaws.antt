@@ -28,7 +28,7 @@ use Rattle.tcap_refute.specs.Kind.{kind_of_reason, refutation_at}
 use Rattle.tcap_refute.specs.FirstKinds.{first_kinds}
 use Rattle.tcap_refute.proofs.RefutedLaws.{bad_reason, found_so, oks}
 use Rattle.tcap_faults.specs.BlameMeaning.{HasNoMessage, IsAtFaultOf, IsBadEntryOf}
-use Rattle.tcap_faults.specs.Fault.{bad_entry_of, blamed, blamed_behind, fault_since, further_kinds, is_fault, is_open_at_mark}
+use Rattle.tcap_faults.specs.Fault.{bad_entry_of, blamed, blamed_after, fault_since, further_kinds, is_fault, is_open_at_mark}
 use Rattle.tcap_record.specs.Ends.{is_entry_of}
 use Rattle.tcap_faults.specs.UsedAgain.{has_used_again}
 use Rattle.tcap_faults.proofs.kind_laws.QuietMarkLaws.{no_open_mark}
@@ -171,7 +171,7 @@ module _ (table : Table) (side : Side) (r : Refutation) (front : List Entry) (e 
 
 -- If none of these items has a kind, the blamed entry after them is at fault.
 of_behind : (table : Table) (side : Side) (r : Refutation) (front more : List Entry) (before : List Item)
-    → map item_of front ≡ oks before → blamed_behind table side before (length before) (pairs more) ≡ Some r
+    → map item_of front ≡ oks before → blamed_after table side before (length before) (pairs more) ≡ Some r
     → IsAtFaultOf table side (front ++ more) r
 of_behind table side r front [] before fronts is = cc
 of_behind table side r front (e ∷ more) before fronts is =
@@ -179,9 +179,9 @@ of_behind table side r front (e ∷ more) before fronts is =
   where
     on : (item : Item) → item_of e ≡ Ok item
         → (map item_of (front ++ e ∷ []) ≡ oks (before ++ item ∷ [])
-        → blamed_behind table side (before ++ item ∷ []) (length (before ++ item ∷ [])) (pairs more) ≡ Some r
+        → blamed_after table side (before ++ item ∷ []) (length (before ++ item ∷ [])) (pairs more) ≡ Some r
         → IsAtFaultOf table side ((front ++ e ∷ []) ++ more) r)
-        → blamed_behind table side (before ++ item ∷ []) (length before + 1) (pairs more) ≡ Some r
+        → blamed_after table side (before ++ item ∷ []) (length before + 1) (pairs more) ≡ Some r
         → IsAtFaultOf table side (front ++ e ∷ more) r
     on item read rest is =
         subst (λ (es : List Entry). IsAtFaultOf table side es r) (append_assoc front (e ∷ []) more)
@@ -189,9 +189,9 @@ of_behind table side r front (e ∷ more) before fronts is =
         (rw (length-append before (item ∷ [])) is))
 
     by : (x : Result Item Reason) → item_of e ≡ x
-        → blamed_behind table side before (length before) ((e.side, x) ∷ pairs more) ≡ Some r
+        → blamed_after table side before (length before) ((e.side, x) ∷ pairs more) ≡ Some r
         → ((item : Item) → map item_of (front ++ e ∷ []) ≡ oks (before ++ item ∷ [])
-        → blamed_behind table side (before ++ item ∷ []) (length (before ++ item ∷ [])) (pairs more) ≡ Some r
+        → blamed_after table side (before ++ item ∷ []) (length (before ++ item ∷ [])) (pairs more) ≡ Some r
         → IsAtFaultOf table side ((front ++ e ∷ []) ++ more) r)
         → IsAtFaultOf table side (front ++ e ∷ more) r
     by (Err reason) read is rest = of_bad table side r front e more before fronts reason read is

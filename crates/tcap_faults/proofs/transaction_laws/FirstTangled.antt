@@ -248,10 +248,10 @@ module _ (side : Side) (items : List Item) (id : List ℕ) where
           → Some t ≡ tangled_id side items (own ∷ []) id
       tangled_besides own t is = rw (← none, near_besides own, ← is) refl
 
-      pub tangled_behind : (own : List ℕ) → None ≡ tangled_for side own (tangle_of_own side items own)
+      pub tangled_after : (own : List ℕ) → None ≡ tangled_for side own (tangle_of_own side items own)
           → first_tangled (other side) (tangle_of_peer side items) (peers_of side items own)
           ≡ tangled_id side items (own ∷ []) id
-      tangled_behind own plain_own = sym (
+      tangled_after own plain_own = sym (
           rw (
             ← none,
             near_besides own,

@@ -17,7 +17,7 @@ use Rattle.tcap_faults.specs.declared.verdict.earlier_entries.Replay.{Replay}
 use Rattle.tcap_faults.specs.Replay.{IsReplayed, items_up_to}
 use Rattle.tcap_faults.specs.SearchState.{AreCounted, AreRoomy, IsHalfKey, components_in_all}
 use Rattle.tcap_faults.specs.FaultSubject.{items_among}
-use Rattle.tcap_faults.specs.Unblamed.{again_behind}
+use Rattle.tcap_faults.specs.Unblamed.{again_after}
 use Rattle.tcap_faults.specs.UsedAgain.{has_used_again, is_used_again}
 use Rattle.tcap_faults.proofs.component_laws.FewComponentsLaws.{counted_roomy, more_counted, none_counted, still_counted}
 use Rattle.tcap_faults.proofs.list_laws.FindLaws.{one_more}
@@ -88,9 +88,9 @@ module _ (table : Table) (side : Side) where
   -- The first entry is the new one if there was none before and an own ID is used again now.
   again_next : (k number : ℕ) (xs : List (Result Item Reason)) (x : Result Item Reason) (seen : List Item) (first : Option ℕ)
       → k ≡ number + length xs → is_some first ≡ has_used_again table side seen
-      → again_behind table side number (xs ++ x ∷ []) seen first
+      → again_after table side number (xs ++ x ∷ []) seen first
       ≡ cond (has_used_again table side (seen_behind seen (xs ++ x ∷ [])))
-      (option_or (again_behind table side number xs seen first) (Some k)) None
+      (option_or (again_after table side number xs seen first) (Some k)) None
   again_next k number [] (Err reason) seen first at so = first_stays first (has_used_again table side seen) k so
   again_next k number [] (Ok Item.Quiet) seen first at so = refl
   again_next k number [] (Ok (Sent sender m)) seen first at so =
@@ -118,7 +118,7 @@ module _ (table : Table) (side : Side) (entries : List Entry) (number : ℕ) (ol
   replayed_all to up on = record {
     are = subst (λ (es : List Entry). IsHalfKey table (items_among (map item_of es)) old.kept) same so_far.are;
     counted = weaker (subst (λ (es : List Entry). AreCounted (items_among (map item_of es)) number) same so_far.counted);
-    again = so_far.again ∙ ap (λ es. again_behind table side 0 (map item_of es) [] None) same;
+    again = so_far.again ∙ ap (λ es. again_after table side 0 (map item_of es) [] None) same;
   }
     where
       same : take number entries ≡ take to entries
@@ -146,7 +146,7 @@ module _ (table : Table) (side : Side) (entries : List Entry) (number : ℕ) (ol
           ∙ ap₂ (λ seen first. cond (has_used_again table side seen) first None)
           (ap since_quiet (sym (among_both before (item_of entry ∷ []))) ∙ seen_is [] (before ++ item_of entry ∷ []))
           (ap (λ first. option_or first (Some number)) so_far.again)
-          ∙ sym (ap (λ xs. again_behind table side 0 xs [] None) (one_entry entries number entry there)
+          ∙ sym (ap (λ xs. again_after table side 0 xs [] None) (one_entry entries number entry there)
           ∙ again_next table side number 0 before (item_of entry) [] None many refl);
     }
       where

@@ -20,7 +20,7 @@ use Rattle.tcap_refute.specs.Kind.{refutation_at}
 use Rattle.tcap_faults.specs.declared.verdict.first_fault.EndSearch.{EndSearch}
 use Rattle.tcap_faults.specs.declared.verdict.first_fault.SearchState.{SearchState}
 use Rattle.tcap_faults.specs.declared.transaction.history.Facts.{Facts}
-use Rattle.tcap_faults.specs.Fault.{bad_entry_of, blamed, blamed_behind, fault_since}
+use Rattle.tcap_faults.specs.Fault.{bad_entry_of, blamed, blamed_after, fault_since}
 use Rattle.tcap_faults.specs.SearchState.{AreCounted, AreRoomy, IsFound, IsHalfKey, IsTaken, Takes, components_in_all, search_of, search_after_bad, search_after_item, search_begun, search_continued, with_search, search_ended}
 use Rattle.tcap_faults.proofs.component_laws.FewComponentsLaws.{counted_roomy, more_counted, none_counted}
 use Rattle.tcap_faults.proofs.verdict_laws.NextEntryLaws.{peer_alone}
@@ -168,13 +168,13 @@ module _ (table : Table) (side : Side) (entries : List Entry) (items : List Item
       → drop number entries ≡ [] → found ≡ blamed table side entries
   end_found true found known nothing = known
   end_found false found (none, left) nothing =
-      none ∙ sym (ap (λ xs. blamed_behind table side items number (outgoing xs)) nothing) ∙ left
+      none ∙ sym (ap (λ xs. blamed_after table side items number (outgoing xs)) nothing) ∙ left
 
   -- If nothing was found before, the next entry decides.
   module _ (entry : Entry) (there : number < length entries) (is : entry ≡ get_or entries number entry) where
-    next_left : blamed_behind table side items number (outgoing (drop number entries)) ≡ blamed table side entries
-        → blamed_behind table side items number (outgoing_at entries number entry) ≡ blamed table side entries
-    next_left left = sym (ap (blamed_behind table side items number) (next_outgoing entries number entry there is)) ∙ left
+    next_left : blamed_after table side items number (outgoing (drop number entries)) ≡ blamed table side entries
+        → blamed_after table side items number (outgoing_at entries number entry) ≡ blamed table side entries
+    next_left left = sym (ap (blamed_after table side items number) (next_outgoing entries number entry there is)) ∙ left
 
     -- The next entry is no item.
     bad_found : (reason : Reason) → item_of entry ≡ Err reason → (is_over : Bool) (found : Option Refutation) (new : EndSearch)
@@ -184,7 +184,7 @@ module _ (table : Table) (side : Side) (entries : List Entry) (items : List Item
     bad_found reason bad false found new (none, left) so =
         ap (λ l. l.found) so
         ∙ by (bad_entry_of side entry.side reason)
-        ∙ sym (ap (λ r. blamed_behind table side items number ((entry.side, r) ∷ outgoing (drop (number + 1) entries))) bad)
+        ∙ sym (ap (λ r. blamed_after table side items number ((entry.side, r) ∷ outgoing (drop (number + 1) entries))) bad)
         ∙ next_left left
       where
         by : (kind : Option Kind) → (search_ended number kind (look false found)).found ≡ refutation_at number kind
@@ -201,11 +201,11 @@ module _ (table : Table) (side : Side) (entries : List Entry) (items : List Item
     next_found item good false found new (none, left) so =
         subst (λ (l : EndSearch). IsFound table side entries (items ++ item ∷ []) (number + 1) l) (sym so)
         (by (fault_since table side (since_quiet items) item)
-        (sym (ap (λ r. blamed_behind table side items number ((entry.side, r) ∷ outgoing (drop (number + 1) entries))) good)
+        (sym (ap (λ r. blamed_after table side items number ((entry.side, r) ∷ outgoing (drop (number + 1) entries))) good)
         ∙ next_left left))
       where
         rest : Option Refutation
-        rest = blamed_behind table side (items ++ item ∷ []) (number + 1) (outgoing (drop (number + 1) entries))
+        rest = blamed_after table side (items ++ item ∷ []) (number + 1) (outgoing (drop (number + 1) entries))
 
         by : (kind : Option Kind) → option_or (refutation_at number kind) rest ≡ blamed table side entries
             → IsFound table side entries (items ++ item ∷ []) (number + 1) (search_ended number kind (look false found))

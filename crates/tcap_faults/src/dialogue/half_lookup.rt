@@ -64,7 +64,7 @@ fn push_came<'a>(
 }
 
 /// Returns the tallies of a Begin, if there is one, and of what was sent after it. Fails if memory runs out.
-fn outgoing_behind<'a>(
+fn outgoing_after<'a>(
     alloc: Global,
     first: Option<&'a FirstBegin>,
     outgoing: Option<&'a SentTo>,
@@ -149,8 +149,8 @@ impl<'a> PeerId<'a> {
             own,
             requests: begin.requests,
             incoming,
-            outgoing: outgoing_behind(alloc, None, outgoing)?,
-            invoked: outgoing_behind(alloc, None, outgoing)?,
+            outgoing: outgoing_after(alloc, None, outgoing)?,
+            invoked: outgoing_after(alloc, None, outgoing)?,
         })
     }
 
@@ -179,8 +179,8 @@ impl<'a> PeerId<'a> {
             own: Some(own),
             requests: begin.requests,
             incoming: incoming_back(alloc, begin, came)?,
-            outgoing: outgoing_behind(alloc, None, self.to)?,
-            invoked: outgoing_behind(alloc, Some(begin), self.to)?,
+            outgoing: outgoing_after(alloc, None, self.to)?,
+            invoked: outgoing_after(alloc, Some(begin), self.to)?,
         })
     }
 }

@@ -156,7 +156,7 @@ impl<'a> Ends<'a> {
 
     /// Returns an ID of the peer that is joined with this own ID, if it is tangled. The own ID itself must not be
     /// tangled.
-    fn tangled_behind(self, peer: End, own: OwnId) -> Option<TangledId>
+    fn tangled_after(self, peer: End, own: OwnId) -> Option<TangledId>
         ensures { (table : Table) (side : Side) (items : List Item) (id : List ℕ) → IsSide table side items self.entry.own.now
             → IsSide table (other side) items self.entry.peer.now → IsOwnId table side items id own.entry
             → two_differ (peers_of side items id) ≡ false
@@ -192,7 +192,7 @@ impl<'a> Ends<'a> {
         if let Some(tangled) = own.tangled(end) {
             return Some(tangled);
         }
-        self.tangled_behind(end.other(), own)
+        self.tangled_after(end.other(), own)
     }
 
     /// Returns the first tangled ID: the peer's ID, an own ID near it, or an ID of the peer that is joined with one

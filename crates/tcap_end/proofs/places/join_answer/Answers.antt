@@ -7,5 +7,5 @@ pub join-requires : goal.join-requires
 join-requires c =
     let count = c.kinds.ensures.count in
     let below : c.in-Some.kind < length c.kinds.result.now =
-    get_within c.kinds.result.now c.in-Some.kind (ap is_some (c.answers.ensures c.in-Some.kind c.in-Some.is)) in
+    get_within c.kinds.result.now c.in-Some.kind (ap is_some (c.kind_of_answer.ensures c.in-Some.kind c.in-Some.is)) in
     omega (arith, below, count)

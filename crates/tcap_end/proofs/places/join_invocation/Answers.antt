@@ -6,4 +6,4 @@ use Rattle.tcap_end.proofs.places.join_invocation.Goals as goal
 
 pub join-requires : goal.join-requires
 join-requires c =
-    get_within (row_kinds c.args.row.now) c.in-Some.kind (ap is_some (c.invocations.ensures c.in-Some.kind c.in-Some.is))
+    get_within (row_kinds c.args.row.now) c.in-Some.kind (ap is_some (c.kind_of_invocation.ensures c.in-Some.kind c.in-Some.is))

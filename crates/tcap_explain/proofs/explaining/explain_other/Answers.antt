@@ -11,6 +11,6 @@ returns-in-Some c =
     let options : Some both ≡ ends_judged c.args.options.judged c.args.table.now c.args.read.now.entries.items = search rules in
     let found : AreFound c.args.table.now c.args.read.now.entries.items both = search rules in
     let lawful : (is_lawful both.a && is_lawful both.b) ≡ true = search rules in
-    ends_say (λ why. why.outcome) (λ why. string_bytes why.behind) c.args.table.now c.args.certificate.now
+    ends_say (λ why. why.outcome) (λ why. string_bytes why.after) c.args.table.now c.args.certificate.now
     c.args.read.now.entries.items c.args.fault both c.args.options.judged c.explain_ends.result options found lawful
-    c.requires.refused c.explain_ends.ensures.outcome c.explain_ends.ensures.behind
+    c.requires.refused c.explain_ends.ensures.outcome c.explain_ends.ensures.after

@@ -14,8 +14,8 @@ returns-in-None c =
     let judged = c.args.options.judged in
     let entries = c.args.read.now.entries.items in
     let said = c.explain_run.result in
-    replay_run_says (λ why. why.outcome) (λ why. string_bytes why.behind) judged c.args.table.now c.args.certificate.now
+    replay_run_says (λ why. why.outcome) (λ why. string_bytes why.after) judged c.args.table.now c.args.certificate.now
     entries c.in_ok-run.run'.refused c.in_ok-run.run'.steps.items said c.in-None.is so.exact so.lawful so.discards
     (subst (λ (ss : List Step). IfOk said (λ why. why.outcome ≡ lawful_by judged (length entries) (events_of ss))) c.deref.ensures.value
     c.explain_run.ensures.outcome)
-    (subst (λ (ss : List Step). IfOk said (λ why. string_bytes why.behind ≡ run_lines judged ss)) c.deref.ensures.value c.explain_run.ensures.behind)
+    (subst (λ (ss : List Step). IfOk said (λ why. string_bytes why.after ≡ run_lines judged ss)) c.deref.ensures.value c.explain_run.ensures.after)

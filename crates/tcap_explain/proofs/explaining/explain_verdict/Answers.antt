@@ -9,5 +9,5 @@ returns-in-Some c =
     let judged = c.args.options.judged in
     let entries = c.args.read.now.entries.items in
     let named : refutation_by judged c.args.table.now entries ≡ Some c.in-Some.refutation = search rules in
-    named_says (λ why. why.outcome) (λ why. string_bytes why.behind) judged c.args.table.now (proposed_by judged entries) entries
+    named_says (λ why. why.outcome) (λ why. string_bytes why.after) judged c.args.table.now (proposed_by judged entries) entries
     c.in-Some.refutation c.explain_refuted.result named c.explain_refuted.ensures

@@ -15,4 +15,4 @@ returns-clause-fed c octets taken fed =
     (fed_dropped octets (taken ++ c.args.waiting.now.items) c.args.frames.now there.0 there.1 fed) in
     let waits = subst (λ (x : List Entry). IsFramedSoFar octets (taken ++ x) (dropped c.args.frames.now)) (sym there.4) behind in
     c.keep_all-kept.ensures.fed octets taken
-    (subst (λ (h : FramerState). IsFramedSoFar octets (taken ++ c.keep_front.new.waiting.items) h) (sym c.behind_front-behind.ensures) waits)
+    (subst (λ (h : FramerState). IsFramedSoFar octets (taken ++ c.keep_front.new.waiting.items) h) (sym c.after_front-later.ensures) waits)

@@ -1,6 +1,6 @@
 -- One more entry.
 use Rattle.std.proofs.Common.{ap, ◌∙◌, arith}
-use Rattle.tcap_search.specs.Fates.{gap_behind_last}
+use Rattle.tcap_search.specs.Fates.{gap_after_last}
 use Rattle.tcap_search.proofs.FateSteps.{all_lines, gap_step}
 use Rattle.tcap_search.proofs.LineLaws.{count_transactions}
 use Rattle.tcap_search.proofs.fates.last_gaps.Goals as goal
@@ -21,4 +21,4 @@ loop-number-preserved c = record {
 
 pub returns : goal.returns
 returns c = λ side t within. c.loop-number.invariant.gaps side t within
-    ∙ ap (gap_behind_last c.args.judged side t) (all_lines c.args.entries.now c.loop-number.number (omega arith))
+    ∙ ap (gap_after_last c.args.judged side t) (all_lines c.args.entries.now c.loop-number.number (omega arith))

@@ -21,11 +21,11 @@ loop-number-preserved c =
     record {
       fates = losses_step c.args.entries.now c.args.fates.now c.requires k c.loop-number.number next within
           c.index-entries-number.result c.index-entries-number.is c.loop-number.fates c.loop-number.least
-          c.fate_behind_least-fate.result c.loop-number.invariant.fates c.loop-number.invariant.least
-          (rw c.time_kept.ensures at c.fate_behind_least-fate.ensures);
+          c.fate_after_least-fate.result c.loop-number.invariant.fates c.loop-number.invariant.least
+          (rw c.time_kept.ensures at c.fate_after_least-fate.ensures);
       least = λ side. c.note_time.ensures side
           ∙ least_step c.args.entries.now c.args.fates.now c.requires k c.loop-number.number next within
           c.index-entries-number.result c.index-entries-number.is c.loop-number.fates c.loop-number.least
-          c.fate_behind_least-fate.result c.loop-number.invariant.fates c.loop-number.invariant.least
-          (rw c.time_kept.ensures at c.fate_behind_least-fate.ensures) side;
+          c.fate_after_least-fate.result c.loop-number.invariant.fates c.loop-number.invariant.least
+          (rw c.time_kept.ensures at c.fate_after_least-fate.ensures) side;
     }

@@ -9,5 +9,5 @@ returns-clause-found c =
     let len : c.len.result ≡ length all = search rules in
     let least : c.min.result ≡ min c.args.number (length all) = rw (c.min.ensures, len) (omega arith) in
     let items : c.split_off.new.self.items ≡ take c.args.number all =
-    c.in_ok-behind.ensures.items ∙ ap (λ k. take k all) least ∙ take_min c.args.number all in
+    c.in_ok-later.ensures.items ∙ ap (λ k. take k all) least ∙ take_min c.args.number all in
     rw (← items) c.in_ok-found.ensures.found

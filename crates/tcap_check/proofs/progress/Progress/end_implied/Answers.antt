@@ -15,7 +15,7 @@ pub end_invoked-requires : goal.end_invoked-requires
 end_invoked-requires g c =
     let left : length (components_left c.loop-component.component-iterator) ≡ suc (length (components_left c.next.new.self)) =
     ap length c.in-Some.ensures.steps in
-    record { room = omega (arith, left, c.loop-component.invariant.room, c.requires.room) }
+    record { no_overflow = omega (arith, left, c.loop-component.invariant.room, c.requires.no_overflow) }
 
 pub loop-component-preserved : goal.loop-component-preserved
 loop-component-preserved g c =

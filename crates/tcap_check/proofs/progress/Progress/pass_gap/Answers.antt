@@ -9,7 +9,7 @@ deliver_all-requires c =
     c.args.self.now c.hide_all.new.self c.in_ok-hide_all.ensures.hidden in
     let few = some_listed c.args.judged c.get.result.now in
     let m = hidden.0 in let w = hidden.1 in let u = hidden.2 in
-    record { room = omega (arith, m, w, few); count = omega (arith, w, u) }
+    record { no_overflow = omega (arith, m, w, few); count = omega (arith, w, u) }
 
 pub returns-clause-grows : goal.returns-clause-grows
 returns-clause-grows c =

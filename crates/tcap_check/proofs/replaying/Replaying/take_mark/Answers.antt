@@ -26,7 +26,7 @@ returns-in_err-be_quiet-clause-left c =
     c.in_err-be_quiet.ensures.left (listed_behind x y.progress listed passed) (λ is. other (p.2 ∙ is))
     ∙ mark_after x y c.in_ok-fate.fate c.in_ok-pass_gap.ensures.others
     (some_ok (slice_get x.certificate.now.fates (length x.entries.items)) (fault_at FateCount (length x.entries.items)) c.in_ok-fate.fate (sym c.in_ok-fate.ensures))
-    (ap (λ n. is_gap (n + 1) c.in_ok-fate.fate) (sym (c.len-entry.ensures ∙ count)) ∙ sym c.is_gap_behind.ensures ∙ c.if-not-is_gap_behind.false) passed)
+    (ap (λ n. is_gap (n + 1) c.in_ok-fate.fate) (sym (c.len-entry.ensures ∙ count)) ∙ sym c.is_gap_after.ensures ∙ c.if-not-is_gap_after.false) passed)
 
 -- After one more entry the replay is ready for the next.
 ready_after : (x y z w : Replaying) (mark : Outline) (fate : Fate) → IsReady x → IsSameBesideProgress x y → IsSameBesideProgress y z

@@ -10,8 +10,8 @@ loop-live-init c = begins c.args.done.now.items
 
 pub loop-live-preserved : goal.loop-live-preserved
 loop-live-preserved c =
-    stands_with c.args.done.now.items c.loop-live.done.items _ c.loop-live.yielded (c.in-Some.field-0-0, c.in-Some.live) c.in_ok-gathered.field-0 c.loop-live.invariant
-    c.in_ok-push.ensures.items (λ d. c.in_ok-gathered.ensures d)
+    stands_with c.args.done.now.items c.loop-live.done.items _ c.loop-live.yielded (c.in-Some.field-0-0, c.in-Some.live) c.in_ok-into_complete.field-0 c.loop-live.invariant
+    c.in_ok-push.ensures.items (λ d. c.in_ok-into_complete.ensures d)
 
 pub returns : goal.returns
 returns c = λ reuse headings cut.

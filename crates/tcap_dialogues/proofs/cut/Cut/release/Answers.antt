@@ -15,5 +15,5 @@ returns c = λ s names sent apart held.
     let done =
     one_released s names sent c.args.name apart c.args.self.now held c.first.result now (record now { ids = c.change_both.new.self })
     c.in-Some.live
-    c.in_ok-gathered.field-0 c.args.done.now.items out refl refl c.in_ok-change_both.ensures (λ d. c.in_ok-gathered.ensures d) in
+    c.in_ok-into_complete.field-0 c.args.done.now.items out refl refl c.in_ok-change_both.ensures (λ d. c.in_ok-into_complete.ensures d) in
     (done.0, rw c.in_ok-push.ensures.items done.1, ap (λ k. k.reuse) out.rest, ap (λ k. k.count) out.rest)

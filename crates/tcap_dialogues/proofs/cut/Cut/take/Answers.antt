@@ -14,12 +14,12 @@ returns-clause-takes c = λ reuse headings cut.
     let s = courses_so_far reuse headings in
     let apart = apart_so_far reuse headings in
     let names = cut.name in
-    let past = c.past-past.result in
-    let given = c.given_up-given_up.result in
+    let past = c.long_over-long_over.result in
+    let given = c.replaced-replaced.result in
     let is =
     free_names reuse headings h old cut past given
-    (c.past-past.ensures s.live names apart cut.held.lives cut.held.overs (lingers_old reuse headings h old cut))
-    (c.given_up-given_up.ensures s names _ apart cut.held) in
+    (c.long_over-long_over.ensures s.live names apart cut.held.lives cut.held.overs (lingers_old reuse headings h old cut))
+    (c.replaced-replaced.ensures s names _ apart cut.held) in
     let rest_apart = others_of_apart s.live names past given _ is apart in
     let first = c.in_ok-release.ensures s names (sent reuse headings h) apart cut.held in
     let second = c.in_ok-release-2.ensures (after_done names past s) names (sent reuse headings h) rest_apart first.0 in
@@ -42,12 +42,12 @@ returns-clause-begins c = λ reuse headings cut.
     let s = courses_so_far reuse headings in
     let apart = apart_so_far reuse headings in
     let names = cut.name in
-    let past = c.past-past.result in
-    let given = c.given_up-given_up.result in
+    let past = c.long_over-long_over.result in
+    let given = c.replaced-replaced.result in
     let is =
     free_names reuse headings h old cut past given
-    (c.past-past.ensures s.live names apart cut.held.lives cut.held.overs (lingers_old reuse headings h old cut))
-    (c.given_up-given_up.ensures s names _ apart cut.held) in
+    (c.long_over-long_over.ensures s.live names apart cut.held.lives cut.held.overs (lingers_old reuse headings h old cut))
+    (c.replaced-replaced.ensures s names _ apart cut.held) in
     let rest_apart = others_of_apart s.live names past given _ is apart in
     let first = c.in_ok-release.ensures s names (sent reuse headings h) apart cut.held in
     let second = c.in_ok-release-2.ensures (after_done names past s) names (sent reuse headings h) rest_apart first.0 in

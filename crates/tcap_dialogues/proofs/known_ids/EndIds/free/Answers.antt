@@ -12,5 +12,5 @@ returns c =
       | in-None w ↦ rw w.known-is
           (known_done self key w.get_done-known.result (rw c.to_transaction_id.ensures at w.in-None.ensures.value) w.get_done-known.ensures)
     ])
-    (rw (c.to_transaction_id-2.ensures, c.gone.ensures) at c.in_ok-insert.ensures.updates.0)
+    (rw (c.to_transaction_id-2.ensures, c.free_state.ensures) at c.in_ok-insert.ensures.updates.0)
     (rw c.to_transaction_id.ensures at c.remove.ensures.updates.0)

@@ -17,7 +17,7 @@ returns-in_default-clause-step c = λ _.
     (rw (to_z-of_z w8 c.args.id c.ranges.id) at (sym c.answerable_place.ensures ∙ c.in_default.is))
 
 pub take_inn-requires : goal.take_inn-requires
-take_inn-requires c = record { there = (place_some _ _ c.in-Some.at (sym c.answerable_place.ensures ∙ c.in-Some.is)).1 }
+take_inn-requires c = record { exists = (place_some _ _ c.in-Some.at (sym c.answerable_place.ensures ∙ c.in-Some.is)).1 }
 
 pub returns-in_ok-take_inn-clause-step : goal.returns-in_ok-take_inn-clause-step
 returns-in_ok-take_inn-clause-step c =

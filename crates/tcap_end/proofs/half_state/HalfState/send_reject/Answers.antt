@@ -19,13 +19,13 @@ returns-in_default-rejected_place-clause-step c = λ _.
 
 pub take_inn-requires : goal.take_inn-requires
 take_inn-requires c = record {
-  there = (rejects_inn (kept_of c.args.self.now) (whole_rows c.args.self.now.inn) (whole_rows c.args.self.now.grants) _ _ c.in-Some-rejected_place.at
+  exists = (rejects_inn (kept_of c.args.self.now) (whole_rows c.args.self.now.inn) (whole_rows c.args.self.now.grants) _ _ c.in-Some-rejected_place.at
       (rw c.in-Invoke.is at (sym c.rejected_place.ensures ∙ c.in-Some-rejected_place.is))).0;
 }
 
 pub take_grant-requires : goal.take_grant-requires
 take_grant-requires c = record {
-  there = (rejects_grant (kept_of c.args.self.now) (whole_rows c.args.self.now.inn) (whole_rows c.args.self.now.grants) _ c.args.problem c.in-Some-rejected_place.at c.in_default-problem.not-Invoke
+  exists = (rejects_grant (kept_of c.args.self.now) (whole_rows c.args.self.now.inn) (whole_rows c.args.self.now.grants) _ c.args.problem c.in-Some-rejected_place.at c.in_default-problem.not-Invoke
       (sym c.rejected_place.ensures ∙ c.in-Some-rejected_place.is)).0;
 }
 

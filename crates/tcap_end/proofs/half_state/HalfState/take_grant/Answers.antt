@@ -9,13 +9,13 @@ use Rattle.tcap_end.proofs.SendLaws.{goes_back, is_back}
 use Rattle.tcap_end.proofs.half_state.HalfState.take_grant.Goals as goal
 
 pub take-kind-requires : goal.take-kind-requires
-take-kind-requires c = record { there = rw (to_z-of_z w8 c.args.id c.ranges.id) c.requires.there }
+take-kind-requires c = record { exists = rw (to_z-of_z w8 c.args.id c.ranges.id) c.requires.exists }
 
 pub note-requires : goal.note-requires
 note-requires c =
     let list = c.take-kind in
     record {
-      can = goes_back _ c.args.at list.result c.args.self.now.grants list.new.self (rw (to_z-of_z w8 c.args.id c.ranges.id) c.requires.there)
+      can = goes_back _ c.args.at list.result c.args.self.now.grants list.new.self (rw (to_z-of_z w8 c.args.id c.ranges.id) c.requires.exists)
           list.ensures.kind list.ensures.taken list.ensures.keeps;
     }
 
@@ -31,9 +31,9 @@ returns-clause-undoes c =
     still_noted c.note.result (GrantTaken _ c.args.at list.result) c.args.changes.now c.note.new.changes h
     (record h { grants = list.new.self }) c.note.new.self
     (ap (λ rows. record (kept_of h) { grants = rows })
-    (is_back _ c.args.at list.result h.grants list.new.self (rw (to_z-of_z w8 c.args.id c.ranges.id) c.requires.there)
+    (is_back _ c.args.at list.result h.grants list.new.self (rw (to_z-of_z w8 c.args.id c.ranges.id) c.requires.exists)
     list.ensures.kind list.ensures.taken list.ensures.keeps))
     (keeps_grants h list.new.self list.ensures.keeps)
-    (goes_back _ c.args.at list.result h.grants list.new.self (rw (to_z-of_z w8 c.args.id c.ranges.id) c.requires.there)
+    (goes_back _ c.args.at list.result h.grants list.new.self (rw (to_z-of_z w8 c.args.id c.ranges.id) c.requires.exists)
     list.ensures.kind list.ensures.taken list.ensures.keeps)
     c.note.ensures.noted c.note.ensures.undone

@@ -10,20 +10,20 @@ use Rattle.tcap_end.proofs.ReceivingLaws.{sent_place, waits_back}
 use Rattle.tcap_end.proofs.half_state.HalfState.wait.Goals as goal
 
 pub set_state-requires : goal.set_state-requires
-set_state-requires c = record { made = rw (to_z-of_z w8 c.args.id c.ranges.id) (sent_place c.args.id c.args.self.now.out c.requires.there) }
+set_state-requires c = record { made = rw (to_z-of_z w8 c.args.id c.ranges.id) (sent_place c.args.id c.args.self.now.out c.requires.exists) }
 
 pub note-requires : goal.note-requires
 note-requires c =
     record {
       can = rw (to_z-of_z w8 c.args.id c.ranges.id)
-          (c.set_state.ensures.others c.args.id (sent_place c.args.id c.args.self.now.out c.requires.there));
+          (c.set_state.ensures.others c.args.id (sent_place c.args.id c.args.self.now.out c.requires.exists));
     }
 
 pub returns-clause-undoes : goal.returns-clause-undoes
 returns-clause-undoes c =
     let id = c.args.id in
     let out = c.args.self.now.out in
-    let there = c.requires.there in
+    let there = c.requires.exists in
     out_noted c.note.result c.args.changes.now c.note.new.changes c.args.self.now c.note.new.self (Waits id) c.set_state.new.self
     (ap (λ outs. record (kept_of c.args.self.now) { out = outs })
     (ap (with_state id states.OperationSent) (rw (to_z-of_z w8 id c.ranges.id) at c.set_state.ensures.in_state) ∙ waits_back id out there))

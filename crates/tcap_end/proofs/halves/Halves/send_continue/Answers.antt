@@ -2,8 +2,8 @@ use Rattle.tcap_end.specs.Halves.{end_of}
 use Rattle.tcap_end.proofs.OverLaws.{own_there}
 use Rattle.tcap_end.proofs.halves.Halves.send_continue.Goals as goal
 
-pub send_next_continue-requires-clause-there : goal.send_next_continue-requires-clause-there
-send_next_continue-requires-clause-there c = (
+pub send_next_continue-requires-clause-exists : goal.send_next_continue-requires-clause-exists
+send_next_continue-requires-clause-exists c = (
   c.in-Some.ensures.half.0,
   own_there (end_of c.args.self.now) c.args.otid.octets.now c.in-Some.found c.requires.sound c.in-Some.ensures.half,
 )

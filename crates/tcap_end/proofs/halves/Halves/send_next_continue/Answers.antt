@@ -33,9 +33,9 @@ returns-then-not-may_go_on-clause-step c h had _ =
 
 pub step_over-requires-clause-open : goal.step_over-requires-clause-open
 step_over-requires-clause-open c =
-    let had = c.requires.there.1 in
-    open_where c.args.self.now c.args.found.now.slot c.args.found.now.key c.requires.there.0 had
-    (c.in-Some.ensures c.requires.there.0 had).1
+    let had = c.requires.exists.1 in
+    open_where c.args.self.now c.args.found.now.slot c.args.found.now.key c.requires.exists.0 had
+    (c.in-Some.ensures c.requires.exists.0 had).1
 
 pub returns-clause-step : goal.returns-clause-step
 returns-clause-step c h had =

@@ -20,13 +20,13 @@ put_back-requires g c =
     record {
       within = omega (arith, below, items_length row.kinds.items row.places.items);
       empty = none_stood row.kinds.items row.places.items c.args.at row.numbered (rw items c.requires.empty);
-      there = get_within row.kinds.items c.args.kind (rw kind c.requires.there);
+      exists = get_within row.kinds.items c.args.kind (rw kind c.requires.exists);
     }
 
 pub unreachable-requires : goal.unreachable-requires
 unreachable-requires g c =
     has_none c.args.id c.args.self.now (rw (to_z-of_z w8 c.args.id c.ranges.id) at c.in-None.ensures.value)
-    (kind_row c.args.id c.args.kind c.args.self.now c.requires.there)
+    (kind_row c.args.id c.args.kind c.args.self.now c.requires.exists)
 
 pub returns-clause-put : goal.returns-clause-put
 returns-clause-put g c =

@@ -11,12 +11,12 @@ pub take-requires : goal.take-requires
 take-requires g c =
     let row = c.in-Some.row.now in
     let items = got_row c.args.id c.args.self.now row (rw (to_z-of_z w8 c.args.id c.ranges.id) at c.in-Some.ensures.value) in
-    rw c.deref_mut.ensures.value (some_stood row.value.kinds.items row.value.places.items c.args.at (rw items c.requires.there))
+    rw c.deref_mut.ensures.value (some_stood row.value.kinds.items row.value.places.items c.args.at (rw items c.requires.exists))
 
 pub unreachable-requires : goal.unreachable-requires
 unreachable-requires g c =
     has_none c.args.id c.args.self.now (rw (to_z-of_z w8 c.args.id c.ranges.id) at c.in-None.ensures.value)
-    (item_row c.args.id c.args.at c.args.self.now c.requires.there)
+    (item_row c.args.id c.args.at c.args.self.now c.requires.exists)
 
 pub returns-clause-kind : goal.returns-clause-kind
 returns-clause-kind g c =

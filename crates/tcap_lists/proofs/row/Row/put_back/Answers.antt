@@ -10,11 +10,11 @@ pub invariant_of-self-clause-numbered : goal.invariant_of-self-clause-numbered
 invariant_of-self-clause-numbered g c =
     rw c.put-2.ensures
     (set_numbered c.args.self.now.places.items c.args.at (Some c.args.kind) c.requires.within (length c.args.self.now.kinds.items)
-    (λ kind is. let same : c.args.kind ≡ kind = cc in omega (arith, same, c.requires.there)) c.args.self.now.numbered)
+    (λ kind is. let same : c.args.kind ≡ kind = cc in omega (arith, same, c.requires.exists)) c.args.self.now.numbered)
 
 pub invariant_of-self-clause-oldest_of_each : goal.invariant_of-self-clause-oldest_of_each
 invariant_of-self-clause-oldest_of_each g c =
-    let there : c.args.kind < length c.args.self.now.oldest.items = omega (arith, c.requires.there, c.args.self.now.for_each) in
+    let there : c.args.kind < length c.args.self.now.oldest.items = omega (arith, c.requires.exists, c.args.self.now.for_each) in
     let was = rw c.as_slice.ensures at c.place_of_kind-oldest.ensures in
     rw (c.put.ensures, c.put-2.ensures)
     (set_oldest c.args.self.now.places.items c.args.at (Some c.args.kind) c.requires.within c.args.self.now.oldest.items c.args.kind _ there

@@ -1,5 +1,5 @@
 use Rattle.std.proofs.Common.{◌≡◌, None, Some, sym, refl, length, arith, rules}
-use Rattle.tcap_lists.specs.Row.{stood}
+use Rattle.tcap_lists.specs.Row.{kind_at}
 use Rattle.tcap_lists.proofs.ChainLaws.{marked_taken}
 use Rattle.tcap_lists.proofs.RowLaws.{apart_kinds, set_numbered, set_oldest, stands_within}
 use Rattle.tcap_lists.proofs.row.Row.take.Goals as goal
@@ -28,7 +28,7 @@ invariant_of-self-clause-numbered g c =
 pub invariant_of-self-clause-oldest_of_each : goal.invariant_of-self-clause-oldest_of_each
 invariant_of-self-clause-oldest_of_each g c =
     let kind = c.in-Some.kind in
-    let there : stood c.args.self.now.places.items c.args.at ≡ Some kind = rw c.as_slice.ensures at (sym c.in-Some.ensures) in
+    let there : kind_at c.args.self.now.places.items c.args.at ≡ Some kind = rw c.as_slice.ensures at (sym c.in-Some.ensures) in
     let below = c.args.self.now.numbered c.args.at kind there in
     let was = rw c.as_slice-2.ensures at c.place_of_kind-oldest.ensures in
     rw (c.put.ensures, c.put-2.ensures)
@@ -42,5 +42,5 @@ invariant_of-self-clause-oldest_of_each g c =
 pub invariant_of-self-clause-oldest_of_all : goal.invariant_of-self-clause-oldest_of_all
 invariant_of-self-clause-oldest_of_all g c =
     rw c.put.ensures
-    ((rw (c.as_slice-4.ensures, c.put.ensures) at c.oldest_behind-self.ensures) c.args.self.now.places.items refl
+    ((rw (c.as_slice-4.ensures, c.put.ensures) at c.oldest_after-self.ensures) c.args.self.now.places.items refl
     c.args.self.now.oldest_of_all)

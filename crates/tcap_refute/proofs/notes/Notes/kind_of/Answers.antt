@@ -10,5 +10,5 @@ returns g c = λ items are.
     ∙ kind_kept false table items c.args.side m _ _ _
     (noted_of_ids table items c.args.self.now are c.args.side m _ _ _
     (rw (c.at-sender.ensures, c.otid.ensures) at c.from-own.ensures)
-    (rw (c.at.ensures, c.other.ensures, c.dtid.ensures) at c.from-peers.ensures)
+    (rw (c.at.ensures, c.other.ensures, c.dtid.ensures) at c.from-from_peer.ensures)
     (rw (c.at-sender.ensures, c.dtid-2.ensures) at c.has_ended-has_ended.ensures))

@@ -19,8 +19,8 @@ pub returns : goal.returns
 returns c = λ table side items is kept begun.
     let at = is.to in
     is_accepted table side c.args.self.id.now items _ c.args.asked.now c.args.begin.now (option_copied c.args.self.to) kept
-    begun at (origin table side items at) (its side items (first table side items at)) refl incoming c.in_ok-outgoing_behind.ensures
-    c.in_ok-outgoing_behind-2.ensures
+    begun at (origin table side items at) (its side items (first table side items at)) refl incoming c.in_ok-outgoing_after.ensures
+    c.in_ok-outgoing_after-2.ensures
   where
     origin : (table : Table) (side : Side) (items : List Item)
         → IsToAt table (sent_to side items c.args.self.id.now) (option_copied c.args.self.to)

@@ -8,7 +8,7 @@ pub returns : goal.returns
 returns c = λ table side items is begins came.
     is_begun table side c.args.self.id.now items _ c.args.own c.args.begin.now c.args.came.now (option_copied c.args.self.to)
     begins came is.to origin refl refl c.in_ok-incoming_back.ensures
-    c.in_ok-outgoing_behind.ensures c.in_ok-outgoing_behind-2.ensures
+    c.in_ok-outgoing_after.ensures c.in_ok-outgoing_after-2.ensures
   where
     origin : c.if-begin.origin ≡ cond (c.args.begin.now.requests && not c.args.came.now.answered) Unanswered Begun
     origin = elim c.if-begin.branch [

@@ -2,7 +2,7 @@ use Rattle.std.proofs.Common.{◌≡◌, ℕ, List, Option, Some, sym, ap, ◌�
 use Rattle.std.specs.Prelude.{Contains, option_copied}
 use Rattle.tcap_faults.specs.IdList.{IsOneOf}
 use Rattle.tcap_faults.specs.TangledIds.{first_tangled, owns_of, peers_of, tangle_of_peer}
-use Rattle.tcap_faults.proofs.transaction_laws.FirstTangled.{one_behind, tangled_behind, tangled_besides, tangled_itself}
+use Rattle.tcap_faults.proofs.transaction_laws.FirstTangled.{one_behind, tangled_after, tangled_besides, tangled_itself}
 use Rattle.tcap_faults.proofs.transaction_laws.JoinTestLaws.{it_is}
 use Rattle.tcap_faults.proofs.transaction.tangled_ids.Ends.tangled_besides.Goals as goal
 
@@ -25,6 +25,6 @@ pub returns : goal.returns
 returns c = λ table items own id was their is one plain no_own.
     let end = c.args.end in
     let plain_own = sym c.in_default.is ∙ c.tangled.ensures table end items own is in
-    c.tangled_behind.ensures table end items own was their is (one_behind end items own plain_own)
+    c.tangled_after.ensures table end items own was their is (one_behind end items own plain_own)
     ∙ ap (λ s. first_tangled s (tangle_of_peer end items) (peers_of end items own)) c.other.ensures
-    ∙ tangled_behind end items id plain no_own own plain_own
+    ∙ tangled_after end items id plain no_own own plain_own
