@@ -93,9 +93,9 @@ fn write_lines(
         watch: &mut watch,
     };
     match trace {
-        Ok(octets) => run_trace(alloc, &mut Octets::new(octets), asked, &mut sinks),
+        Ok(octets) => run_trace(alloc, NAME, &mut Octets::new(octets), asked, &mut sinks),
         Err(why) => {
-            report_unread(alloc, asked, why, &mut sinks)?;
+            report_unread(alloc, NAME, asked, why, &mut sinks)?;
             Ok(Verdict::Error)
         }
     }
@@ -106,7 +106,6 @@ fn asked_by(rules: Rules, book: &Book) -> TraceOptions<'_>
     ensures { asked_of result ≡ asked_for rules book.now }
 {
     TraceOptions {
-        name: NAME,
         of: rules.of,
         reuse: rules.reuse,
         settled: rules.settled,

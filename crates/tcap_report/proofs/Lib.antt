@@ -8,3 +8,4 @@ pub mod JudgedLaws
 pub mod JudgedListLaws
 pub mod EnterLaws
 pub mod ReadLaws
+pub mod RunLaws

@@ -27,7 +27,7 @@ use Rattle.tcap_report.specs.declared.trace.TraceOptions.{TraceOptions}
 use Rattle.tcap_report.specs.declared.fault.FormFault.{FormFault}
 use Rattle.tcap_report.specs.declared.fault.Halt.{Halt}
 use Rattle.tcap_report.specs.declared.fault.Halt.TheVariants as halts
-use Rattle.tcap_report.specs.Answer.{Answers, Breaks, IsCutShort, IsReported, WhateverFollows, with_front}
+use Rattle.tcap_report.specs.Answer.{Answers, AnswersEarly, AnswersFaulty, AnswersWhole, HasFault, IsCutShort, IsReported, WhateverFollows, with_front}
 use Rattle.tcap_report.specs.Counts.{HasJudged, more, with_read, with_verdict}
 use Rattle.tcap_report.specs.KeptState.{IsOver, IsReading, Keeps, asked_of, before_item, counts_of, courses_at, no_id}
 use Rattle.tcap_report.specs.TraceReading.{HasRead, IsFormHalt, Reads, ReadsOn, Returns}
@@ -240,8 +240,8 @@ module _ (options : TraceOptions) (remaining remaining' : Option (List ℕ)) (fa
       → Answers options remaining remaining' failures failures' verdict before after
   answers_whole (read, those, at_end, same, none, over) is = record {
     read = read;
-    those = those;
-    is = inl (
+    returned = those;
+    answer = inl (
       at_end,
       same,
       none,
@@ -258,8 +258,8 @@ module _ (options : TraceOptions) (remaining remaining' : Option (List ℕ)) (fa
       → Answers options remaining remaining' failures failures' verdict before after
   answers_broken fault old (read, those, ps, reading, why) judged is = record {
     read = read;
-    those = those;
-    is = inr (by why);
+    returned = those;
+    answer = inr (by why);
   }
     where
       reported : (rule : FormRule) → IsReported options (judged_pieces (asked_of options) (made (Some rule) ps)) verdict before after
@@ -267,11 +267,8 @@ module _ (options : TraceOptions) (remaining remaining' : Option (List ℕ)) (fa
           let s = after_pieces (asked_of options) start ps in
           report_is options (made (Some rule) ps) t true verdict before after (trace_over options s FaultAfter no_id t (judged s reading)) refl is sum
 
-      by : Breaks remaining' read ps ⊎ IsCutShort remaining' failures failures' read ps
-          → ((ps : List Piece) × Breaks remaining' read ps × WhateverFollows remaining' (λ more.
-          IsReported options (judged_trace (asked_of options) (read ++ more)) verdict before after))
-          ⊎ ((ps : List Piece) × IsCutShort remaining' failures failures' read ps × (rule : FormRule)
-          × IsReported options (judged_pieces (asked_of options) (record { pieces = ps; fault = Some rule })) verdict before after)
+      by : HasFault remaining' read ps ⊎ IsCutShort remaining' failures failures' read ps
+          → AnswersFaulty options remaining' read verdict before after ⊎ AnswersEarly options remaining' failures failures' read verdict before after
       by (inl (rule, breaks)) =
           inl (
             ps,
@@ -301,64 +298,67 @@ nothing_is_error : (options : TraceOptions) (read : List ℕ) → read ≡ [] �
 unfolding judged_trace
 nothing_is_error options read none = ap (λ l. (judged_trace (asked_of options) l).verdict) none
 
+-- the octets that a reader returned up to its end
+all_returned : (octets : List ℕ) (remaining : Option (List ℕ)) (read : List ℕ) → Consumes (Some octets) remaining read → IsAtEnd remaining
+    → octets ≡ read
+all_returned octets None read consumes at_end = absurd consumes
+all_returned octets (Some rest) read consumes at_end = consumes ∙ ap (λ l. read ++ l) at_end ∙ append-nil read
+
 module _ (options : TraceOptions) (remaining remaining' : Option (List ℕ)) (failures failures' : ℕ) (verdict : Verdict) (before after : Sum)
     (answers : Answers options remaining remaining' failures failures' verdict before after) where
   -- The verdict on the trace is counted.
   pub counted_once : HasJudged (verdict ∷ []) before after
-  counted_once = by answers.is
+  counted_once = by answers.answer
     where
       reported : (report : JudgedTrace) → IsReported options report verdict before after → HasJudged (verdict ∷ []) before after
       reported report is = ap (λ (s : Sum). s.traces) is.sum
 
-      by : (IsAtEnd remaining' × (failures' ≡ failures) × ((pieces_of answers.read).fault ≡ None)
-          × IsReported options (judged_trace (asked_of options) answers.read) verdict before after)
-          ⊎ ((ps : List Piece) × Breaks remaining' answers.read ps × WhateverFollows remaining' (λ more.
-          IsReported options (judged_trace (asked_of options) (answers.read ++ more)) verdict before after))
-          ⊎ ((ps : List Piece) × IsCutShort remaining' failures failures' answers.read ps × (rule : FormRule)
-          × IsReported options (judged_pieces (asked_of options) (record { pieces = ps; fault = Some rule })) verdict before after)
-          → HasJudged (verdict ∷ []) before after
+      by : AnswersWhole options remaining' failures failures' answers.read verdict before after
+          ⊎ AnswersFaulty options remaining' answers.read verdict before after
+          ⊎ AnswersEarly options remaining' failures failures' answers.read verdict before after → HasJudged (verdict ∷ []) before after
       by (inl (at_end, same, none, is)) = reported _ is
-      by (inr (inl (ps, breaks, is))) = reported _ (is [] (λ end. refl))
+      by (inr (inl (ps, faulty, is))) = reported _ (is [] (λ end. refl))
       by (inr (inr (ps, short, rule, is))) = reported _ is
+
+  -- A trace that is no error is whole.
+  whole_or_error : (verdict ≡ verdicts.Error) ⊎ AnswersWhole options remaining' failures failures' answers.read verdict before after
+  whole_or_error = by answers.answer
+    where
+      by : AnswersWhole options remaining' failures failures' answers.read verdict before after
+          ⊎ AnswersFaulty options remaining' answers.read verdict before after
+          ⊎ AnswersEarly options remaining' failures failures' answers.read verdict before after
+          → (verdict ≡ verdicts.Error) ⊎ AnswersWhole options remaining' failures failures' answers.read verdict before after
+      by (inl whole) = inr whole
+      by (inr (inl (ps, (rule, faulty), is))) =
+          let all = is [] (λ end. refl) in
+          inl (all.is ∙ broken_trace_is_error options (answers.read ++ []) (with_front ps (stopped rule)) (faulty [] (λ end. refl)) refl)
+      by (inr (inr (ps, short, rule, is))) = inl (is.is ∙ broken_is_error options (record { pieces = ps; fault = Some rule }) refl)
 
   -- A trace that is no error was read to its end.
   pub read_whole : (verdict ≡ verdicts.Error) ⊎ (IsAtEnd remaining' × (failures' ≡ failures))
-  read_whole = by answers.is
+  read_whole = by whole_or_error
     where
-      by : (IsAtEnd remaining' × (failures' ≡ failures) × ((pieces_of answers.read).fault ≡ None)
-          × IsReported options (judged_trace (asked_of options) answers.read) verdict before after)
-          ⊎ ((ps : List Piece) × Breaks remaining' answers.read ps × WhateverFollows remaining' (λ more.
-          IsReported options (judged_trace (asked_of options) (answers.read ++ more)) verdict before after))
-          ⊎ ((ps : List Piece) × IsCutShort remaining' failures failures' answers.read ps × (rule : FormRule)
-          × IsReported options (judged_pieces (asked_of options) (record { pieces = ps; fault = Some rule })) verdict before after)
+      by : (verdict ≡ verdicts.Error) ⊎ AnswersWhole options remaining' failures failures' answers.read verdict before after
           → (verdict ≡ verdicts.Error) ⊎ (IsAtEnd remaining' × (failures' ≡ failures))
-      by (inl (at_end, same, none, is)) = inr (at_end, same)
-      by (inr (inl (ps, (rule, breaks), is))) =
-          let all = is [] (λ end. refl) in
-          inl (all.is ∙ broken_trace_is_error options (answers.read ++ []) (with_front ps (stopped rule)) (breaks [] (λ end. refl)) refl)
-      by (inr (inr (ps, short, rule, is))) = inl (is.is ∙ broken_is_error options (record { pieces = ps; fault = Some rule }) refl)
+      by (inl error) = inl error
+      by (inr (at_end, same, none, is)) = inr (at_end, same)
+
+  -- The verdict on a trace with these octets is an error, or the one that is defined for them.
+  pub verdict_defined : (octets : List ℕ) → remaining ≡ Some octets
+      → (verdict ≡ verdicts.Error) ⊎ (verdict ≡ (judged_trace (asked_of options) octets).verdict)
+  verdict_defined octets known = by whole_or_error
+    where
+      by : (verdict ≡ verdicts.Error) ⊎ AnswersWhole options remaining' failures failures' answers.read verdict before after
+          → (verdict ≡ verdicts.Error) ⊎ (verdict ≡ (judged_trace (asked_of options) octets).verdict)
+      by (inl error) = inl error
+      by (inr (at_end, same, none, is)) =
+          let consumes = subst (λ left. Consumes left remaining' answers.read) known answers.returned in
+          inr (is.is ∙ ap (λ l. (judged_trace (asked_of options) l).verdict) (sym (all_returned octets remaining' answers.read consumes at_end)))
 
   -- A reader that has nothing gives an error.
   pub nothing_read : remaining ≡ Some [] → verdict ≡ verdicts.Error
-  nothing_read none = by answers.is
+  nothing_read none = by (verdict_defined [] none)
     where
-      empty : answers.read ≡ []
-      empty = of remaining' answers.read (subst (λ known. Consumes known remaining' answers.read) none answers.those)
-        where
-          of : (left : Option (List ℕ)) (xs : List ℕ) → Consumes (Some []) left xs → xs ≡ []
-          of None xs is = absurd is
-          of (Some ys) [] is = refl
-          of (Some ys) (x ∷ xs) is = cc
-
-      by : (IsAtEnd remaining' × (failures' ≡ failures) × ((pieces_of answers.read).fault ≡ None)
-          × IsReported options (judged_trace (asked_of options) answers.read) verdict before after)
-          ⊎ ((ps : List Piece) × Breaks remaining' answers.read ps × WhateverFollows remaining' (λ more.
-          IsReported options (judged_trace (asked_of options) (answers.read ++ more)) verdict before after))
-          ⊎ ((ps : List Piece) × IsCutShort remaining' failures failures' answers.read ps × (rule : FormRule)
-          × IsReported options (judged_pieces (asked_of options) (record { pieces = ps; fault = Some rule })) verdict before after)
-          → verdict ≡ verdicts.Error
-      by (inl (at_end, same, no_fault, is)) = is.is ∙ nothing_is_error options answers.read empty
-      by (inr (inl (ps, (rule, breaks), is))) =
-          let all = is [] (λ end. refl) in
-          all.is ∙ broken_trace_is_error options (answers.read ++ []) (with_front ps (stopped rule)) (breaks [] (λ end. refl)) refl
-      by (inr (inr (ps, short, rule, is))) = is.is ∙ broken_is_error options (record { pieces = ps; fault = Some rule }) refl
+      by : (verdict ≡ verdicts.Error) ⊎ (verdict ≡ (judged_trace (asked_of options) []).verdict) → verdict ≡ verdicts.Error
+      by (inl error) = error
+      by (inr is) = is ∙ nothing_is_error options [] refl

@@ -20,8 +20,8 @@ abbrev pub WhateverFollows : Option (List ℕ) → (List ℕ → Type 0) → Typ
 WhateverFollows remaining P = (more : List ℕ) → (IsAtEnd remaining → more ≡ []) → P more
 
 -- The form of a trace that begins with these octets has a fault after the pieces `ps`.
-abbrev pub Breaks : Option (List ℕ) → List ℕ → List Piece → Type 0
-Breaks remaining read ps = (rule : FormRule) × WhateverFollows remaining (λ more. pieces_of (read ++ more) ≡ with_front ps (stopped rule))
+abbrev pub HasFault : Option (List ℕ) → List ℕ → List Piece → Type 0
+HasFault remaining read ps = (rule : FormRule) × WhateverFollows remaining (λ more. pieces_of (read ++ more) ≡ with_front ps (stopped rule))
 
 -- The reading may stop after these octets: the reader failed once, or it returned 2 ^ 64 - 1 octets or pieces, or more.
 -- `ps` are first pieces of the trace, maybe not all that were read.
@@ -37,17 +37,30 @@ pub record IsReported (options : TraceOptions) (report : JudgedTrace) (verdict :
   pub is : verdict ≡ report.verdict
   pub sum : after ≡ with_verdict verdict (with_read (counts_of (map (verdict_on (asked_of options)) report.dialogues)) report.messages unheard before)
 
--- `read` are the octets that the reader returned, or any octets if these are not known. Either they are the whole trace,
--- no read failed, the form has no fault, and the report is that of `judged_trace`. Or the form has a fault, and the report
--- is that of `judged_trace`, no matter which octets follow. Or the reading stopped early, and the report is that on first
--- pieces of the trace and a fault after them.
+-- These octets are the whole trace, no read failed, the form has no fault, and the report is that of `judged_trace`.
+abbrev pub AnswersWhole : TraceOptions → Option (List ℕ) → ℕ → ℕ → List ℕ → Verdict → Sum → Sum → Type 0
+AnswersWhole options remaining failures failures' read verdict before after =
+    IsAtEnd remaining × (failures' ≡ failures) × ((pieces_of read).fault ≡ None)
+    × IsReported options (judged_trace (asked_of options) read) verdict before after
+
+-- The form has a fault, and the report is that of `judged_trace`, no matter which octets follow.
+abbrev pub AnswersFaulty : TraceOptions → Option (List ℕ) → List ℕ → Verdict → Sum → Sum → Type 0
+AnswersFaulty options remaining read verdict before after =
+    (ps : List Piece) × HasFault remaining read ps
+    × WhateverFollows remaining (λ more. IsReported options (judged_trace (asked_of options) (read ++ more)) verdict before after)
+
+-- The reading stopped early, and the report is that on first pieces of the trace and a fault after them.
+abbrev pub AnswersEarly : TraceOptions → Option (List ℕ) → ℕ → ℕ → List ℕ → Verdict → Sum → Sum → Type 0
+AnswersEarly options remaining failures failures' read verdict before after =
+    (ps : List Piece) × IsCutShort remaining failures failures' read ps × (rule : FormRule)
+    × IsReported options (judged_pieces (asked_of options) (record { pieces = ps; fault = Some rule })) verdict before after
+
+-- The reader returned the octets `read`, or any octets if its octets are not known. They are the whole trace, or its form
+-- has a fault, or the reading stopped early; and this is the verdict on them.
 pub record Answers (options : TraceOptions) (remaining remaining' : Option (List ℕ)) (failures failures' : ℕ) (verdict : Verdict)
     (before after : Sum) : Type 0 where
   pub read : List ℕ
-  pub those : Consumes remaining remaining' read
-  pub is : (IsAtEnd remaining' × (failures' ≡ failures) × ((pieces_of read).fault ≡ None)
-      × IsReported options (judged_trace (asked_of options) read) verdict before after)
-      ⊎ ((ps : List Piece) × Breaks remaining' read ps × WhateverFollows remaining' (λ more.
-      IsReported options (judged_trace (asked_of options) (read ++ more)) verdict before after))
-      ⊎ ((ps : List Piece) × IsCutShort remaining' failures failures' read ps × (rule : FormRule)
-      × IsReported options (judged_pieces (asked_of options) (record { pieces = ps; fault = Some rule })) verdict before after)
+  pub returned : Consumes remaining remaining' read
+  pub answer : AnswersWhole options remaining' failures failures' read verdict before after
+      ⊎ AnswersFaulty options remaining' read verdict before after
+      ⊎ AnswersEarly options remaining' failures failures' read verdict before after

@@ -3,3 +3,4 @@ pub mod TraceReading
 pub mod NotedCase
 pub mod KeptState
 pub mod Answer
+pub mod RunAnswer

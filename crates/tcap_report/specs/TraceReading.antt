@@ -12,7 +12,7 @@ use Rattle.tcap_report.specs.declared.fault.Halt.{Halt}
 use Rattle.tcap_report.specs.declared.fault.Halt.TheVariants as halts
 use Rattle.tcap_report.specs.declared.trace.Trace.{Trace}
 use Rattle.tcap_report.specs.declared.trace.TraceOptions.{TraceOptions}
-use Rattle.tcap_report.specs.Answer.{Breaks, IsCutShort, with_front}
+use Rattle.tcap_report.specs.Answer.{HasFault, IsCutShort, with_front}
 use Rattle.tcap_report.specs.KeptState.{IsOver, IsReading, asked_of}
 
 -- A piece is returned: it is the next one. None is returned: more octets are needed, or there are no more pieces. The
@@ -48,7 +48,7 @@ Reads options remaining remaining' failures failures' (Ok _) t =
 Reads options remaining remaining' failures failures' (Err (halts.Form fault)) t =
     (read : List ℕ) × Consumes remaining remaining' read × (ps : List Piece)
     × IsReading options (after_pieces (asked_of options) start ps) t
-    × (Breaks remaining' read ps ⊎ IsCutShort remaining' failures failures' read ps)
+    × (HasFault remaining' read ps ⊎ IsCutShort remaining' failures failures' read ps)
 Reads options remaining remaining' failures failures' (Err (halts.Stop stop)) t = Unit {0}
 
 -- A fault of the form or of the reader, or too many octets.

@@ -9,7 +9,8 @@ use crate::doubt_words::push_hint;
 use crate::fault::{FormFault, Stop};
 use crate::sinks::{Lines, Sinks, TraceSummary, write_text};
 use crate::sum::{Sum, push_counts};
-use crate::trace::{Trace, TraceOptions, Watch};
+use crate::trace::{Trace, TraceOptions};
+use crate::watch::Watch;
 use std::alloc::{AllocError, Global};
 use tcap_ber::Write;
 use tcap_traces::{Verdict, trace_verdict};
@@ -85,7 +86,7 @@ impl Trace<'_> {
         push_hint(&mut line, hint)?;
         write_text(sinks.text, &line)?;
         let returned = TraceSummary {
-            name: self.options.name,
+            name: self.name,
             verdict,
             messages: self.messages,
             dialogues: self.dialogues,
@@ -120,7 +121,7 @@ impl Trace<'_> {
 
     /// Appends the line of the trace: its name, its verdict, `why` and its counts.
     fn push_line(&self, text: &mut String, verdict: Verdict, why: &str) -> Result<(), AllocError> {
-        text.push_str(self.options.name)?;
+        text.push_str(self.name)?;
         text.push_str(": ")?;
         text.push_str(verdict.word())?;
         if !why.is_empty() {
@@ -138,6 +139,7 @@ impl Trace<'_> {
 /// `Stop::Memory` if memory runs out, `Stop::Write` if a sink fails.
 pub fn report_unread<W: Write, J: Lines, P: Watch>(
     alloc: Global,
+    name: &str,
     options: TraceOptions,
     why: &str,
     sinks: &mut Sinks<W, J, P>,
@@ -149,5 +151,5 @@ pub fn report_unread<W: Write, J: Lines, P: Watch>(
 {
     let mut text = String::new(alloc);
     text.push_str(why)?;
-    Trace::new(alloc, options).end(Some(FormFault { line: None, text }), None, sinks)
+    Trace::new(alloc, name, options).end(Some(FormFault { line: None, text }), None, sinks)
 }

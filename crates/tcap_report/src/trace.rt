@@ -28,6 +28,7 @@ use crate::sinks::{Lines, Sinks};
 use crate::sum::{Counts, Sum};
 use crate::trace_reader::TraceReader;
 use crate::unheard::is_unheard_or_silent;
+use crate::watch::Watch;
 use std::alloc::{AllocError, Global};
 use std::collections::BTreeMap;
 use std::mem;
@@ -39,11 +40,9 @@ use tcap_traces::{
     BeforeMarks, Case, JudgedDialogue, NextItem, Piece, TraceEntry, Unread, Verdict, judge,
 };
 
-/// The options for a trace.
+/// What is asked of a trace.
 #[derive(Clone, Copy, Debug)]
 pub struct TraceOptions<'a> {
-    /// The name of the trace.
-    pub name: &'a str,
     /// The end whose verdicts are asked, or None for both.
     pub of: Option<End>,
     /// The rule for using transaction IDs again.
@@ -56,30 +55,11 @@ pub struct TraceOptions<'a> {
     pub book: &'a Book,
 }
 
-/// An observer of progress while traces are read.
-pub trait Watch {
-    /// Called when this many octets of a trace were read.
-    fn read(&mut self, octets: usize);
-
-    /// Called when some octets were read or a dialogue was judged, with the sum so far and the number of dialogues of
-    /// the trace that are not judged yet.
-    fn look(&mut self, sum: &Sum, waiting: usize);
-}
-
-/// An observer that ignores all progress.
-#[derive(Drop)]
-pub struct NoWatch;
-
-impl Watch for NoWatch {
-    fn read(&mut self, _octets: usize) {}
-
-    fn look(&mut self, _sum: &Sum, _waiting: usize) {}
-}
-
 /// The state of a trace that is being read.
 #[derive(Drop)]
 pub(crate) struct Trace<'a> {
     pub(crate) alloc: Global,
+    pub(crate) name: &'a str,
     pub(crate) options: TraceOptions<'a>,
     cut: Cut,
     // The entries of the segment that wait to be judged, by their numbers in the segment.
@@ -103,12 +83,13 @@ pub(crate) struct Trace<'a> {
 
 impl<'a> Trace<'a> {
     /// Creates the state before the first octet.
-    pub(crate) fn new(alloc: Global, options: TraceOptions<'a>) -> Trace<'a>
+    pub(crate) fn new(alloc: Global, name: &'a str, options: TraceOptions<'a>) -> Trace<'a>
         ensures reading { IsReading options.entry start result }
         ensures nothing { (result.readable ≡ 0) × (result.messages ≡ 0) × (result.unheard ≡ 0) × (result.dialogues ≡ no_counts) }
     {
         Trace {
             alloc,
+            name,
             options,
             cut: Cut::new(alloc, options.reuse),
             held: BTreeMap::new(alloc),
@@ -291,7 +272,7 @@ impl<'a> Trace<'a> {
             return Ok(());
         }
         self.count(case, judged);
-        sinks.report_case(self.alloc, self.options.name, case, judged, self.options.of)
+        sinks.report_case(self.alloc, self.name, case, judged, self.options.of)
     }
 
     /// Counts the verdict on a dialogue.
@@ -448,7 +429,8 @@ fn is_reported(case: &Case, judged: &JudgedDialogue) -> bool
     }
 }
 
-/// Judges each dialogue of the trace in `reader`, reports to `sinks`, and returns the verdict on the trace.
+/// Judges each dialogue of the trace in `reader`, reports to `sinks` under this name, and returns the verdict on the
+/// trace.
 ///
 /// A fault of the trace's form ends the reading, and the verdict is an error. The dialogues that are over by then are
 /// reported; the others are reported only if they fail.
@@ -457,6 +439,7 @@ fn is_reported(case: &Case, judged: &JudgedDialogue) -> bool
 /// `Stop::Memory` if memory runs out, `Stop::Write` if a sink fails.
 pub fn run_trace<R: Read, W: Write, J: Lines, P: Watch>(
     alloc: Global,
+    name: &str,
     reader: &mut R,
     options: TraceOptions,
     sinks: &mut Sinks<W, J, P>,
@@ -469,7 +452,7 @@ pub fn run_trace<R: Read, W: Write, J: Lines, P: Watch>(
         ⊎ IsAtEnd (R.remaining reader.new) × (R.failures reader.new ≡ R.failures reader.old)) }
     ensures same_sum { sinks.new.sum.ghost_name ≡ sinks.old.sum.ghost_name }
 {
-    let mut trace = Trace::new(alloc, options);
+    let mut trace = Trace::new(alloc, name, options);
     let mut octets = TraceReader::new(alloc);
     trace.run(reader, &mut octets, sinks)
 }

@@ -117,7 +117,6 @@ pub(crate) fn is_trace(alloc: Global, lines: &str, book: &str, wanted: &str) -> 
     let lines = lines_of(alloc, lines)?;
     let book = Book::from_json(alloc, book.as_bytes()).ok()?;
     let asked = TraceOptions {
-        name: "t",
         of: None,
         reuse: Reuse::Again(10),
         settled: false,
@@ -140,6 +139,6 @@ pub(crate) fn is_trace(alloc: Global, lines: &str, book: &str, wanted: &str) -> 
         watch: &mut nobody,
     };
     let mut reader = Counted::new(lines.as_slice());
-    let verdict = run_trace(alloc, &mut reader, asked, &mut sinks).ok()?;
+    let verdict = run_trace(alloc, "t", &mut reader, asked, &mut sinks).ok()?;
     is_verdict(alloc, verdict, wanted)
 }

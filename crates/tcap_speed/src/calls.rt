@@ -50,7 +50,6 @@ fn blame_of(alloc: Global, octets: &[u8], table: &Table) -> Option<Status> {
 /// Returns the options for judging both ends of a trace with this table set.
 fn asked_by(book: &Book) -> TraceOptions<'_> {
     TraceOptions {
-        name: "trace",
         of: None,
         reuse: Reuse::Again(10_000),
         settled: false,
@@ -72,7 +71,7 @@ fn said_of(alloc: Global, lines: &[u8], asked: TraceOptions) -> Result<(Verdict,
         sum: &mut sum,
         watch: &mut watch,
     };
-    let verdict = run_trace(alloc, &mut Counted::new(lines), asked, &mut sinks)?;
+    let verdict = run_trace(alloc, "trace", &mut Counted::new(lines), asked, &mut sinks)?;
     Ok((verdict, text.into_inner()))
 }
 

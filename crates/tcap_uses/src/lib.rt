@@ -22,6 +22,7 @@ mod parts;
 mod prompt;
 mod record;
 mod refute;
+mod runs;
 mod search;
 mod traces;
 
@@ -45,5 +46,6 @@ pub use parts::first_component;
 pub use prompt::is_prompt;
 pub use record::{entries_of, ids_of};
 pub use refute::no_certificate_helps;
+pub use runs::do_pass;
 pub use search::is_shown_lawful;
 pub use traces::verdict_on;

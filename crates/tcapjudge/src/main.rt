@@ -11,6 +11,7 @@ mod packing;
 mod progress;
 mod source;
 mod testing;
+mod trace_files;
 mod writing;
 
 use crate::explaining::{Paths, explain};

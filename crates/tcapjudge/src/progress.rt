@@ -40,15 +40,6 @@ impl<'a> Progress<'a> {
         }
     }
 
-    /// Begins a trace, of this many octets if that is known.
-    pub(crate) fn begin(&mut self, size: Option<u64>) {
-        self.octets = 0;
-        self.size = size;
-        if let Some(last) = &mut self.last {
-            last.octets = None;
-        }
-    }
-
     /// Appends the line of the sum, and the speed since `last`.
     fn push(
         &self,
@@ -113,6 +104,14 @@ impl<'a> Progress<'a> {
 }
 
 impl Watch for Progress<'_> {
+    fn begin(&mut self, octets: Option<u64>) {
+        self.octets = 0;
+        self.size = octets;
+        if let Some(last) = &mut self.last {
+            last.octets = None;
+        }
+    }
+
     fn read(&mut self, octets: usize) {
         self.octets = self.octets.saturating_add(octets as u64);
     }

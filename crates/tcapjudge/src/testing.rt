@@ -1,17 +1,15 @@
 //! The subcommand `test`, which judges each dialogue of traces.
 
-ghost use Rattle.std.specs.Prelude.{◌≡◌, [], ◌∷◌, true, is_some, IfOk, OnErr, OnOk, length};
+ghost use Rattle.std.specs.Prelude.{◌≡◌, true, is_some, IfOk, OnErr, OnOk, length};
 ghost use Rattle.tcap_traces.specs.declared.verdict.Verdict.TheVariants as verdicts;
 ghost use Rattle.tcap_traces.specs.Verdict.{status_of};
-ghost use Rattle.tcap_report.specs.Counts.{HasJudged, worst_of};
-ghost use Rattle.tcapjudge.specs.TestStatus.{AreCounted, IsStatus, IsWorst};
+ghost use Rattle.tcap_report.specs.Counts.{worst_of};
+ghost use Rattle.tcapjudge.specs.TestStatus.{AreErrors, AreOptions, IsJudged, IsStatus, JudgesEach};
 
-use crate::opening::{
-    DASH, WRONG_WORDS, display_name, hint_on_codes, hint_on_text, is_folder, is_read_twice,
-};
-use crate::outputs::{INPUT, Outputs, stand_ins};
+use crate::opening::{DASH, WRONG_WORDS, display_name, hint_on_codes, hint_on_text, is_read_twice};
+use crate::outputs::{Outputs, stand_ins};
 use crate::progress::Progress;
-use crate::source::Source;
+use crate::trace_files::TraceFiles;
 use crate::writing::{Output, Sink, report_unprinted};
 use std::alloc::AllocError;
 use std::fmt::Display;
@@ -22,7 +20,7 @@ use tcap_books::{AMBIGUOUS, Book, CARRIED_BOOK, CLASH};
 use tcap_command_line::{Ids, Test, VERSION};
 use tcap_diagnostics::Role;
 use tcap_dialogues::Reuse;
-use tcap_report::{Junit, Lines, Page, Sinks, Stop, Sum, TraceOptions, report_unread, run_trace};
+use tcap_report::{Junit, Lines, Page, Sinks, Stop, Sum, TraceOptions, report_unread, run_test};
 use tcap_traces::Verdict;
 
 /// The tables that judge the dialogues.
@@ -214,82 +212,97 @@ fn report_fault<E: Display>(
     Ok(why)
 }
 
-/// Returns the number of octets of the plain file with this path, if there is one.
-fn size_of(rt: &HostRuntime, path: &str) -> Option<u64> {
-    match fs::metadata(rt, path) {
-        Ok(found) if path != DASH && found.is_file() => Some(found.len()),
-        _ => None,
-    }
-}
-
-/// The reason why a directory is no trace.
-const IS_FOLDER: &str = "it is a directory";
-
-/// Judges the trace with this path. If a table is refused, the trace is not read, and is an error for that reason.
-fn test_path<W: Write, J: Lines>(
-    rt: &HostRuntime,
-    path: &str,
-    asked: TraceOptions,
-    refused: &Option<String>,
-    sinks: &mut Sinks<W, J, Progress>,
-) -> Result<Verdict, Stop>
-    ensures judged { IfOk result (λ verdict. HasJudged (verdict ∷ []) sinks.old.sum.now sinks.new.sum.now) }
-    ensures refused { is_some refused.now ≡ true → IfOk result (λ verdict. verdict ≡ verdicts.Error) }
+/// Returns the options that the command line gives for each trace.
+fn options_of<'a>(test: &Test, book: &'a Book) -> TraceOptions<'a>
+    ensures { AreOptions test.now result.entry }
 {
-    let alloc = rt.alloc();
-    sinks.watch.begin(size_of(rt, path));
-    if let Some(why) = refused {
-        return report_unread(alloc, asked, why, sinks);
-    }
-    if path == DASH {
-        if is_folder(rt, INPUT) {
-            return report_unread(alloc, asked, IS_FOLDER, sinks);
-        }
-        return run_trace(alloc, &mut Source::input(rt), asked, sinks);
-    }
-    match fs::open(rt, path) {
-        Ok(file) if is_folder(rt, path) => report_unread(alloc, asked, IS_FOLDER, sinks),
-        Ok(file) => run_trace(alloc, &mut Source::file(file), asked, sinks),
-        Err(error) => {
-            let mut text = String::new(alloc);
-            if write!(text, "{error}").is_err() {
-                return Err(Stop::Memory);
-            }
-            report_unread(alloc, asked, &text, sinks)
-        }
+    TraceOptions {
+        of: test.of,
+        reuse: match test.ids {
+            Ids::Once => Reuse::Once,
+            _ => Reuse::Again(test.linger),
+        },
+        settled: test.ids == Ids::Settled,
+        complete: test.complete,
+        book,
     }
 }
 
-/// Judges all traces, writes the line of the sum, and returns the worst verdict on a trace.
-fn test_all<W: Write, J: Lines>(
+/// Reports each trace as an error for the reason why a table is refused. No trace is opened.
+fn refuse_all<W: Write, J: Lines>(
+    rt: &HostRuntime,
+    test: &Test,
+    tables: &Tables,
+    why: &str,
+    sinks: &mut Sinks<W, J, Progress>,
+) -> Result<(), Stop>
+    ensures errors { OnOk result (AreErrors (length test.now.traces.items) sinks.old.sum.now sinks.new.sum.now) }
+{
+    for path in &test.traces {
+        report_unread(
+            rt.alloc(),
+            *path,
+            options_of(test, &tables.book),
+            why,
+            sinks,
+        )?;
+    }
+    Ok(())
+}
+
+/// Opens and judges each trace.
+fn judge_all<W: Write, J: Lines>(
     rt: &HostRuntime,
     test: &Test,
     tables: &Tables,
     sinks: &mut Sinks<W, J, Progress>,
-) -> Result<Verdict, Stop>
-    ensures each { OnOk result (AreCounted (length test.now.traces.items) sinks.old.sum.now sinks.new.sum.now) }
-    ensures worst { IfOk result (λ verdict. verdict ≡ worst_of sinks.new.sum.now) }
+) -> Result<(), Stop>
+    ensures judges { OnOk result (JudgesEach test.now sinks.old.sum.now sinks.new.sum.now) }
 {
-    for path in &test.traces {
-        let asked = TraceOptions {
-            name: *path,
-            of: test.of,
-            reuse: match test.ids {
-                Ids::Once => Reuse::Once,
-                _ => Reuse::Again(test.linger),
-            },
-            settled: test.ids == Ids::Settled,
-            complete: test.complete,
-            book: &tables.book,
-        };
-        test_path(rt, *path, asked, &tables.refused, sinks)?;
-    }
+    let options = options_of(test, &tables.book);
+    run_test(
+        rt.alloc(),
+        &mut TraceFiles::new(rt),
+        &test.traces,
+        options,
+        sinks,
+    )?;
+    Ok(())
+}
+
+/// Writes the line of the sum, and returns the worst verdict on a trace.
+fn end_all<W: Write, J: Lines>(
+    rt: &HostRuntime,
+    sinks: &mut Sinks<W, J, Progress>,
+) -> Result<Verdict, Stop>
+    ensures worst { IfOk result (λ verdict. verdict ≡ worst_of sinks.new.sum.now) }
+    ensures same { sinks.new.sum ≡ sinks.old.sum }
+{
     let mut lines = String::new(rt.alloc());
     sinks.sum.push(&mut lines)?;
     if sinks.text.write_all(lines.as_bytes()).is_err() {
         return Err(Stop::Write);
     }
     Ok(sinks.sum.worst())
+}
+
+/// Judges all traces, writes the line of the sum, and returns the worst verdict on a trace. If a table is refused, no
+/// trace is read, and each is an error for that reason.
+fn test_all<W: Write, J: Lines>(
+    rt: &HostRuntime,
+    test: &Test,
+    tables: &Tables,
+    sinks: &mut Sinks<W, J, Progress>,
+) -> Result<Verdict, Stop>
+    ensures judged { IfOk result (IsJudged test.now sinks.old.sum.now sinks.new.sum.now) }
+    ensures refused { is_some tables.now.refused ≡ true
+        → OnOk result (AreErrors (length test.now.traces.items) sinks.old.sum.now sinks.new.sum.now) }
+{
+    match &tables.refused {
+        Some(why) => refuse_all(rt, test, tables, why, sinks)?,
+        None => judge_all(rt, test, tables, sinks)?,
+    }
+    end_all(rt, sinks)
 }
 
 /// Writes the JUnit XML, if it is asked for. Returns `Stop::Write` if the file fails, which keeps the error.
@@ -308,8 +321,7 @@ fn test_over<W: Write>(
     tables: &Tables,
     sinks: &mut Sinks<W, Output, Progress>,
 ) -> Result<Verdict, Stop>
-    ensures each { OnOk result (AreCounted (length test.now.traces.items) sinks.old.sum.now sinks.new.sum.now) }
-    ensures worst { IfOk result (λ verdict. verdict ≡ worst_of sinks.new.sum.now) }
+    ensures { IfOk result (IsJudged test.now sinks.old.sum.now sinks.new.sum.now) }
 {
     let verdict = test_all(rt, test, tables, sinks)?;
     sinks.end_run(rt.alloc(), VERSION)?;
@@ -335,7 +347,7 @@ fn tested(
     junit: &mut Junit,
     sum: &mut Sum,
 ) -> Result<Verdict, Stop>
-    ensures { IfOk result (λ verdict. IsWorst (length test.now.traces.items) sum.old sum.new verdict) }
+    ensures { IfOk result (IsJudged test.now sum.old sum.new) }
 {
     let mut counted = *sum;
     let mut text = Sink::new(io::writer(rt));
@@ -364,7 +376,7 @@ fn judged(
     junit: Option<&mut Output>,
     sum: &mut Sum,
 ) -> Result<Verdict, Stop>
-    ensures { IfOk result (λ verdict. IsWorst (length test.now.traces.items) sum.old sum.new verdict) }
+    ensures { IfOk result (IsJudged test.now sum.old sum.new) }
 {
     let tables = tables_of(rt, &test.tables)?;
     let mut cases = Junit::new(rt.alloc());
@@ -376,7 +388,7 @@ fn judged(
 /// Judges all traces. The output files are opened and emptied before the first table is read, so that nothing is left
 /// from an earlier run. Until the end, that of JUnit XML says that the run did not end.
 fn written(rt: &HostRuntime, test: &Test, sum: &mut Sum) -> Result<Verdict, Stop>
-    ensures { IfOk result (λ verdict. IsWorst (length test.now.traces.items) sum.old sum.new verdict) }
+    ensures { IfOk result (IsJudged test.now sum.old sum.new) }
 {
     let Outputs {
         mut json,
@@ -396,7 +408,7 @@ fn written(rt: &HostRuntime, test: &Test, sum: &mut Sum) -> Result<Verdict, Stop
 
 /// Judges each dialogue of the traces. Returns the exit status, which is that of the worst verdict.
 pub(crate) fn test(rt: &HostRuntime, test: &Test) -> u8
-    ensures { IsStatus (length test.now.traces.items) result }
+    ensures { IsStatus test.now result }
 {
     if is_read_twice(rt, &["--table", "TRACE"], &[&test.tables, &test.traces]) {
         return WRONG_WORDS;

@@ -1,0 +1,68 @@
+ghost use Rattle.std.specs.Prelude.{◌≡◌, ◌<◌, ℕ, List, Some, true, length, slice_get, IfOk};
+ghost use Rattle.std.specs.Option.{option_map};
+ghost use Rattle.tcap_traces.specs.JudgedTrace.{judged_trace};
+ghost use Rattle.tcap_traces.specs.declared.verdict.Verdict.TheVariants as verdicts;
+ghost use Rattle.tcap_report.specs.KeptState.{asked_of};
+
+use std::alloc::Global;
+use tcap_ber::Counted;
+use tcap_report::{NoWatch, Opened, Sinks, Stop, Sum, TraceOptions, Traces, laws, run_test};
+use tcap_traces::Verdict;
+
+/// Traces whose octets are in memory.
+#[derive(Drop)]
+struct InMemory<'a> {
+    alloc: Global,
+    traces: &'a [&'a [u8]],
+    unopened: u64,
+}
+
+impl<'a> Traces for InMemory<'a> {
+    type Octets = Counted<&'a [u8]>;
+
+    ghost octets = { λ traces number. option_map (λ trace. trace.now) (slice_get traces.traces.now number) };
+
+    ghost unopened = { λ traces. traces.unopened };
+
+    fn open(&mut self, number: usize, _name: &str) -> Result<Opened<Counted<&'a [u8]>>, Stop> {
+        match self.traces.get(number) {
+            Some(trace) => Ok(Opened::Octets(Counted::new(*trace), None)),
+            None => {
+                let mut why = String::new(self.alloc);
+                why.push_str("there is no such trace")?;
+                self.unopened = self.unopened.saturating_add(1);
+                Ok(Opened::Unread(why))
+            }
+        }
+    }
+}
+
+/// Whether all these traces, whose octets are in memory, pass. If they do, each passes by the definition `judged_trace`.
+pub fn do_pass(
+    alloc: Global,
+    traces: &[&[u8]],
+    names: &[&str],
+    options: TraceOptions,
+) -> Result<bool, Stop>
+    ensures { IfOk result (λ pass. pass ≡ true → (number : ℕ) (trace : List ℕ) → number < length names.now
+        → option_map (λ trace. trace.now) (slice_get traces.now number) ≡ Some trace
+        → (judged_trace (asked_of options.entry) trace).verdict ≡ verdicts.Pass) }
+{
+    laws::pass_of_run_is_of_each_trace();
+    let (mut text, mut watch, mut sum) = (Counted::new(Vec::new(alloc)), NoWatch, Sum::new());
+    let mut json: Option<Counted<Vec<u8>>> = None;
+    let mut sinks = Sinks {
+        text: &mut text,
+        json: json.as_mut(),
+        page: None,
+        junit: None,
+        sum: &mut sum,
+        watch: &mut watch,
+    };
+    let mut given = InMemory {
+        alloc,
+        traces,
+        unopened: 0,
+    };
+    Ok(run_test(alloc, &mut given, names, options, &mut sinks)? == Verdict::Pass)
+}
