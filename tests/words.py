@@ -508,6 +508,7 @@ REFUSED = [
     (["test", "--html", "f", "--html", "g", "x"], "cannot be used multiple times"),
     (["judge", "x", "y", "--html", "h"], "unexpected argument '--html'"),
     (["test", "--complete", "--complete", "x"], "cannot be used multiple times"),
+    (["test", "--heard", "--heard", "x"], "cannot be used multiple times"),
     (["test", "--end", "A", "x"], "unexpected argument '--end'"),
     (["judge", "--of", "A", "x", "y"], "unexpected argument '--of'"),
     ([], "requires a subcommand"),

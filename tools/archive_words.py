@@ -49,7 +49,7 @@ def words_of(arguments):
     which.add_argument("--workers", metavar="N", type=int, help="so many, on this machine")
     which.add_argument("--scheduler", metavar="ADDRESS", help="of a cluster, as tcp://HOST:PORT")
     passed = {
-        "test": (["--of", "--table", "--ids", "--linger"], ["--complete"]),
+        "test": (["--of", "--table", "--ids", "--linger"], ["--complete", "--heard"]),
         "lines": (["--a", "--by"], ["--join", "--apart", "--under-way", "--whole"]),
     }
     owners = {"test": "`tcapjudge test`", "lines": "`lines_of_capture`"}

@@ -39,7 +39,7 @@ rules_of asked =
 -- what these rules ask of a trace, with these operation tables
 abbrev pub asked_for : Rules → List NamedTable → Asked
 asked_for rules tables = record {
-  question = record { of = rules.of; settled = rules.settled; complete = rules.complete };
+  question = record { of = rules.of; settled = rules.settled; complete = rules.complete; heard = false };
   reuse = rules.reuse;
   tables = tables;
 }

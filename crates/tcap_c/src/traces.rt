@@ -110,6 +110,7 @@ fn asked_by(rules: Rules, book: &Book) -> TraceOptions<'_>
         reuse: rules.reuse,
         settled: rules.settled,
         complete: rules.complete,
+        heard: false,
         book,
     }
 }

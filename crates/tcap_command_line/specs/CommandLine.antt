@@ -131,10 +131,10 @@ linger_rule = record (new_rule (codes "linger")) {
 abbrev pub traces_rule : Rule
 traces_rule = record (new_rule (codes "TRACE")) { action = Some Append; required = true }
 
--- `test`: traces, an end, tables, a rule for reused IDs, a number, three files and two flags
+-- `test`: traces, an end, tables, a rule for reused IDs, a number, three files and three flags
 abbrev pub test_shape : Shape
 test_shape = record (new_shape (codes "test")) {
-  rules = traces_rule ∷ end_rule (codes "of") ∷ tables_rule ∷ ids_rule ∷ flag_rule (codes "complete") ∷ linger_rule
+  rules = traces_rule ∷ end_rule (codes "of") ∷ tables_rule ∷ ids_rule ∷ flag_rule (codes "complete") ∷ flag_rule (codes "heard") ∷ linger_rule
       ∷ file_rule (codes "json") ∷ file_rule (codes "junit") ∷ file_rule (codes "html") ∷ flag_rule (codes "progress") ∷ [];
 }
 

@@ -55,6 +55,7 @@ pub record Tested : Type 0 where
   -- the value of `--ids`
   pub ids : Text
   pub complete : Bool
+  pub heard : Bool
   pub linger : ℕ
   -- the paths of the files for the verdicts
   pub json : Option Text
@@ -71,6 +72,7 @@ tested rows = record {
   tables = values_of (codes "table") rows;
   ids = ids_value (first_of (codes "ids") rows);
   complete = is_set (first_of (codes "complete") rows);
+  heard = is_set (first_of (codes "heard") rows);
   linger = linger_value (first_of (codes "linger") rows);
   json = first_of (codes "json") rows;
   junit = first_of (codes "junit") rows;
@@ -86,6 +88,7 @@ requested t = record {
   tables = texts t.tables.items;
   ids = ids_word t.ids;
   complete = t.complete;
+  heard = t.heard;
   linger = t.linger;
   json = path_text t.json;
   junit = path_text t.junit;

@@ -311,6 +311,11 @@ fn test_command<'a>(alloc: Global) -> Result<Command<'a>, AllocError>
         "complete",
         "A dialogue that is open at the end of its trace, or at a quiet mark, is inconclusive",
     );
+    let heard = flag_arg(
+        alloc,
+        "heard",
+        "An end that did not hear each message of its peer is inconclusive",
+    );
     let json = file_arg(
         alloc,
         "json",
@@ -335,6 +340,7 @@ fn test_command<'a>(alloc: Global) -> Result<Command<'a>, AllocError>
         .arg(tables_arg(alloc))?
         .arg(ids_arg(alloc))?
         .arg(complete)?
+        .arg(heard)?
         .arg(linger_arg(alloc))?
         .arg(json)?
         .arg(junit)?

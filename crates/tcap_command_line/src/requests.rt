@@ -24,6 +24,8 @@ pub struct Test<'a> {
     pub ids: Ids,
     /// Whether the traces are complete.
     pub complete: bool,
+    /// Whether each message was heard.
+    pub heard: bool,
     /// The number of entries after the end of a dialogue at which it is judged.
     pub linger: u64,
     /// The path of the file for the verdicts as JSON, if requested.

@@ -221,6 +221,7 @@ fn test_request<'a>(alloc: Global, found: &ArgMatches<'a>) -> Result<Test<'a>, A
         tables,
         ids: ids_given(found),
         complete: is_set(found, "complete"),
+        heard: is_set(found, "heard"),
         linger: linger_given(found),
         json: value_of(found, "json"),
         junit: value_of(found, "junit"),

@@ -18,7 +18,7 @@ use Rattle.tcap_traces.specs.declared.case.Case.{Case}
 use Rattle.tcap_traces.specs.declared.case.NextItem.{NextItem}
 use Rattle.tcap_traces.specs.declared.case.NextItem.TheVariants as items
 use Rattle.tcap_traces.specs.declared.verdict.Verdict.{Verdict}
-use Rattle.tcap_traces.specs.Case.{after_of, dialogue_in, gathered_as, question_in, unread_after, unread_by}
+use Rattle.tcap_traces.specs.Case.{after_of, dialogue_in, gathered_as, question_by, question_in, unread_after, unread_by}
 use Rattle.tcap_traces.specs.Dialogue.{Dialogue, begun_by, heading_in, verdict_on}
 use Rattle.tcap_traces.specs.IdsBeforeMarks.{Notes, is_in_use as is_in_use_of}
 use Rattle.tcap_traces.specs.JudgedTrace.{JudgedDialogue, all_in, is_broken, is_fail, is_reported, judged, verdict_on as verdict_of}
@@ -39,7 +39,7 @@ use Rattle.tcap_report.specs.declared.sum.Counts.{Counts}
 use Rattle.tcap_report.specs.declared.trace.Trace.{Trace}
 use Rattle.tcap_report.specs.declared.trace.TraceOptions.{TraceOptions}
 use Rattle.tcap_report.specs.KeptState.{AreSeparate, IsBefore, Keeps, asked_of, counts_of, courses_at, dialogue_at, headings_of, reported_of}
-use Rattle.tcap_report.specs.NotedCase.{is_in_use_by, question_by}
+use Rattle.tcap_report.specs.NotedCase.{is_in_use_by}
 
 -- Two functions that agree on these numbers find the same.
 same_found : {Y : Type 0} (f h : ℕ → Option Y) (ns : List ℕ) → ((n : ℕ) → list_any (λ i. i == n) ns ≡ true → f n ≡ h n)

@@ -1,5 +1,5 @@
 -- A run of one more trace, and what a run that passes says of each trace.
-use Rattle.std.proofs.Common.{◌≡◌, ◌⊎◌, inl, inr, ◌×◌, ℕ, suc, ◌+◌, ◌<◌, ◌≤◌, Bool, true, false, Option, Some, List, [], ◌∷◌, ◌++◌, length, refl, sym, ap, ◌∙◌, arith}
+use Rattle.std.proofs.Common.{◌≡◌, ◌⊎◌, inl, inr, ℕ, suc, ◌+◌, ◌<◌, ◌≤◌, Bool, true, false, Option, Some, List, [], ◌∷◌, ◌++◌, length, refl, sym, ap, ◌∙◌, arith}
 use Rattle.std.specs.Prelude.{nat_eq}
 use Rattle.std.proofs.lemmas.Bool.{eqb-true, eqb-false}
 use Rattle.std.proofs.lemmas.List.{length_push}
@@ -88,7 +88,7 @@ module _ (options : TraceOptions) (octets : ℕ → Option (List ℕ)) where
           → (judged_trace (asked_of options) trace).verdict ≡ verdicts.Pass
       by (inl error) = let both : verdicts.Error ≡ verdicts.Pass = sym error ∙ passes in cc
       by (inr defined) = sym defined ∙ passes
-  pass_of_trace trace known verdict a b f g (inr (error, more)) passes is =
+  pass_of_trace trace known verdict a b f g (inr (error, after, more)) passes is =
       let both : verdicts.Error ≡ verdicts.Pass = sym error ∙ passes in cc
 
   pass_from : (number : ℕ) (verdicts' : List Verdict) (a b : Sum) (f g : ℕ) (c : Counts)
@@ -96,16 +96,17 @@ module _ (options : TraceOptions) (octets : ℕ → Option (List ℕ)) where
       → (at : ℕ) (trace : List ℕ) → number ≤ at → at < number + length verdicts' → octets at ≡ Some trace
       → (judged_trace (asked_of options) trace).verdict ≡ verdicts.Pass
   pass_from number [] a b f g c none passes at trace least most is = absurd (omega (least, most, arith))
-  pass_from number (v ∷ more) a b f g c (between, so_far, one, others) passes at trace least most is = by (nat_eq at number) refl
+  pass_from number (v ∷ more) a b f g c (between, so_far, one, others) passes at trace least most is =
+      by (nat_eq at number) refl
+      (λ later. pass_from (suc number) more between b so_far g (with_one v c) others passes at trace later (omega (most, arith)) is)
     where
-      by : (same : Bool) → nat_eq at number ≡ same → (judged_trace (asked_of options) trace).verdict ≡ verdicts.Pass
-      by true same =
+      by : (same : Bool) → nat_eq at number ≡ same
+          → (suc number ≤ at → (judged_trace (asked_of options) trace).verdict ≡ verdicts.Pass)
+          → (judged_trace (asked_of options) trace).verdict ≡ verdicts.Pass
+      by true same goes_on =
           pass_of_trace trace (octets number) v a between f so_far one (pass_of_first v more c passes)
           (sym (ap octets (eqb-true at number same)) ∙ is)
-      by false same =
-          let other = eqb-false at number same in
-          pass_from (suc number) more between b so_far g (with_one v c) others passes at trace
-          (omega (least, other, arith)) (omega (most, arith)) is
+      by false same goes_on = let other = eqb-false at number same in goes_on (omega (least, other, arith))
 
   -- Each trace of a run that passes passes by its definition.
   pub pass_of_each : (count : ℕ) (before after : Sum) (unopened unopened' : ℕ)

@@ -26,7 +26,7 @@ use Rattle.tcap_report.specs.Counts.{more, no_counts, with_each}
 -- what the options ask of a trace
 abbrev pub asked_of : TraceOptions → Asked
 asked_of options = record {
-  question = record { of = options.of; settled = options.settled; complete = options.complete };
+  question = record { of = options.of; settled = options.settled; complete = options.complete; heard = options.heard };
   reuse = options.reuse;
   tables = options.book.now;
 }

@@ -1,15 +1,9 @@
--- What is asked of a dialogue, and does it seem to continue one from before its segment?
+-- Does a dialogue seem to continue one from before its segment?
 use Rattle.std.specs.Prelude.{Bool, false, ◌&&◌, not, Option, Some, None, is_some}
 use Rattle.tcap_dialogues.specs.Course.{Heading}
 use Rattle.tcap_dialogues.specs.declared.complete_dialogue.CompleteDialogue.{CompleteDialogue}
 use Rattle.tcap_traces.specs.declared.before_marks.BeforeMarks.{BeforeMarks}
-use Rattle.tcap_traces.specs.declared.case.Rules.{Rules}
-use Rattle.tcap_traces.specs.Dialogue.{Question}
 use Rattle.tcap_traces.specs.IdsBeforeMarks.{is_in_use}
-
--- what the options ask of each dialogue
-abbrev pub question_by : Rules → Question
-question_by rules = record { of = rules.of; settled = rules.settled; complete = rules.complete }
 
 -- Whether a gathered dialogue seems to continue one from before the quiet mark before its segment, given the heading of
 -- its first entry. It does not if an earlier dialogue of the segment had one of its IDs.

@@ -59,6 +59,15 @@ pub(crate) fn push_doubt(
     push_used_again(alloc, text, case)
 }
 
+/// Appends that an end keeps the rules only if it did not hear this many messages of its peer.
+fn push_unheard(text: &mut String, unheard: u64) -> Result<(), AllocError> {
+    let messages = if unheard == 1 { "message" } else { "messages" };
+    write!(
+        text,
+        "it keeps the rules only if it did not hear {unheard} {messages} of its peer"
+    )
+}
+
 /// Appends why an end is undecided. `said` is neither a pass nor a blame.
 pub(crate) fn push_said(
     alloc: Global,
@@ -71,6 +80,7 @@ pub(crate) fn push_said(
         EndResult::Open if case.is_marked() => text.push_str(
             "the dialogue is open at the quiet mark after it",
         )?,
+        EndResult::Unheard(unheard) => push_unheard(text, unheard)?,
         _ => text.push_str(undecided_words(said))?,
     }
     push_used_again(alloc, text, case)

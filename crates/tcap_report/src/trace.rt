@@ -51,6 +51,8 @@ pub struct TraceOptions<'a> {
     pub settled: bool,
     /// True if a dialogue that is open at the end of the trace, or at a quiet mark, does not pass, but is inconclusive.
     pub complete: bool,
+    /// True if an end that did not hear each message of its peer does not pass, but is inconclusive.
+    pub heard: bool,
     /// The operation tables.
     pub book: &'a Book,
 }

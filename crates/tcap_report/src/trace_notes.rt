@@ -8,13 +8,13 @@ ghost use Rattle.std.specs.Prelude.{◌≡◌, ◌==◌, ◌&&◌, ℕ, cond, fa
 ghost use Rattle.tcap_dialogues.specs.Course.{is_continue};
 ghost use Rattle.tcap_dialogues.specs.HeadingReading.{heading_read};
 ghost use Rattle.tcap_traces.specs.declared.case.NextItem.TheVariants as items;
-ghost use Rattle.tcap_traces.specs.Case.{unread_by};
+ghost use Rattle.tcap_traces.specs.Case.{question_by, unread_by};
 ghost use Rattle.tcap_traces.specs.Dialogue.{heading_in};
 ghost use Rattle.tcap_traces.specs.IdsBeforeMarks.{is_sent_to};
 ghost use Rattle.tcap_traces.specs.Segments.{is_under_way};
 ghost use Rattle.tcap_traces.specs.UnreadableEntries.{notes_in};
 ghost use Rattle.tcap_report.specs.KeptState.{asked_of};
-ghost use Rattle.tcap_report.specs.NotedCase.{is_in_use_by, question_by};
+ghost use Rattle.tcap_report.specs.NotedCase.{is_in_use_by};
 
 use crate::trace::Trace;
 use std::alloc::AllocError;
@@ -83,6 +83,7 @@ impl Trace<'_> {
             of: self.options.of,
             settled: self.options.settled,
             complete: self.options.complete,
+            heard: self.options.heard,
             once: self.options.reuse == Reuse::Once,
         }
     }

@@ -23,6 +23,7 @@ fn circumstances_of(words: &str) -> Option<Circumstances> {
         unread_from: None,
         cut: false,
         open: false,
+        heard: false,
     };
     for word in words.split_whitespace() {
         match word {
@@ -33,6 +34,7 @@ fn circumstances_of(words: &str) -> Option<Circumstances> {
             "began_by_b" => found.began = Some(End::B),
             "cut" => found.cut = true,
             "open" => found.open = true,
+            "heard" => found.heard = true,
             _ => found.unread_from = Some(word.strip_prefix("unread_from_")?.parse::<u64>().ok()?),
         }
     }
@@ -121,6 +123,7 @@ pub(crate) fn is_trace(alloc: Global, lines: &str, book: &str, wanted: &str) -> 
         reuse: Reuse::Again(10),
         settled: false,
         complete: false,
+        heard: false,
         book: &book,
     };
     let mut sum = Sum::new();

@@ -54,6 +54,7 @@ fn asked_by(book: &Book) -> TraceOptions<'_> {
         reuse: Reuse::Again(10_000),
         settled: false,
         complete: false,
+        heard: false,
         book,
     }
 }

@@ -1,6 +1,7 @@
 -- The result for an end holds if the findings hold.
-use Rattle.std.proofs.Common.{◌≡◌, inl, inr, ℕ, Bool, true, false, cond, ◌==◌, List, drop, length, map, take, Option, Some, None, Result, Ok, Err, refl, sym, ap, ◌∙◌, subst}
+use Rattle.std.proofs.Common.{◌≡◌, inl, inr, ℕ, Bool, true, false, cond, ◌==◌, ◌&&◌, List, drop, length, map, take, Option, Some, None, Result, Ok, Err, refl, sym, ap, ◌∙◌, subst}
 use Rattle.std.specs.Option.{option_or}
+use Rattle.std.specs.Prelude.{nat_lt}
 use Rattle.std.specs.List.{list_any}
 use Rattle.tcap_record.specs.declared.entry.End.{End as Side}
 use Rattle.tcap_record.specs.declared.entry.End.TheVariants as sides
@@ -47,18 +48,21 @@ named_is table entries side =
 -- ---- results
 
 module _ (table : Table) (c : Circumstances) (entries : List Entry) (side : Side) where
-  passes_so : (under_way early_mark cut unsure over : Bool) (unheard : ℕ)
+  passes_so : (under_way early_mark cut unsure over missed : Bool) (unheard : ℕ)
       → MayHaveSentUnheard side table entries unheard
       → IsTrueResult side table entries
       (cond under_way end_results.UnderWay
       (cond early_mark end_results.EarlyMark
-      (cond cut end_results.TooLong (cond unsure end_results.UnsureTable (cond over end_results.Open (end_results.Pass unheard))))))
-  passes_so true early_mark cut unsure over unheard may = (unheard, may)
-  passes_so false true cut unsure over unheard may = (unheard, may)
-  passes_so false false true unsure over unheard may = (unheard, may)
-  passes_so false false false true over unheard may = (unheard, may)
-  passes_so false false false false true unheard may = (unheard, may)
-  passes_so false false false false false unheard may = may
+      (cond cut end_results.TooLong
+      (cond unsure end_results.UnsureTable
+      (cond over end_results.Open (cond missed (end_results.Unheard unheard) (end_results.Pass unheard)))))))
+  passes_so true early_mark cut unsure over missed unheard may = (unheard, may)
+  passes_so false true cut unsure over missed unheard may = (unheard, may)
+  passes_so false false true unsure over missed unheard may = (unheard, may)
+  passes_so false false false true over missed unheard may = (unheard, may)
+  passes_so false false false false true missed unheard may = (unheard, may)
+  passes_so false false false false false true unheard may = may
+  passes_so false false false false false false unheard may = may
 
   fails_so : (r : Refutation) (doubt : Option Doubt) → IsAtFaultOf table side entries r
       → IsTrueResult side table entries (fails r doubt)
@@ -69,7 +73,7 @@ module _ (table : Table) (c : Circumstances) (entries : List Entry) (side : Side
       → AreLawfulUnheard (Some side) table (take number entries) unheard
       → IsTrueResult side table entries (cond own (end_results.AfterBadEntry number) (passes c unheard))
   behind_so number unheard true is lawful = are_lawful (Some side) table (take number entries) unheard lawful
-  behind_so number unheard false is lawful = passes_so c.under_way c.early_mark c.cut c.unsure c.open unheard (inr (number, lawful, is))
+  behind_so number unheard false is lawful = passes_so c.under_way c.early_mark c.cut c.unsure c.open (c.heard && nat_lt 0 unheard) unheard (inr (number, lawful, is))
 
   before_so : (number : ℕ) (earlier : Option Finding) → IsFoundBefore side table entries (Some number) earlier
       → IsTrueResult side table entries (result_before c side entries number earlier)
@@ -88,7 +92,7 @@ module _ (table : Table) (c : Circumstances) (entries : List Entry) (side : Side
   said_so at_fault (Blamed r) is so earlier are =
       fails_so r (doubt_of table c side entries r)
       (at_fault r (sym (named_is table entries side) ∙ sym (ap named_in is)))
-  said_so at_fault (Lawful n unheard) is so earlier are = passes_so c.under_way c.early_mark c.cut c.unsure c.open unheard (inl so)
+  said_so at_fault (Lawful n unheard) is so earlier are = passes_so c.under_way c.early_mark c.cut c.unsure c.open (c.heard && nat_lt 0 unheard) unheard (inl so)
   said_so at_fault (NotBlamed n) is so earlier are = before_so n earlier (are n refl)
 
 -- ---- the entries before the first that is no message, for both ends

@@ -138,6 +138,7 @@ circumstances_by q c d after_directive unread = record {
   unread_from = unread;
   cut = is_long d;
   «open» = q.complete && is_open d c.table;
+  heard = q.heard;
 }
 
 -- It is the same entry; or there was none, and it comes after all entries of the dialogue.

@@ -63,9 +63,13 @@ number_of case = further case.before (unwrap_or (slice_get case.gathered.numbers
 abbrev pub earlier_of : Case → Option ℕ
 earlier_of case = option_map (further case.before) case.gathered.earlier
 
+-- what the options ask of each dialogue
+abbrev pub question_by : Rules → Question
+question_by rules = record { of = rules.of; settled = rules.settled; complete = rules.complete; heard = rules.heard }
+
 -- what is asked of it
 abbrev pub question_in : Case → Question
-question_in case = record { of = case.rules.of; settled = case.rules.settled; complete = case.rules.complete }
+question_in case = question_by case.rules
 
 -- the choice of a table
 abbrev pub chosen_as : ChosenTable → Choice

@@ -53,11 +53,13 @@ pub record Dialogue : Type 0 where
   pub unread : Option ℕ
 
 -- The options for a dialogue: the end that is judged, or both; whether no message of an earlier dialogue is in transit
--- when one of its IDs is used again; and whether a dialogue should be complete.
+-- when one of its IDs is used again; whether a dialogue should be complete; and whether each end should have heard each
+-- message of its peer.
 pub record Question : Type 0 where
   pub of : Option Side
   pub settled : Bool
   pub complete : Bool
+  pub heard : Bool
 
 -- ---- its entries, as they are judged
 
@@ -160,6 +162,7 @@ circumstances q c d = record {
   unread_from = option_map (first_after d.numbers) d.unread;
   cut = is_long d;
   «open» = q.complete && is_open d c.table;
+  heard = q.heard;
 }
 
 -- ---- its verdict

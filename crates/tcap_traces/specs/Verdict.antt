@@ -1,6 +1,6 @@
 -- Which verdict a dialogue gets, in the words of TTCN-3 (ES 201 873-1). The dialogue is judged as a separate record.
 -- Each judged end has a result, which says whether a blame depends on the bench's statements as well as on the end.
-use Rattle.std.specs.Prelude.{ℕ, ℤ, Bool, true, false, List, [], ◌∷◌, length, map, take, drop, slice_get, Option, Some, None, is_none, Result, Ok, ◌==◌, ◌&&◌, ◌||◌, not, nat_le, cond, codes}
+use Rattle.std.specs.Prelude.{ℕ, ℤ, Bool, true, false, List, [], ◌∷◌, length, map, take, drop, slice_get, Option, Some, None, is_none, Result, Ok, ◌==◌, ◌&&◌, ◌||◌, not, nat_le, nat_lt, cond, codes}
 use Rattle.std.specs.List.{list_any}
 use Rattle.tcap_parts.specs.declared.component.Component.{Component}
 use Rattle.tcap_parts.specs.declared.component.Component.TheVariants.{Invoke, ReturnResult, ReturnError, Reject}
@@ -184,7 +184,8 @@ passes c unheard =
     (cond c.early_mark end_results.EarlyMark
     (cond c.cut end_results.TooLong
     (cond c.unsure end_results.UnsureTable
-    (cond c.open end_results.Open (end_results.Pass unheard)))))
+    (cond c.open end_results.Open
+    (cond (c.heard && nat_lt 0 unheard) (end_results.Unheard unheard) (end_results.Pass unheard))))))
 
 -- the result for an end that is blamed: it fails, or is doubtful
 abbrev pub fails : Refutation → Option Doubt → EndResult

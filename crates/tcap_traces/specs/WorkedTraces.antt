@@ -120,7 +120,7 @@ plain = record { name = None; contexts = []; table = table; names = [] }
 
 abbrev asked : Asked
 asked = record {
-  question = record { of = None; settled = false; complete = false };
+  question = record { of = None; settled = false; complete = false; heard = false };
   reuse = reuses.Again 10000;
   tables = plain ∷ [];
 }
@@ -158,6 +158,7 @@ none = record {
   unread_from = None;
   cut = false;
   «open» = false;
+  heard = false;
 }
 
 -- IDs that come again; a dialogue that may have been under way, and a Begin after the directive

@@ -66,6 +66,7 @@ alone = record {
   unread_from = None;
   cut = false;
   «open» = false;
+  heard = false;
 }
 
 -- the doubt about a blame of this kind, for this entry of the items
@@ -129,7 +130,9 @@ pub cut_or_open : (passes alone 3 ≡ end_results.Pass 3) × (passes (record alo
     × (passes (record alone { cut = true; «open» = true }) 3 ≡ end_results.TooLong)
     × (passes (record alone { under_way = true; cut = true; unsure = true; «open» = true }) 3 ≡ end_results.UnderWay)
     × (passes (record alone { early_mark = true; cut = true; unsure = true; «open» = true }) 3 ≡ end_results.EarlyMark)
-cut_or_open = (refl, refl, refl, refl, refl)
+    × (passes (record alone { heard = true }) 3 ≡ end_results.Unheard 3) × (passes (record alone { heard = true }) 0 ≡ end_results.Pass 0)
+    × (passes (record alone { «open» = true; heard = true }) 3 ≡ end_results.Open)
+cut_or_open = (refl, refl, refl, refl, refl, refl, refl, refl)
 
 pub the_worse_one : (worse Pass Pass ≡ Pass) × (worse Pass Inconclusive ≡ Inconclusive) × (worse Fail Inconclusive ≡ Fail)
     × (worse Fail Error ≡ Error)

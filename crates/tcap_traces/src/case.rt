@@ -139,6 +139,8 @@ pub struct Rules {
     pub settled: bool,
     /// True if a dialogue that is open is inconclusive.
     pub complete: bool,
+    /// True if an end that did not hear each message of its peer is inconclusive.
+    pub heard: bool,
     /// True if a transaction ID is used once at most between two quiet marks.
     pub once: bool,
 }
@@ -296,6 +298,7 @@ impl Case {
             unread_from: self.unread_from(),
             cut: self.is_cut(),
             open: self.rules.complete && self.is_open(chosen.table),
+            heard: self.rules.heard,
         }
     }
 

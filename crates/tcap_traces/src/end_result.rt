@@ -56,6 +56,8 @@ pub enum EndResult {
     UnsureTable,
     /// The end may have sent its part, but the dialogue should be complete and is still open at the end of its trace.
     Open,
+    /// The end may have sent its part, but it did not hear this many messages of its peer, and should have heard each.
+    Unheard(u64),
 }
 
 /// The circumstances of a dialogue, besides its entries.
@@ -82,6 +84,8 @@ pub struct Circumstances {
     pub cut: bool,
     /// Whether the dialogue is open, but should be complete.
     pub open: bool,
+    /// Whether each end should have heard each message of its peer.
+    pub heard: bool,
 }
 
 impl EndResult {

@@ -65,6 +65,8 @@ fn passes(circumstances: Circumstances, unheard: u64) -> EndResult
         EndResult::UnsureTable
     } else if circumstances.open {
         EndResult::Open
+    } else if circumstances.heard && unheard > 0 {
+        EndResult::Unheard(unheard)
     } else {
         EndResult::Pass(unheard)
     }

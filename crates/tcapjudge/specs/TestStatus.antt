@@ -28,6 +28,7 @@ abbrev pub AreOptions : Test → TraceOptions → Type 0
 AreOptions test options =
     (options.of ≡ test.of) × (options.reuse ≡ reuse_by test.ids test.linger)
     × (options.settled ≡ is_settled test.ids) × (options.complete ≡ test.complete)
+    × (options.heard ≡ test.heard)
 
 -- Each trace that the command line names was opened in its order and judged by its options. The octets of files are not
 -- known to a contract.

@@ -224,6 +224,7 @@ fn options_of<'a>(test: &Test, book: &'a Book) -> TraceOptions<'a>
         },
         settled: test.ids == Ids::Settled,
         complete: test.complete,
+        heard: test.heard,
         book,
     }
 }

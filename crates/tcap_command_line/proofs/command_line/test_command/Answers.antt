@@ -10,7 +10,7 @@ use Rattle.tcap_command_line.proofs.command_line.test_command.Goals as goal
 -- `test` with these arguments for an end and for IDs
 abbrev with_choices : Rule → Rule → Shape
 with_choices side ids = record (new_shape (codes "test")) {
-  rules = traces_rule ∷ side ∷ tables_rule ∷ ids ∷ flag_rule (codes "complete") ∷ linger_rule
+  rules = traces_rule ∷ side ∷ tables_rule ∷ ids ∷ flag_rule (codes "complete") ∷ flag_rule (codes "heard") ∷ linger_rule
       ∷ file_rule (codes "json") ∷ file_rule (codes "junit") ∷ file_rule (codes "html") ∷ flag_rule (codes "progress") ∷ [];
 }
 
@@ -41,25 +41,29 @@ returns c =
     ∙ ap₂ with_rule with_ids c.flag_arg-complete.ensures.rule in
     let complete_local = c.in_ok-arg-5.ensures.globals
     ∙ ap₂ (λ a b. a || b) ids_local c.flag_arg-complete.ensures.local in
-    let with_linger = c.in_ok-arg-6.ensures.shape c.linger_arg.ensures.local
-    ∙ ap₂ with_rule with_complete c.linger_arg.ensures.rule in
-    let linger_local = c.in_ok-arg-6.ensures.globals
-    ∙ ap₂ (λ a b. a || b) complete_local c.linger_arg.ensures.local in
-    let with_json = c.in_ok-arg-7.ensures.shape c.file_arg-json.ensures.local
+    let with_heard = c.in_ok-arg-6.ensures.shape c.flag_arg-heard.ensures.local
+    ∙ ap₂ with_rule with_complete c.flag_arg-heard.ensures.rule in
+    let heard_local = c.in_ok-arg-6.ensures.globals
+    ∙ ap₂ (λ a b. a || b) complete_local c.flag_arg-heard.ensures.local in
+    let with_linger = c.in_ok-arg-7.ensures.shape c.linger_arg.ensures.local
+    ∙ ap₂ with_rule with_heard c.linger_arg.ensures.rule in
+    let linger_local = c.in_ok-arg-7.ensures.globals
+    ∙ ap₂ (λ a b. a || b) heard_local c.linger_arg.ensures.local in
+    let with_json = c.in_ok-arg-8.ensures.shape c.file_arg-json.ensures.local
     ∙ ap₂ with_rule with_linger c.file_arg-json.ensures.rule in
-    let json_local = c.in_ok-arg-7.ensures.globals
+    let json_local = c.in_ok-arg-8.ensures.globals
     ∙ ap₂ (λ a b. a || b) linger_local c.file_arg-json.ensures.local in
-    let with_junit = c.in_ok-arg-8.ensures.shape c.file_arg-junit.ensures.local
+    let with_junit = c.in_ok-arg-9.ensures.shape c.file_arg-junit.ensures.local
     ∙ ap₂ with_rule with_json c.file_arg-junit.ensures.rule in
-    let junit_local = c.in_ok-arg-8.ensures.globals
+    let junit_local = c.in_ok-arg-9.ensures.globals
     ∙ ap₂ (λ a b. a || b) json_local c.file_arg-junit.ensures.local in
-    let with_html = c.in_ok-arg-9.ensures.shape c.file_arg-html.ensures.local
+    let with_html = c.in_ok-arg-10.ensures.shape c.file_arg-html.ensures.local
     ∙ ap₂ with_rule with_junit c.file_arg-html.ensures.rule in
-    let html_local = c.in_ok-arg-9.ensures.globals
+    let html_local = c.in_ok-arg-10.ensures.globals
     ∙ ap₂ (λ a b. a || b) junit_local c.file_arg-html.ensures.local in
-    IfOk-weaker c.arg-10.result _ _ (λ r h. (
+    IfOk-weaker c.arg-11.result _ _ (λ r h. (
       ap (λ (a : App). placeless_shape a.top) (h.shape c.flag_arg-progress.ensures.local
           ∙ ap₂ with_rule with_html c.flag_arg-progress.ensures.rule)
           ∙ ap₂ with_choices c.of_arg.ensures.rule c.ids_arg.ensures.rule,
       h.globals ∙ ap₂ (λ a b. a || b) html_local c.flag_arg-progress.ensures.local,
-    )) c.arg-10.ensures
+    )) c.arg-11.ensures

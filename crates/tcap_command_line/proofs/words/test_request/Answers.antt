@@ -36,19 +36,20 @@ some_values id rows there none = go (find (λ (r : Row). bytes_eq r.id id) rows)
     go (Some r) there none = at r.values there none
 
 -- the options of `test` are equal if each part is
-same : (a b : Tested) → a.side ≡ b.side → a.tables ≡ b.tables → a.ids ≡ b.ids → a.complete ≡ b.complete → a.linger ≡ b.linger
+same : (a b : Tested) → a.side ≡ b.side → a.tables ≡ b.tables → a.ids ≡ b.ids → a.complete ≡ b.complete → a.heard ≡ b.heard → a.linger ≡ b.linger
     → a.json ≡ b.json → a.junit ≡ b.junit → a.html ≡ b.html → a.progress ≡ b.progress → a.traces ≡ b.traces → a ≡ b
-same a b is_side is_tables is_ids is_complete is_linger is_json is_junit is_html is_progress is_traces =
+same a b is_side is_tables is_ids is_complete is_heard is_linger is_json is_junit is_html is_progress is_traces =
     ap (λ x. record a { side = x }) is_side
     ∙ ap (λ x. record a { side = b.side; tables = x }) is_tables
     ∙ ap (λ x. record a { side = b.side; tables = b.tables; ids = x }) is_ids
     ∙ ap (λ x. record a { side = b.side; tables = b.tables; ids = b.ids; complete = x }) is_complete
-    ∙ ap (λ x. record a { side = b.side; tables = b.tables; ids = b.ids; complete = b.complete; linger = x }) is_linger
-    ∙ ap (λ x. record a { side = b.side; tables = b.tables; ids = b.ids; complete = b.complete; linger = b.linger; json = x }) is_json
-    ∙ ap (λ x. record a { side = b.side; tables = b.tables; ids = b.ids; complete = b.complete; linger = b.linger; json = b.json; junit = x }) is_junit
-    ∙ ap (λ x. record a { side = b.side; tables = b.tables; ids = b.ids; complete = b.complete; linger = b.linger; json = b.json; junit = b.junit; html = x }) is_html
-    ∙ ap (λ x. record a { side = b.side; tables = b.tables; ids = b.ids; complete = b.complete; linger = b.linger; json = b.json; junit = b.junit; html = b.html; progress = x }) is_progress
-    ∙ ap (λ x. record a { side = b.side; tables = b.tables; ids = b.ids; complete = b.complete; linger = b.linger; json = b.json; junit = b.junit; html = b.html; progress = b.progress; traces = x }) is_traces
+    ∙ ap (λ x. record a { side = b.side; tables = b.tables; ids = b.ids; complete = b.complete; heard = x }) is_heard
+    ∙ ap (λ x. record a { side = b.side; tables = b.tables; ids = b.ids; complete = b.complete; heard = b.heard; linger = x }) is_linger
+    ∙ ap (λ x. record a { side = b.side; tables = b.tables; ids = b.ids; complete = b.complete; heard = b.heard; linger = b.linger; json = x }) is_json
+    ∙ ap (λ x. record a { side = b.side; tables = b.tables; ids = b.ids; complete = b.complete; heard = b.heard; linger = b.linger; json = b.json; junit = x }) is_junit
+    ∙ ap (λ x. record a { side = b.side; tables = b.tables; ids = b.ids; complete = b.complete; heard = b.heard; linger = b.linger; json = b.json; junit = b.junit; html = x }) is_html
+    ∙ ap (λ x. record a { side = b.side; tables = b.tables; ids = b.ids; complete = b.complete; heard = b.heard; linger = b.linger; json = b.json; junit = b.junit; html = b.html; progress = x }) is_progress
+    ∙ ap (λ x. record a { side = b.side; tables = b.tables; ids = b.ids; complete = b.complete; heard = b.heard; linger = b.linger; json = b.json; junit = b.junit; html = b.html; progress = b.progress; traces = x }) is_traces
 
 abbrev asks : Tested → Option (Text × Tested)
 asks x = Some (codes "test", x)
@@ -57,8 +58,8 @@ pub returns : goal.returns
 unfolding tool clap_on_literals
 returns c = (
   ap asks (sym (same _ (tested (rows_of (found_of c.args.found.now))) c.end_named.ensures c.in_ok-tables.ensures
-      c.ids_given.ensures c.is_set.ensures c.linger_given.ensures c.value_of.ensures c.value_of-2.ensures
-      c.value_of-3.ensures c.is_set-2.ensures c.in_ok-traces.ensures)),
+      c.ids_given.ensures c.is_set.ensures c.is_set-2.ensures c.linger_given.ensures c.value_of.ensures c.value_of-2.ensures
+      c.value_of-3.ensures c.is_set-3.ensures c.in_ok-traces.ensures)),
   λ none. some_values (codes "TRACE") (rows_of (found_of c.args.found.now)) (c.requires.needed (codes "TRACE") refl)
       (sym c.in_ok-traces.ensures ∙ none),
 )
