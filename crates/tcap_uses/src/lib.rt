@@ -23,6 +23,7 @@ mod prompt;
 mod record;
 mod refute;
 mod search;
+mod trace_verdicts;
 mod traces;
 
 pub use ber::integer_content;
@@ -46,4 +47,5 @@ pub use prompt::is_prompt;
 pub use record::{entries_of, ids_of};
 pub use refute::no_certificate_helps;
 pub use search::is_shown_lawful;
+pub use trace_verdicts::{end_of_fail, entry_of_pass};
 pub use traces::verdict_on;
