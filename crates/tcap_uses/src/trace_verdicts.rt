@@ -12,7 +12,7 @@ ghost use Rattle.tcap_traces.specs.TraceMeaning.{IsAtFaultIn, MayHaveSentPart};
 
 use tcap_traces::laws;
 
-/// If a trace passes, each of its entries is in a dialogue of which each judged end may have sent its part.
+/// If a trace passes, each of its entries is in a dialogue, and each judged end may have sent its part of it.
 pub fn entry_of_pass()
     ensures { (asked : Asked) (octets : List ℕ) (entry : TraceEntry) (side : Side)
         → (judged_trace asked octets).verdict ≡ verdicts.Pass → Contains (pieces_of octets).pieces (Entry entry)
