@@ -1,5 +1,8 @@
 pub mod JudgingLaws
 pub mod ShownLaws
+mod ResultLaws
+mod TraceEntriesLaws
+mod TraceMeaningLaws
 mod TraceLaws
 mod MarksLaws
 mod DirectiveLaws

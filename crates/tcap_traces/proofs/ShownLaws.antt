@@ -84,7 +84,7 @@ module _ (table : Table) (c : Circumstances) (entries : List Entry) (side : Side
       behind_so number unheard (list_any (is_of side) (drop number entries)) refl so
 
   -- The result holds by the findings on all entries, and on those before the first that is no message.
-  said_so : ((r : Refutation) → blamed table side entries ≡ Some r → IsAtFaultOf table side entries r)
+  pub said_so : ((r : Refutation) → blamed table side entries ≡ Some r → IsAtFaultOf table side entries r)
       → (found : Finding) → found ≡ finding table entries side → IsFound side table entries found
       → (earlier : Option Finding)
       → ((n : ℕ) → found ≡ NotBlamed n → IsFoundBefore side table entries (Some n) earlier)

@@ -13,5 +13,6 @@ pub mod UnreadableEntries
 pub mod Segments
 pub mod JudgedTrace
 pub mod WorkedTraces
+pub mod TraceMeaning
 pub mod TraceState
 pub mod TraceProgress

@@ -24,6 +24,7 @@ mod record;
 mod refute;
 mod runs;
 mod search;
+mod trace_verdicts;
 mod traces;
 
 pub use ber::integer_content;
@@ -48,4 +49,5 @@ pub use record::{entries_of, ids_of};
 pub use refute::no_certificate_helps;
 pub use runs::do_pass;
 pub use search::is_shown_lawful;
+pub use trace_verdicts::{end_of_fail, entry_of_pass};
 pub use traces::verdict_on;

@@ -1,0 +1,32 @@
+//! What the verdict on a trace means for its entries and its ends, by the laws of tcap_traces.
+
+ghost use Rattle.std.specs.Prelude.{◌≡◌, ℕ, List, true, Contains};
+ghost use Rattle.tcap_record.specs.declared.entry.End.{End as Side};
+ghost use Rattle.tcap_certificate.specs.Replay.{is_judged};
+ghost use Rattle.tcap_refute.specs.declared.kind.Refutation.{Refutation};
+ghost use Rattle.tcap_traces.specs.declared.verdict.Verdict.TheVariants as verdicts;
+ghost use Rattle.tcap_traces.specs.Pieces.{Entry, TraceEntry, pieces_of};
+ghost use Rattle.tcap_traces.specs.Dialogue.{Dialogue};
+ghost use Rattle.tcap_traces.specs.JudgedTrace.{Asked, judged_trace};
+ghost use Rattle.tcap_traces.specs.TraceMeaning.{IsAtFaultIn, MayHaveSentPart};
+
+use tcap_traces::laws;
+
+/// If a trace passes, each of its entries is in a dialogue, and each judged end may have sent its part of it.
+pub fn entry_of_pass()
+    ensures { (asked : Asked) (octets : List ℕ) (entry : TraceEntry) (side : Side)
+        → (judged_trace asked octets).verdict ≡ verdicts.Pass → Contains (pieces_of octets).pieces (Entry entry)
+        → is_judged asked.question.of side ≡ true
+        → (d : Dialogue) × Contains d.entries entry × MayHaveSentPart asked d side }
+{
+    laws::pass_is_lawful();
+}
+
+/// If a trace fails, a judged end is at fault in some dialogue.
+pub fn end_of_fail()
+    ensures { (asked : Asked) (octets : List ℕ) → (judged_trace asked octets).verdict ≡ verdicts.Fail
+        → (d : Dialogue) × (side : Side) × (r : Refutation) × (is_judged asked.question.of side ≡ true)
+        × IsAtFaultIn asked d side r }
+{
+    laws::fail_is_at_fault();
+}
