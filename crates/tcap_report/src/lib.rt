@@ -18,6 +18,7 @@ mod no_message;
 mod order;
 mod page;
 mod reason;
+mod reason_codes;
 mod sinks;
 mod sum;
 mod text;
