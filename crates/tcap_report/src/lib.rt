@@ -3,6 +3,7 @@
 #![tactic(auto)]
 
 mod awaited_answers;
+mod case_names;
 mod doubt_words;
 mod ending;
 mod fault;
@@ -27,6 +28,7 @@ mod trace_notes;
 mod trace_reader;
 mod unheard;
 mod used_again;
+mod xml;
 
 pub use ending::report_unread;
 pub use fault::Stop;
