@@ -50,6 +50,7 @@ TESTS = {
     "real_parts": "tests over a real stack",
     "traces": "traces",
     "archive": "looks at archives",
+    "compared": "looks at compared reports",
     "live": "looks at pipes of a bench that runs",
     "books": "tables, pages and the book that agree",
     "page": "looks at pages of reports",

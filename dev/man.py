@@ -10,7 +10,7 @@ import time
 
 PAGE = "docs/PROGRAM.md"
 PROGRAM = "tcapjudge"
-TOOLS = ["lines_of_capture", "judge_archive"]
+TOOLS = ["lines_of_capture", "judge_archive", "compare_reports"]
 # A command that prints help, and has no page.
 LEFT_OUT = "help"
 # The spaces before a line of help that continues the text of an option.

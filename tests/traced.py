@@ -10,11 +10,11 @@ import os
 import re
 import subprocess
 import sys
-import xml.etree.ElementTree
 
 import rooms  # noqa: F401
 from evidence import WORDS
 from tested import PROGRAM
+from trace_junit import OPEN, OPEN_AT_MARK, VERDICTS, in_order, look_at_junit
 from trace_page import lines_in, look_at_page, sum_of
 from trace_rows import CAME_AGAIN, OPERATIONS
 
@@ -25,14 +25,26 @@ with contextlib.suppress(ImportError):
     sys.path.append("/usr/lib/python3/dist-packages")
     import junitparser
 
-VERDICTS = ["pass", "inconc", "fail", "error"]
 STATUS = {"pass": 0, "fail": 1, "inconc": 2, "error": 3}
 # The most entries of a dialogue that are checked by the schema.
 MOST_LOOKED_AT = 1000
-# The length that no message of a testcase exceeds.
-LONGEST = 400
-# The text for an end of a dialogue that must be complete, at the end of its trace or at a quiet mark.
-OPEN, OPEN_AT_MARK = "the dialogue is open at the end of its trace", "the dialogue is open at the quiet mark after it"
+# The codes of the reasons why an end is inconclusive, with a part of the words for each.
+CODES = {
+    "under_way": "dialogues may have been under way when it began",
+    "early_mark": "the quiet mark before this dialogue may have come too early",
+    "at_mark": "it may stand too early",
+    "lacking_operation": "the table lacks the operation",
+    "maybe_over": "may have ended in silence",
+    "unsure_table": "it is not sure that this is the table of the dialogue",
+    "came_again": "an ID of the dialogue was one of an earlier one",
+    "used_before": "may have used its ID in one of them",
+    "unread": "can't be read, and may have been one of this dialogue",
+    "undecided": "it is not found how it can have sent its part",
+    "after_bad_entry": "is no message that is judged",
+    "too_long": "more than 100,000 entries",
+    "open": "the dialogue is open at the",
+    "unheard": "it keeps the rules only if it did not hear",
+}
 
 
 # ---- running
@@ -140,11 +152,6 @@ def is_unheard(it):
     return it["verdict"] == "pass" and any(it["ids"].values()) and any(of["unheard"] or not of["sent"] for of in asked)
 
 
-def as_xml(name):
-    """Returns a name as readers of XML return it from an attribute: with U+FFFD for what XML has no sign for."""
-    return re.sub("[\x00-\x08\x0b\x0c\x0e-\x1f\ufffe\uffff]", "\ufffd", name)
-
-
 def look_by_schema(checks, report):
     for it in [*report.objects, report.of_run, *map(json.loads, report.shown[-1:])] if SCHEMA else []:
         # If a dialogue has very many entries, only the first ones: the others are alike, and take long.
@@ -244,35 +251,6 @@ def look_at_why(checks, folder, end, said, entry):
     checks.same("why it is none", said["text"].split("\n"), [f"  entry {said['entry']} of {end}: {WORDS['F1']}", *why, ""])
 
 
-def in_order(it):
-    """Returns the ends of a dialogue in the order of their verdicts: if both are blamed, the lower entry comes
-    first."""
-    ends = [end for end in "AB" if end in it]
-    both = all("kind" in it[end] for end in ends)
-    return sorted(ends, key=lambda end: (it[end]["entry"] if both else 0, end))
-
-
-def headline(it):
-    """Returns the message that the testcase of a dialogue must have."""
-    end = next((end for end in in_order(it) if it[end]["verdict"] == it["verdict"]), None)
-    if end is None:
-        return it["text"].strip()
-    said, words = it[end], it[end].get("text", "").split("\n")[0]
-    behind = re.match(r"entry (\d+) of the dialogue.* (is no message that .*)", words)
-    at = int(behind[1]) if behind else said.get("entry")
-    # The mark that ends a dialogue is the last of its entries.
-    line = 0 if at is None else [*it["lines"], *it.get("mark", [])[1:]][at]
-    place = f"line {line}" if line else f"entry {at} of the dialogue"
-    if "kind" in said:
-        words = f"{said['kind']}: " + WORDS.get(said["kind"], f"a transaction of {end} is open at this quiet mark")
-        words += f"; inconclusive: {said['doubt']}" if "doubt" in said else ""
-    elif behind:
-        words = f"which {behind[2]}"
-    elif words in (OPEN, OPEN_AT_MARK):
-        words = f"{words}; {it.get('text', 'nothing').splitlines()[0].strip()}"
-    return f"{end}: {words}" if at is None else f"{end}: {place}, {words}"
-
-
 def open_words(it):
     return OPEN_AT_MARK if it["marked"] else OPEN
 
@@ -289,33 +267,24 @@ def look_at_texts(checks, dialogues):
         checks.same("what may follow", found, {blamed[1]: blamed[0]} if is_later else {})
 
 
-def look_at_trace(checks, trace, dialogues, suite):
-    """Checks that the line of a trace, and its testsuite, have the counts of its dialogues."""
+def look_at_reasons(checks, dialogues):
+    """Checks that each end that is inconclusive has a code for that, which fits its words, and that no other end has
+    one."""
+    for said in [it[end] for it in dialogues for end in "AB" if end in it]:
+        code, words = said.get("reason"), said.get("doubt", said.get("text", ""))
+        checks.same("a code", code is not None, said["verdict"] == "inconc")
+        checks.holds(f"the code {code}: {words}", code is None or CODES[code] in words)
+
+
+def look_at_trace(checks, trace, dialogues):
+    """Checks that the line of a trace has the counts of its dialogues."""
     found = counts(it["verdict"] for it in dialogues)
     checks.same("the dialogues are numbered", [it["dialogue"] for it in dialogues], [min(it["entries"]) for it in dialogues])
     checks.same("counts of a trace", trace["dialogues"], found)
     checks.same("unheard", trace["unheard"], sum(map(is_unheard, dialogues)))
     # An error of the trace itself, and not of one of its dialogues, is reported for the trace.
-    is_wrong, of = "text" in trace, worst(it["verdict"] for it in dialogues)
-    checks.same("verdict of a trace", trace["verdict"], "error" if is_wrong else of)
-    failed, erred = found["fail"], found["inconc"] + found["error"] + is_wrong
-    wanted = failed + erred + (found["pass"] > 0), failed, erred
-    checks.same("counts of a suite", tuple(int(suite.get(it)) for it in ("tests", "failures", "errors")), wanted)
-    cases = suite.findall("testcase")
-    told = [it for case in cases for it in case]
-    tags = [it.tag for it in told]
-    checks.same("testcases", (len(cases), tags.count("failure"), tags.count("error")), wanted)
-    wrong = [it for it in dialogues if it["verdict"] != "pass"]
-    names = [f"dialogue {it['dialogue']}" for it in wrong] + ["trace"] * is_wrong + ["dialogues that pass"] * (found["pass"] > 0)
-    checks.same("names of testcases", [case.get("name") for case in cases], names)
-    things = "dialogue that passes" if found["pass"] == 1 else "dialogues that pass"
-    passing = [f"{found['pass']} {things}, {trace['unheard']} unheard or unanswered"] * (found["pass"] > 0)
-    checks.same("what passes", [it.text for it in suite.findall("system-out")], passing)
-    types = [it["verdict"] for it in wrong] + ["error"] * is_wrong
-    checks.same("types of testcases", sorted(it.get("type") for it in told), sorted(types))
-    messages = [headline(it) for it in wrong] + [trace["text"] for _ in range(is_wrong)]
-    checks.same("messages of testcases", [it.get("message") for it in told], messages)
-    checks.holds("these are not long", all(len(it) <= LONGEST for it in messages))
+    of = worst(it["verdict"] for it in dialogues)
+    checks.same("verdict of a trace", trace["verdict"], "error" if "text" in trace else of)
 
 
 def look_by_junitparser(checks, junit):
@@ -361,17 +330,14 @@ def agree(checks, report):
     look_by_schema(checks, report)
     look_at_run(checks, report)
     look_at_page(checks, report.page, report.shown, report.json.decode())
-    root = xml.etree.ElementTree.fromstring(report.junit)
-    suites = root.findall("testsuite")
-    for name in "tests", "failures", "errors":
-        checks.same(f"the sum of {name}", int(root.get(name)), sum(int(suite.get(name)) for suite in suites))
-    checks.same("a testsuite for each trace", [it.get("name") for it in suites], [*map(as_xml, report.traces)])
-    for (name, trace), suite in zip(report.traces.items(), suites):
-        look_at_trace(checks, trace, report.dialogues[name], suite)
-        look_at_names(checks, report.dialogues[name])
-        look_at_texts(checks, report.dialogues[name])
+    look_at_junit(checks, report)
     if "junitparser" in globals():
         look_by_junitparser(checks, report.junit)
+    for name, trace in report.traces.items():
+        look_at_trace(checks, trace, report.dialogues[name])
+        look_at_names(checks, report.dialogues[name])
+        look_at_texts(checks, report.dialogues[name])
+        look_at_reasons(checks, report.dialogues[name])
     verdicts = [it["verdict"] for it in report.traces.values()]
     checks.same("status", report.status, STATUS[worst(verdicts)])
     front, *rest = report.text.splitlines()[-1].split(";")

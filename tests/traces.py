@@ -1,11 +1,11 @@
 """Runs the built program's word `test` over traces. The rows of trace_rows.py, trace_again.py, trace_broken.py and
 trace_doubts.py have the verdicts on each trace. trace_files.py has cases of files, lines, comments and words,
 trace_outputs.py of written files, trace_messages.py of the messages of dialogues, trace_words.py of the words about a
-fault, and trace_waits.py of what an open dialogue waits for. Then come traces of random dialogues: for each dialogue,
-as trace_cut.py cuts it, `test` must give the verdict that `blame` gives for the record of that dialogue alone. And
-nobody may fail in the traces of lawful_traces.py, whose ends keep the rules. All JSON is checked against
-docs/report.schema.json if python's jsonschema is installed, and all JUnit XML with junitparser if that is
-installed."""
+fault, trace_waits.py of what an open dialogue waits for, and trace_testcases.py of the testcases of JUnit XML. Then
+come traces of random dialogues: for each dialogue, as trace_cut.py cuts it, `test` must give the verdict that `blame`
+gives for the record of that dialogue alone. And nobody may fail in the traces of lawful_traces.py, whose ends keep the
+rules. All JSON is checked against docs/report.schema.json if python's jsonschema is installed, and all JUnit XML with
+junitparser if that is installed."""
 
 import collections
 import concurrent.futures
@@ -26,6 +26,7 @@ import trace_files
 import trace_messages
 import trace_outputs
 import trace_rows
+import trace_testcases
 import trace_waits
 import trace_words
 from trace_cut import Segment
@@ -376,6 +377,7 @@ def main():
     # The longest cases begin first.
     jobs = [*lawful_traces.jobs(seed), *((look_at_random, seed * 1000 + number) for number in range(RANDOM_TRACES))]
     jobs += [*trace_files.jobs(), *trace_outputs.jobs(), *trace_messages.jobs(), *trace_words.jobs(), *trace_waits.jobs()]
+    jobs += trace_testcases.jobs()
     jobs += [(look_at, row) for row in trace_rows.ROWS + trace_again.ROWS + trace_broken.ROWS + trace_doubts.ROWS]
     passed, failed, seen = 0, 0, collections.Counter()
     with concurrent.futures.ThreadPoolExecutor(SIDE_BY_SIDE) as pool:

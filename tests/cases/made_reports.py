@@ -124,7 +124,7 @@ def open_at_mark():
     ]
     text = "  entry 2: the mark stands where a transaction of B is open\n  B: Continues from it: entry 1\n"
     shows = [("B: Continues from it", [1])]
-    ends = {"A": pass_of(1), "B": blamed(2, "F15", text, shows, doubt="the quiet mark is the bench's word")}
+    ends = {"A": pass_of(1), "B": blamed(2, "F15", text, shows, reason="at_mark", doubt="the quiet mark is the bench's word")}
     return dialogue("calls.hex", 2, "inconc", messages, "aa01", "bb02", ends, table="CAP", marked=True)
 
 
@@ -158,7 +158,7 @@ def undecided():
     fault = {"fault": "a component portion without content", "show": "1 A FAULT 11 15\n", "octets": "62054801016c00"}
     messages = [message(0, "A", "Begin", "otid=0b99", "620448020b99"), {"entry": 1, "end": "A", **fault}]
     text = "it is not found how it can have sent its part, and no entry of it is blamed\n"
-    ends = {"A": {"verdict": "inconc", "text": text}, "B": pass_of(0)}
+    ends = {"A": {"verdict": "inconc", "reason": "undecided", "text": text}, "B": pass_of(0)}
     made = dialogue("record.bin", 0, "inconc", messages, "0b99", "", ends, open=True, again=True)
     for it in messages:
         it["line"] = 0
@@ -200,7 +200,7 @@ def open_at_both_ends():
 def open_at_end():
     """A dialogue that is to be complete and is open at the end of its trace."""
     messages = [message(0, "A", "Begin", "otid=d4", "62034801d4")]
-    end = {"verdict": "inconc", "text": "the dialogue is open at the end of its trace\n"}
+    end = {"verdict": "inconc", "reason": "open", "text": "the dialogue is open at the end of its trace\n"}
     text = "  it waits for an answer of B to the Begin in entry 0\n"
     return dialogue("open.hex", 0, "inconc", messages, "d4", "", {"A": end, "B": end}, text=text, open=True)
 
@@ -312,7 +312,8 @@ def hostile():
         # As the program does: where there is no comment, none is named.
         comment = {"comment": name} if name else {}
         messages = [message(0, "A", "Begin", "otid=01", "62034801013c2f7363726970743e", [part], **comment)]
-        ends = {"A": blamed(0, "F6", f"  entry 0 of A: {name}\n", [(name, [0])], **comment, doubt=name or "none")}
+        doubt = {"reason": "lacking_operation", "doubt": name or "none"}
+        ends = {"A": blamed(0, "F6", f"  entry 0 of A: {name}\n", [(name, [0])], **comment, **doubt)}
         objects += [dialogue(name, 0, "inconc", messages, "01", "", ends, table=name)]
         objects += [trace(name, "inconc", 1, inconc=1, text=name or None)]
     return [*objects, total(objects)]

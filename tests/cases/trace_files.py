@@ -73,8 +73,8 @@ def hints(_, folder):
         told = [line for line in report.text.splitlines() if "hint" in line]
         checks.same(f"{name}: the text", told, [f"  hint: {hint}"] * is_wrong)
         errors = [it.text for it in xml.etree.ElementTree.fromstring(report.junit).iter("error")]
-        behind = f"\n  hint: {hint}\n" if is_wrong else ""
-        checks.same(f"{name}: JUnit", errors, [found["text"] + behind] if "text" in found else [])
+        behind = f"  hint: {hint}\n" if is_wrong else ""
+        checks.same(f"{name}: JUnit", errors, [f"{found['text']}\n{behind}"] if "text" in found else [])
     return checks
 
 
@@ -277,7 +277,7 @@ def refused(checks, folder, flags, path, why):
     checks.same(f"{path}: standard error", report.ran.stderr.decode().splitlines()[0], f"error: {text}")
     checks.same(f"{path}: once", report.ran.stderr.count(b"error: "), 1)
     errors = [(it.get("message"), it.text) for it in xml.etree.ElementTree.fromstring(report.junit).iter("error")]
-    checks.same(f"{path}: JUnit", errors, [(text, text)] * len(traces))
+    checks.same(f"{path}: JUnit", errors, [(text, f"{text}\n")] * len(traces))
     counts = "0 messages, 0 dialogues: 0 pass, 0 inconc, 0 fail, 0 error; 0 pass unheard or unanswered"
     checks.same(f"{path}: the text", report.text.splitlines()[:-1], [f"{name}: error: {text}; {counts}" for name in traces])
 

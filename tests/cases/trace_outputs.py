@@ -218,8 +218,8 @@ def killed(_, folder):
 
 
 def over_the_first(_, folder):
-    """The report as JUnit XML is written over the text with which its file began, also if it is shorter; a pipe has only the report, and
-    the file keeps its other names and its rights."""
+    """The report as JUnit XML is written over the text with which its file began; a pipe has only the report, and the file keeps its other
+    names and its rights."""
     checks, (_, table) = Checks("JUnit XML over the first text"), given(folder)
     trace, path = put(folder, "x", lines(*SHORT).encode()), put(folder, "old", b"old" * 1000)
     os.link(path, f"{folder}/hard")
@@ -227,9 +227,8 @@ def over_the_first(_, folder):
     words = [PROGRAM, "test", "--table", table, "--junit"]
     status = subprocess.run([*words, path, "x"], cwd=folder, stdout=subprocess.DEVNULL, check=False).returncode
     junit = content(f"{folder}/hard")
-    checks.holds(f"it is shorter: {junit}", len(junit) < len(NOT_ENDED))
-    (suite,) = xml.etree.ElementTree.fromstring(junit)
-    checks.same("status, the suite, rights", (status, suite.get("name"), os.stat(path).st_mode & 0o777), (0, "x", 0o640))
+    ((case,),) = xml.etree.ElementTree.fromstring(junit)
+    checks.same("status, the testcase, rights", (status, case.get("name"), os.stat(path).st_mode & 0o777), (0, "x", 0o640))
     ran = subprocess.run([*words, "/dev/stderr", "x"], cwd=folder, stdout=subprocess.DEVNULL, stderr=subprocess.PIPE, check=False)
     checks.same("a pipe", (ran.returncode, ran.stderr), (0, junit))
     put(folder, "x", lines(SHORT[0], WRONG_END).encode())

@@ -155,8 +155,25 @@ WRONG_CONTINUE = f"B {go_on('07', '01', result('05'))}"
 # A Continue of B that fits, and a Begin of A with an operation that the table lacks.
 BACK, LACKED = f"B {go_on('07', '01')}", f"A {begin('01', invoke('01', '63'))}"
 
+# A's last message crosses the End of B.
+CROSSED = [SHORT[0], BACK, f"A {go_on('01', '07')}", f"B {end('01')}", f"A {go_on('01', '07')}"]
+
 ROWS = [
     Row("a lawful dialogue", "", lines(*LONG), [Wanted([0, 1, 2], "01", "07")]),
+    Row("a lawful dialogue, all of which was heard", "--heard", lines(*LONG), [Wanted([0, 1, 2], "01", "07")]),
+    Row("a message crosses an End", "", lines(*CROSSED), [Wanted([0, 1, 2, 3, 4], "01", "07", "pass", "pass 1")]),
+    Row(
+        "a message crosses an End, and was to be heard",
+        "--heard",
+        lines(*CROSSED),
+        [Wanted([0, 1, 2, 3, 4], "01", "07", "pass", "inconc it keeps the rules only if it did not hear 1 message of its peer")],
+    ),
+    Row(
+        "a message crosses an End, and A alone is asked",
+        "--heard --of A",
+        lines(*CROSSED),
+        [Wanted([0, 1, 2, 3, 4], "01", "07", "pass", None)],
+    ),
     Row(
         "an answer in the last message",
         "",

@@ -345,7 +345,7 @@ SAID = [
             "  B: fail at entry 1 of the dialogue, line 2, F5",
             "  A: fail at entry 2 of the dialogue, line 3, F1; it comes later, and may follow from that of B",
         ],
-        "B: line 2, F5: it answers or rejects what its peer never sent",
+        "B: line 2, F5: it answers or rejects what its peer never sent; A: line 3, F1: its octets are no message",
     ),
     Said(
         "A is at fault before B",
@@ -355,7 +355,7 @@ SAID = [
             "  A: fail at entry 0 of the dialogue, line 1, F10",
             "  B: fail at entry 1 of the dialogue, line 2, F5; it comes later, and may follow from that of A",
         ],
-        "A: line 1, F10: it invokes an ID that is in use",
+        "A: line 1, F10: it invokes an ID that is in use; B: line 2, F5: it answers or rejects what its peer never sent",
     ),
     Said(
         "both are inconclusive: B answers what A invoked",
@@ -495,63 +495,13 @@ def said(case, folder):
     look_at_messages(checks, folder, found, text)
     record = put(folder, "record", run(["pack"], text.encode()).stdout)
     _, told = look_at_case(checks, Report(folder, case.words.split(), [record], table=case.table), record, case)
-    blamed = re.match("  [AB]: [a-z]+ at entry ([0-9]+)", case.blames[0]) if case.blames else None
-    if blamed and "line" in case.message:
-        at = int(re.search("at entry ([0-9]+)", next(it for it in case.blames if it[2] == case.message[0]))[1])
-        wanted = re.sub("line [0-9]+", f"entry {at} of the dialogue", case.message, count=1)
+    places = {it[1]: it[2] for it in (re.match("  ([AB]): [a-z]+ at (entry [0-9]+)", line) for line in case.blames) if it}
+    if places and "line" in case.message:
+        wanted = re.sub("([AB]): line [0-9]+", lambda it: f"{it[1]}: {places[it[1]]} of the dialogue", case.message)
         checks.same("the message of the record", told.get("message"), wanted)
-    return checks
-
-
-def sums(_, folder):
-    """The sums of all traces: two that pass, of which there is one testcase each; a failure and what passes; an error of a trace
-    beside one that is inconclusive; and one of which no dialogue was judged."""
-    checks = Checks("the sums of JUnit's XML")
-    texts = [
-        lines(*SHORT),
-        lines(*SHORT, "Q", *SHORT),
-        lines(SHORT[0], trace_rows.WRONG_END, "Q", *SHORT),
-        lines(SHORT[0], SHORT[0], "Q", "A 620"),
-        "",
-    ]
-    paths = [put(folder, f"x{number}.hex", text.encode()) for number, text in enumerate(texts)]
-    one, two = "1 dialogue that passes, 0 unheard or unanswered", "2 dialogues that pass, 0 unheard or unanswered"
-    for of, wanted, passing in [
-        ([0, 1, 2, 3, 4], (7, 1, 3), [one, two, one]),
-        ([0], (1, 0, 0), [one]),
-        ([2], (2, 1, 0), [one]),
-        ([4], (1, 0, 1), []),
-    ]:
-        report = Report(folder, [], [paths[at] for at in of])
-        agree(checks, report)
-        root = xml.etree.ElementTree.fromstring(report.junit)
-        checks.same(f"the sums of {of}", tuple(int(root.get(it)) for it in ("tests", "failures", "errors")), wanted)
-        checks.same(f"what passes of {of}", [it.text for it in root.iter("system-out")], passing)
-    told = [it.get("message") for it in root.iter("error")]
-    checks.same("the message of a trace", told, [trace_rows.NO_TAG])
-    return checks
-
-
-def blanks(_, folder):
-    """A name with a tab, a newline and a carriage return: XML has each by its number, so that its readers return the name."""
-    checks = Checks("blanks in the name of a trace")
-    path = put(folder, "a\tb\nc\rd.hex", lines(SHORT[0], trace_rows.WRONG_END, "Q", *SHORT).encode())
-    report = Report(folder, [], [path])
-    agree(checks, report)
-    name = f"{folder}/a&#9;b&#10;c&#13;d.hex"
-    wanted = [
-        f'  <testsuite name="{name}" tests="2" failures="1" errors="0">',
-        f'    <testcase classname="{name}" name="dialogue 0">',
-        f'    <testcase classname="{name}" name="dialogues that pass"/>',
-    ]
-    checks.same("XML", [line for line in report.junit.decode().split("\n") if "name=" in line], wanted)
-    cases = xml.etree.ElementTree.fromstring(report.junit).iter("testcase")
-    checks.same("as it is read", [it.get("classname") for it in cases], [path, path])
     return checks
 
 
 def jobs():
     """Each case, with what it is about."""
     yield from ((said, case) for case in SAID)
-    yield sums, None
-    yield blanks, None

@@ -10,7 +10,7 @@ use std::alloc::{AllocError, Global};
 use tcap_evidence::push_sentence;
 use tcap_record::End;
 use tcap_refute::Refutation;
-use tcap_traces::{Case, EndResult, JudgedDialogue};
+use tcap_traces::{Case, EndResult, JudgedDialogue, Verdict};
 
 /// Appends the line number of an entry, or the entry's number if the trace has no lines.
 fn push_line(text: &mut String, case: &Case, entry: u64) -> Result<(), AllocError> {
@@ -62,7 +62,8 @@ fn push_end(
     }
 }
 
-/// Appends the reason for the first end that has the dialogue's verdict, or that the dialogue has no table.
+/// Appends the reason for the first end that has the dialogue's verdict, or that the dialogue has no table. If both ends
+/// fail, both reasons are appended.
 pub(crate) fn push_headline(
     alloc: Global,
     text: &mut String,
@@ -73,10 +74,14 @@ pub(crate) fn push_headline(
     let Some(ends) = judged.ends else {
         return text.push_str(no_table_words(judged));
     };
+    let mut first = true;
     for end in in_order(ends, of) {
         let said = ends.of(end);
-        if is_asked(of, end) && said.verdict() == judged.verdict {
-            return push_end(alloc, text, case, judged, end, said);
+        let is_told = first || judged.verdict == Verdict::Fail;
+        if is_told && is_asked(of, end) && said.verdict() == judged.verdict {
+            text.push_str(if first { "" } else { "; " })?;
+            push_end(alloc, text, case, judged, end, said)?;
+            first = false;
         }
     }
     Ok(())

@@ -9,6 +9,7 @@ use crate::grounds::Grounds;
 use crate::messages::push_messages;
 use crate::order::{is_asked, last_open};
 use crate::reason::push_reason;
+use crate::reason_codes::reason_code;
 use crate::sinks::TraceSummary;
 use crate::sum::Sum;
 use crate::text::{push_after, push_undecided};
@@ -144,6 +145,9 @@ fn push_end(
     json.push_str("{\"verdict\":\"")?;
     json.push_str(said.verdict().word())?;
     json.push_str("\"")?;
+    if let Some(code) = reason_code(said) {
+        push_named(json, "reason", code)?;
+    }
     match said {
         EndResult::Pass(unheard) => {
             let sent = sent_by(&judged.record, end);

@@ -1,11 +1,17 @@
-//! Reports as JUnit XML, with a testsuite for each trace.
+//! Reports as JUnit XML, with a testcase for each trace.
 
+use crate::case_names::CaseNames;
 use crate::doubt_words::push_hint;
 use crate::headline::push_headline;
-use crate::sum::{Counts, push_count};
+use crate::sinks::TraceSummary;
+use crate::sum::{Counts, push_counts};
+use crate::xml::{push_text, push_value};
 use std::alloc::{AllocError, Global};
 use tcap_record::End;
 use tcap_traces::{Case, JudgedDialogue, Verdict};
+
+/// The most dialogues whose lines a testcase has.
+const MOST: usize = 20;
 
 /// The number of testcases, and how many of them fail or have an error.
 #[derive(Clone, Copy, Debug)]
@@ -15,17 +21,19 @@ struct Tally {
     errors: u64,
 }
 
-/// The testsuites of the traces so far.
+/// The testcases of the traces so far.
 #[derive(Debug, Drop)]
 pub struct Junit {
     alloc: Global,
-    // The finished testsuites.
-    suites: String,
-    // The testcases of the current testsuite.
+    // The finished testcases, their names and their tally.
     cases: String,
-    // The tally of the current testsuite, and (`sum`) of the finished ones.
+    names: CaseNames,
     tally: Tally,
-    sum: Tally,
+    // Of the current trace, the worst verdict on a dialogue so far, and the headline of the first dialogue with it.
+    worst: Verdict,
+    headline: String,
+    // The lines of the dialogues of the current trace that do not pass, as far as they have room.
+    dialogues: Vec<String>,
 }
 
 /// The XML of a run that did not end: one error.
@@ -39,42 +47,6 @@ pub const NOT_ENDED: &str = "<?xml version=\"1.0\" encoding=\"UTF-8\"?>
 </testsuites>
 ";
 
-/// Appends a character of a text, escaped if it is special in XML. If XML does not allow it, or if it is a carriage
-/// return, U+FFFD is appended.
-fn push_char(xml: &mut String, c: char) -> Result<(), AllocError> {
-    match c {
-        '<' => xml.push_str("&lt;"),
-        '>' => xml.push_str("&gt;"),
-        '&' => xml.push_str("&amp;"),
-        '"' => xml.push_str("&quot;"),
-        '\n' | '\t' => xml.push(c),
-        c if (c as u32) < 0x20 || c as u32 == 0xFFFE || c as u32 == 0xFFFF => xml.push('\u{FFFD}'),
-        c => xml.push(c),
-    }
-}
-
-/// Appends the text of an element.
-fn push_text(xml: &mut String, text: &str) -> Result<(), AllocError> {
-    for c in text.chars() {
-        push_char(xml, c)?;
-    }
-    Ok(())
-}
-
-/// Appends the value of an attribute. Readers of XML return a tab, a newline or a carriage return only if it is written
-/// by its number.
-fn push_value(xml: &mut String, value: &str) -> Result<(), AllocError> {
-    for c in value.chars() {
-        match c {
-            '\t' => xml.push_str("&#9;")?,
-            '\n' => xml.push_str("&#10;")?,
-            '\r' => xml.push_str("&#13;")?,
-            c => push_char(xml, c)?,
-        }
-    }
-    Ok(())
-}
-
 impl Tally {
     /// Creates a tally of zero.
     fn new() -> Tally {
@@ -85,25 +57,14 @@ impl Tally {
         }
     }
 
-    /// Counts `count` more testcases, which pass.
-    fn add_passing(&mut self, count: u64) {
-        self.tests = self.tests.saturating_add(count);
-    }
-
-    /// Counts one more testcase, which fails if the verdict is a fail, and else has an error.
+    /// Counts one more testcase, which passes, fails, or else has an error.
     fn add(&mut self, verdict: Verdict) {
         self.tests = self.tests.saturating_add(1);
         match verdict {
+            Verdict::Pass => {}
             Verdict::Fail => self.failures = self.failures.saturating_add(1),
             _ => self.errors = self.errors.saturating_add(1),
         }
-    }
-
-    /// Adds the tally of `others`.
-    fn add_all(&mut self, others: Tally) {
-        self.tests = self.tests.saturating_add(others.tests);
-        self.failures = self.failures.saturating_add(others.failures);
-        self.errors = self.errors.saturating_add(others.errors);
     }
 
     /// Appends the tally as attributes.
@@ -118,131 +79,142 @@ impl Tally {
     }
 }
 
+/// Appends the fault of a trace's form and the hint, if there are any, each with a newline.
+fn push_form_fault(
+    alloc: Global,
+    xml: &mut String,
+    returned: TraceSummary,
+) -> Result<(), AllocError> {
+    if returned.why.is_empty() {
+        return Ok(());
+    }
+    push_text(xml, returned.why)?;
+    let mut hint = String::from_str(alloc, "\n")?;
+    push_hint(&mut hint, returned.hint)?;
+    push_text(xml, &hint)
+}
+
+/// Appends the lines of dialogues, and how many others of the trace do not pass.
+fn push_dialogues(
+    xml: &mut String,
+    dialogues: &Vec<String>,
+    counts: &Counts,
+) -> Result<(), AllocError> {
+    for lines in dialogues {
+        push_text(xml, lines)?;
+    }
+    let failing = counts.all().saturating_sub(counts.pass);
+    match failing.saturating_sub(dialogues.len() as u64) {
+        0 => Ok(()),
+        1 => xml.push_str("and 1 more dialogue that does not pass\n"),
+        others => writeln!(xml, "and {others} more dialogues that do not pass"),
+    }
+}
+
 impl Junit {
-    /// Creates the testsuites of no trace.
+    /// Creates the testcases of no trace.
     pub fn new(alloc: Global) -> Junit {
         Junit {
             alloc,
-            suites: String::new(alloc),
             cases: String::new(alloc),
+            names: CaseNames::new(alloc),
             tally: Tally::new(),
-            sum: Tally::new(),
+            worst: Verdict::Pass,
+            headline: String::new(alloc),
+            dialogues: Vec::new(alloc),
         }
     }
 
-    /// Appends a testcase that fails or has an error.
-    fn push_case(
-        &mut self,
-        trace: &str,
-        name: &str,
-        verdict: Verdict,
-        message: &str,
-        text: &str,
-    ) -> Result<(), AllocError> {
-        let tag = match verdict {
-            Verdict::Fail => "failure",
-            _ => "error",
-        };
-        self.tally.add(verdict);
-        let xml = &mut self.cases;
-        xml.push_str("    <testcase classname=\"")?;
-        push_value(xml, trace)?;
-        xml.push_str("\" name=\"")?;
-        push_value(xml, name)?;
-        xml.push_str("\">\n      <")?;
-        xml.push_str(tag)?;
-        xml.push_str(" type=\"")?;
-        xml.push_str(verdict.word())?;
-        xml.push_str("\" message=\"")?;
-        push_value(xml, message)?;
-        xml.push_str("\">")?;
-        push_text(xml, text)?;
-        xml.push_str("</")?;
-        xml.push_str(tag)?;
-        xml.push_str(">\n    </testcase>\n")
-    }
-
-    /// Adds a dialogue that does not pass, with the text on it. The name of the testcase has no transaction IDs, since
-    /// these change from run to run.
-    pub(crate) fn add_case(
-        &mut self,
-        trace: &str,
-        case: &Case,
-        judged: &JudgedDialogue,
-        of: Option<End>,
-        text: &str,
-    ) -> Result<(), AllocError> {
-        let number = case.number();
-        let mut name = String::new(self.alloc);
-        write!(name, "dialogue {number}")?;
-        let mut message = String::new(self.alloc);
-        push_headline(self.alloc, &mut message, case, judged, of)?;
-        self.push_case(trace, &name, judged.verdict, &message, text)
-    }
-
-    /// Adds a fault of a trace's form, with a hint, if there is one.
-    pub(crate) fn add_fault(
-        &mut self,
-        trace: &str,
-        why: &str,
-        hint: Option<&str>,
-    ) -> Result<(), AllocError> {
-        let message = why.lines().next().unwrap_or("");
-        let mut text = String::new(self.alloc);
-        text.push_str(why)?;
-        if hint.is_some() {
-            text.push_str("\n")?;
-            push_hint(&mut text, hint)?;
+    /// Keeps the lines of a dialogue, if there is room for them. If `is_worse` is set, they take the place of the last
+    /// ones then.
+    fn keep(&mut self, lines: &str, is_worse: bool) -> Result<(), AllocError> {
+        if self.dialogues.len() >= MOST {
+            if !is_worse {
+                return Ok(());
+            }
+            let _ = self.dialogues.pop();
         }
-        self.push_case(trace, "trace", Verdict::Error, message, &text)
-    }
-
-    /// Ends the testsuite of a trace. Its dialogues that pass share one testcase.
-    pub(crate) fn end_trace(
-        &mut self,
-        trace: &str,
-        dialogues: &Counts,
-        unheard: u64,
-    ) -> Result<(), AllocError> {
-        let pass = dialogues.pass;
-        self.tally.add_passing(if pass > 0 { 1 } else { 0 });
-        let xml = &mut self.suites;
-        xml.push_str("  <testsuite name=\"")?;
-        push_value(xml, trace)?;
-        xml.push_str("\"")?;
-        self.tally.push(xml)?;
-        xml.push_str(">\n")?;
-        xml.push_str(&self.cases)?;
-        if pass > 0 {
-            xml.push_str("    <testcase classname=\"")?;
-            push_value(xml, trace)?;
-            xml.push_str("\" name=\"dialogues that pass\"/>\n    <system-out>")?;
-            push_count(xml, pass, "dialogue")?;
-            xml.push_str(if pass == 1 {
-                " that passes, "
-            } else {
-                " that pass, "
-            })?;
-            writeln!(xml, "{unheard} unheard or unanswered</system-out>")?;
-        }
-        xml.push_str("  </testsuite>\n")?;
-        self.cases = String::new(self.alloc);
-        self.sum.add_all(self.tally);
-        self.tally = Tally::new();
+        let lines = String::from_str(self.alloc, lines)?;
+        self.dialogues.push(lines)?;
         Ok(())
     }
 
-    /// Returns the XML text of all testsuites.
+    /// Adds a dialogue of the current trace that does not pass, with the lines on it.
+    pub(crate) fn add_dialogue(
+        &mut self,
+        case: &Case,
+        judged: &JudgedDialogue,
+        of: Option<End>,
+        lines: &str,
+    ) -> Result<(), AllocError> {
+        let worst = self.worst.worse(judged.verdict);
+        let is_worse = worst != self.worst;
+        if is_worse {
+            let mut headline = String::new(self.alloc);
+            push_headline(self.alloc, &mut headline, case, judged, of)?;
+            self.headline = headline;
+            self.worst = worst;
+        }
+        self.keep(lines, is_worse)
+    }
+
+    /// Appends the failure or the error of the current trace, unless it passes.
+    fn push_failure(&mut self, returned: TraceSummary) -> Result<(), AllocError> {
+        let tag = match returned.verdict {
+            Verdict::Pass => return Ok(()),
+            Verdict::Fail => "failure",
+            _ => "error",
+        };
+        let xml = &mut self.cases;
+        xml.push_str("      <")?;
+        xml.push_str(tag)?;
+        xml.push_str(" type=\"")?;
+        xml.push_str(returned.verdict.word())?;
+        xml.push_str("\" message=\"")?;
+        push_value(xml, returned.why.lines().next().unwrap_or(&self.headline))?;
+        xml.push_str("\">")?;
+        push_form_fault(self.alloc, xml, returned)?;
+        push_dialogues(xml, &self.dialogues, &returned.dialogues)?;
+        xml.push_str("</")?;
+        xml.push_str(tag)?;
+        xml.push_str(">\n")
+    }
+
+    /// Ends the testcase of the current trace.
+    pub(crate) fn end_trace(&mut self, returned: TraceSummary) -> Result<(), AllocError> {
+        self.tally.add(returned.verdict);
+        self.cases.push_str("    <testcase ")?;
+        self.names.push(&mut self.cases, returned.name)?;
+        self.cases.push_str(">\n")?;
+        self.push_failure(returned)?;
+        let xml = &mut self.cases;
+        xml.push_str("      <system-out>")?;
+        push_counts(
+            xml,
+            returned.messages,
+            &returned.dialogues,
+            returned.unheard,
+        )?;
+        xml.push_str("</system-out>\n    </testcase>\n")?;
+        self.worst = Verdict::Pass;
+        self.headline = String::new(self.alloc);
+        self.dialogues = Vec::new(self.alloc);
+        Ok(())
+    }
+
+    /// Returns the XML text of all testcases, as one testsuite.
     ///
     /// # Errors
     /// `AllocError` if memory runs out.
     pub fn text(&self) -> Result<String, AllocError> {
         let mut xml = String::new(self.alloc);
         xml.push_str("<?xml version=\"1.0\" encoding=\"UTF-8\"?>\n<testsuites")?;
-        self.sum.push(&mut xml)?;
+        self.tally.push(&mut xml)?;
+        xml.push_str(">\n  <testsuite name=\"tcapjudge\"")?;
+        self.tally.push(&mut xml)?;
         xml.push_str(">\n")?;
-        xml.push_str(&self.suites)?;
-        xml.push_str("</testsuites>\n")?;
+        xml.push_str(&self.cases)?;
+        xml.push_str("  </testsuite>\n</testsuites>\n")?;
         Ok(xml)
     }
 }

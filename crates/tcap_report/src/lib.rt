@@ -3,6 +3,7 @@
 #![tactic(auto)]
 
 mod awaited_answers;
+mod case_names;
 mod doubt_words;
 mod ending;
 mod fault;
@@ -19,6 +20,7 @@ mod no_message;
 mod order;
 mod page;
 mod reason;
+mod reason_codes;
 mod run;
 mod sinks;
 mod sum;
@@ -29,6 +31,7 @@ mod trace_reader;
 mod unheard;
 mod used_again;
 mod watch;
+mod xml;
 
 pub use ending::report_unread;
 pub use fault::Stop;

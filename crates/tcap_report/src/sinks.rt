@@ -111,7 +111,7 @@ impl<W: Write, J: Lines, P> Sinks<'_, W, J, P> {
         let mut lines = String::new(alloc);
         text::push_case(alloc, &mut lines, name, case, judged, of, grounds)?;
         if let Some(junit) = &mut self.junit {
-            junit.add_case(name, case, judged, of, &lines)?;
+            junit.add_dialogue(case, judged, of, &lines)?;
         }
         write_text(self.text, &lines)
     }
@@ -149,10 +149,7 @@ impl<W: Write, J: Lines, P> Sinks<'_, W, J, P> {
             self.report_object(&line, true)?;
         }
         if let Some(junit) = &mut self.junit {
-            if !returned.why.is_empty() {
-                junit.add_fault(returned.name, returned.why, returned.hint)?;
-            }
-            junit.end_trace(returned.name, &returned.dialogues, returned.unheard)?;
+            junit.end_trace(returned)?;
         }
         Ok(())
     }

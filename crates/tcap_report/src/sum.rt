@@ -7,7 +7,7 @@ use std::alloc::AllocError;
 use tcap_traces::Verdict;
 
 /// Appends a count and the noun for what it counts, in the plural unless the count is 1.
-pub(crate) fn push_count(text: &mut String, count: u64, thing: &str) -> Result<(), AllocError> {
+fn push_count(text: &mut String, count: u64, thing: &str) -> Result<(), AllocError> {
     write!(text, "{count} ")?;
     text.push_str(thing)?;
     text.push_str(if count == 1 { "" } else { "s" })

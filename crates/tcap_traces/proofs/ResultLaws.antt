@@ -20,12 +20,12 @@ use Rattle.tcap_traces.specs.declared.end_result.Circumstances.{Circumstances}
 use Rattle.tcap_traces.specs.declared.end_result.Doubt.{Doubt}
 use Rattle.tcap_traces.specs.declared.end_result.EndResult.{EndResult}
 use Rattle.tcap_traces.specs.declared.end_result.EndResult.TheVariants as end_results
-use Rattle.tcap_traces.specs.ResultMeaning.{IsFoundBefore, IsTrueResult, MayHaveSent}
+use Rattle.tcap_traces.specs.ResultMeaning.{IsFoundBefore, IsTrueResult, MayHaveSentUnheard}
 use Rattle.tcap_traces.specs.TraceMeaning.{blamed_by}
 use Rattle.tcap_traces.specs.Verdict.{doubt_of, fails, found_before, is_of, no_message_at, passes, result_before, result_by, result_of}
 use Rattle.tcap_traces.proofs.ShownLaws.{said_so}
 use Rattle.std.specs.List.{list_any}
-use Rattle.std.specs.Prelude.{drop}
+use Rattle.std.specs.Prelude.{◌&&◌, drop, nat_lt}
 
 -- ---- findings
 
@@ -67,54 +67,59 @@ module _ (side : Side) (table : Table) where
   -- ---- an end that passes
 
   pub passes_so : (entries : List Entry) (unheard : ℕ) (said : EndResult) → IsTrueResult side table entries said
-      → said ≡ end_results.Pass unheard → MayHaveSent side table entries
-  passes_so entries unheard said so is = (unheard, subst (IsTrueResult side table entries) is so)
+      → said ≡ end_results.Pass unheard → MayHaveSentUnheard side table entries unheard
+  passes_so entries unheard said so is = subst (IsTrueResult side table entries) is so
 
 -- No circumstance keeps an end that passes from it.
-pub record IsSure (c : Circumstances) : Type 0 where
+pub record IsSure (c : Circumstances) (unheard : ℕ) : Type 0 where
   pub not_cut : c.cut ≡ false
   pub sure : c.unsure ≡ false
   pub over : c.open ≡ false
+  pub heard : (c.heard && nat_lt 0 unheard) ≡ false
 
 module _ (c : Circumstances) (u : ℕ) where
-  sure_by : (under_way early_mark cut unsure over : Bool) (unheard : ℕ)
+  sure_by : (under_way early_mark cut unsure over missed : Bool) (unheard : ℕ)
       → cond under_way end_results.UnderWay
       (cond early_mark end_results.EarlyMark
-      (cond cut end_results.TooLong (cond unsure end_results.UnsureTable (cond over end_results.Open (end_results.Pass unheard)))))
+      (cond cut end_results.TooLong
+      (cond unsure end_results.UnsureTable
+      (cond over end_results.Open (cond missed (end_results.Unheard unheard) (end_results.Pass unheard))))))
       ≡ end_results.Pass u
-      → (cut ≡ false) × (unsure ≡ false) × (over ≡ false)
-  sure_by true early_mark cut unsure over unheard is = cc
-  sure_by false true cut unsure over unheard is = cc
-  sure_by false false true unsure over unheard is = cc
-  sure_by false false false true over unheard is = cc
-  sure_by false false false false true unheard is = cc
-  sure_by false false false false false unheard is = (refl, refl, refl)
+      → (cut ≡ false) × (unsure ≡ false) × (over ≡ false) × (missed ≡ false) × (unheard ≡ u)
+  sure_by true early_mark cut unsure over missed unheard is = cc
+  sure_by false true cut unsure over missed unheard is = cc
+  sure_by false false true unsure over missed unheard is = cc
+  sure_by false false false true over missed unheard is = cc
+  sure_by false false false false true missed unheard is = cc
+  sure_by false false false false false true unheard is = cc
+  sure_by false false false false false false unheard is = let same : unheard ≡ u = cc in (refl, refl, refl, refl, same)
 
-  passes_sure : (unheard : ℕ) → passes c unheard ≡ end_results.Pass u → IsSure c
+  passes_sure : (unheard : ℕ) → passes c unheard ≡ end_results.Pass u → IsSure c u
   passes_sure unheard is =
-      let (not_cut, sure, over) = sure_by c.under_way c.early_mark c.cut c.unsure c.open unheard is in
-      record { not_cut = not_cut; sure = sure; over = over }
+      let (not_cut, sure, over, heard, same) =
+      sure_by c.under_way c.early_mark c.cut c.unsure c.open (c.heard && nat_lt 0 unheard) unheard is in
+      record { not_cut = not_cut; sure = sure; over = over; heard = subst (λ n. (c.heard && nat_lt 0 n) ≡ false) same heard }
 
-  fails_not : (r : Refutation) (doubt : Option Doubt) → fails r doubt ≡ end_results.Pass u → IsSure c
+  fails_not : (r : Refutation) (doubt : Option Doubt) → fails r doubt ≡ end_results.Pass u → IsSure c u
   fails_not r None is = cc
   fails_not r (Some doubt) is = cc
 
   before_sure : (side : Side) (entries : List Entry) (number : ℕ) (earlier : Option Finding)
-      → result_before c side entries number earlier ≡ end_results.Pass u → IsSure c
+      → result_before c side entries number earlier ≡ end_results.Pass u → IsSure c u
   before_sure side entries number None is = cc
   before_sure side entries number (Some (Blamed r)) is = cc
   before_sure side entries number (Some (NotBlamed n)) is = cc
   before_sure side entries number (Some (Lawful n unheard)) is = by (list_any (is_of side) (drop number entries)) is
     where
-      by : (own : Bool) → cond own (end_results.AfterBadEntry number) (passes c unheard) ≡ end_results.Pass u → IsSure c
+      by : (own : Bool) → cond own (end_results.AfterBadEntry number) (passes c unheard) ≡ end_results.Pass u → IsSure c u
       by true is = cc
       by false is = passes_sure unheard is
 
   result_sure : (table : Table) (side : Side) (entries : List Entry) (found : Finding) (earlier : Option Finding)
-      → result_by table c side entries found earlier ≡ end_results.Pass u → IsSure c
+      → result_by table c side entries found earlier ≡ end_results.Pass u → IsSure c u
   result_sure table side entries (Blamed r) earlier is = fails_not r (doubt_of table c side entries r) is
   result_sure table side entries (Lawful n unheard) earlier is = passes_sure unheard is
   result_sure table side entries (NotBlamed n) earlier is = before_sure side entries n earlier is
 
-  pub of_sure : (table : Table) (entries : List Entry) (side : Side) → result_of table c entries side ≡ end_results.Pass u → IsSure c
+  pub of_sure : (table : Table) (entries : List Entry) (side : Side) → result_of table c entries side ≡ end_results.Pass u → IsSure c u
   of_sure table entries side is = result_sure table side entries (finding table entries side) _ is

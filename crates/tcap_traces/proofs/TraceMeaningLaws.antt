@@ -24,7 +24,7 @@ use Rattle.tcap_traces.specs.Pieces.{Entry, Piece, TraceEntry, pieces_of}
 use Rattle.tcap_traces.specs.TableChoice.{Choice, choice}
 use Rattle.tcap_traces.specs.Dialogue.{After, Dialogue, EndAfter, Question, circumstances, ends_by, ends_on, entry_of, is_long, is_marked, is_open, judged_entries, most, quiet_mark, verdict_by}
 use Rattle.tcap_traces.specs.Segments.{Before, Segment, before_next, courses_in, dialogue_of, empty, nothing_before, segments_of}
-use Rattle.tcap_traces.specs.ResultMeaning.{MayHaveSent}
+use Rattle.tcap_traces.specs.ResultMeaning.{MayHaveSentUnheard}
 use Rattle.tcap_traces.specs.ResultOfEnd.{result_at}
 use Rattle.tcap_traces.specs.Verdict.{rank, result_of, verdict_asked, verdict_of, worse}
 use Rattle.tcap_traces.specs.JudgedTrace.{Asked, JudgedDialogue, all_in, breaks_off, end_of, is_reported, judged, judged_trace, readable_in, reported_from, reported_in, verdict_on, worst}
@@ -192,15 +192,20 @@ module _ (asked : Asked) (d : Dialogue) where
             (result_holds side table.table under (judged_entries d)) (sym (ap blamed_by said) ∙ blames);
       }
 
+  none_below : (n : ℕ) → nat_lt 0 n ≡ false → n ≡ 0
+  none_below n is = let few = ltb-false 0 n is in omega (few, arith)
+
   part_by : (entries : List JudgedEntry) → entries ≡ all_entries d → (side : Side) (table : NamedTable)
       → (choice asked.tables entries).table ≡ Some table → (choice asked.tables entries).unsure ≡ false
-      → MayHaveSent side table.table entries → (asked.question.complete && is_open d (choice asked.tables entries).table) ≡ false
-      → MayHaveSentPart asked d side
-  part_by entries is side table chosen sure sent over = record {
+      → (unheard : ℕ) → MayHaveSentUnheard side table.table entries unheard → (asked.question.heard && nat_lt 0 unheard) ≡ false
+      → (asked.question.complete && is_open d (choice asked.tables entries).table) ≡ false → MayHaveSentPart asked d side
+  part_by entries is side table chosen sure unheard sent heard over = record {
     table = table;
     chosen = subst (λ es. (choice asked.tables es).table ≡ Some table) is chosen;
     sure = subst (λ es. (choice asked.tables es).unsure ≡ false) is sure;
-    sent = subst (MayHaveSent side table.table) is sent;
+    unheard = unheard;
+    sent = subst (λ es. MayHaveSentUnheard side table.table es unheard) is sent;
+    heard = λ should. none_below unheard (sym (ap (λ b. b && nat_lt 0 unheard) should) ∙ heard);
     complete = λ should. sym (ap (λ b. b && is_open d (Some table)) should) ∙ sym (ap (λ t. asked.question.complete && is_open d t) chosen) ∙ over;
   }
 
@@ -211,9 +216,10 @@ module _ (asked : Asked) (d : Dialogue) where
       let (table, chosen, said) = of_table found.table under (judged_entries d) ends is side in
       let sure = of_sure under unheard table.table (judged_entries d) side (sym said ∙ passes) in
       part_by (judged_entries d) (all_judged d.entries (is_marked d.after) most sure.not_cut) side table chosen sure.sure
+      unheard
       (passes_so side table.table (judged_entries d) unheard (result_of table.table under (judged_entries d) side)
       (result_holds side table.table under (judged_entries d)) (sym said ∙ passes))
-      sure.over
+      sure.heard sure.over
 
 -- ---- the dialogues of a trace
 

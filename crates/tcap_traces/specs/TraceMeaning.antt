@@ -13,7 +13,7 @@ use Rattle.tcap_traces.specs.declared.end_result.EndResult.TheVariants as end_re
 use Rattle.tcap_traces.specs.Pieces.{Entry, TraceEntry, pieces_of}
 use Rattle.tcap_traces.specs.TableChoice.{choice}
 use Rattle.tcap_traces.specs.Dialogue.{Dialogue, entry_of, heading_in, is_marked, is_open, judged_entries, quiet_mark}
-use Rattle.tcap_traces.specs.ResultMeaning.{MayHaveSent}
+use Rattle.tcap_traces.specs.ResultMeaning.{MayHaveSentUnheard}
 use Rattle.tcap_traces.specs.ResultOfEnd.{result_at}
 use Rattle.tcap_traces.specs.JudgedTrace.{Asked, JudgedDialogue, breaks_off, judged_trace}
 
@@ -23,13 +23,16 @@ use Rattle.tcap_traces.specs.JudgedTrace.{Asked, JudgedDialogue, breaks_off, jud
 abbrev pub all_entries : Dialogue → List JudgedEntry
 all_entries d = map entry_of d.entries ++ cond (is_marked d.after) (quiet_mark ∷ []) []
 
--- The end may have sent its part of all entries of the dialogue, by the table that the entries choose, which is sure.
--- If dialogues should be complete, this one is not open.
+-- The end may have sent its part of all entries of the dialogue, by the table that the entries choose, which is sure,
+-- with this many unheard messages of its peer. If each message should be heard, none is unheard. If dialogues should be
+-- complete, this one is not open.
 pub record MayHaveSentPart (asked : Asked) (d : Dialogue) (side : Side) : Type 0 where
   pub table : NamedTable
   pub chosen : (choice asked.tables (all_entries d)).table ≡ Some table
   pub sure : (choice asked.tables (all_entries d)).unsure ≡ false
-  pub sent : MayHaveSent side table.table (all_entries d)
+  pub unheard : ℕ
+  pub sent : MayHaveSentUnheard side table.table (all_entries d) unheard
+  pub heard : asked.question.heard ≡ true → unheard ≡ 0
   pub complete : asked.question.complete ≡ true → is_open d (Some table) ≡ false
 
 -- The end is at fault in the dialogue, by the table that its entries choose: its octets there are no message, or no run
