@@ -1,13 +1,12 @@
 ghost use Rattle.std.specs.Prelude.{◌≡◌, ◌<◌, ℕ, List, Some, true, length, slice_get, IfOk};
 ghost use Rattle.std.specs.Option.{option_map};
-ghost use Rattle.tcap_traces.specs.JudgedTrace.{judged_trace};
-ghost use Rattle.tcap_traces.specs.declared.verdict.Verdict.TheVariants as verdicts;
+ghost use Rattle.tcap_traces.specs.TraceMeaning.{MeansPass};
 ghost use Rattle.tcap_report.specs.KeptState.{asked_of};
 
 use std::alloc::Global;
 use tcap_ber::Counted;
 use tcap_report::{NoWatch, Opened, Sinks, Stop, Sum, TraceOptions, Traces, laws, run_test};
-use tcap_traces::Verdict;
+use tcap_traces::{Verdict, laws as trace_laws};
 
 /// Traces whose octets are in memory.
 #[derive(Drop)]
@@ -37,7 +36,8 @@ impl<'a> Traces for InMemory<'a> {
     }
 }
 
-/// Whether all these traces, whose octets are in memory, pass. If they do, each passes by the definition `judged_trace`.
+/// Whether all these traces, whose octets are in memory, pass. If they do, each of their entries is in a dialogue, and in
+/// each dialogue each judged end may have sent its part.
 pub fn do_pass(
     alloc: Global,
     traces: &[&[u8]],
@@ -46,9 +46,10 @@ pub fn do_pass(
 ) -> Result<bool, Stop>
     ensures { IfOk result (λ pass. pass ≡ true → (number : ℕ) (trace : List ℕ) → number < length names.now
         → option_map (λ trace. trace.now) (slice_get traces.now number) ≡ Some trace
-        → (judged_trace (asked_of options.entry) trace).verdict ≡ verdicts.Pass) }
+        → MeansPass (asked_of options.entry) trace) }
 {
     laws::pass_of_run_is_of_each_trace();
+    trace_laws::pass_is_lawful();
     let (mut text, mut watch, mut sum) = (Counted::new(Vec::new(alloc)), NoWatch, Sum::new());
     let mut json: Option<Counted<Vec<u8>>> = None;
     let mut sinks = Sinks {
