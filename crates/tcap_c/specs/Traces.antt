@@ -44,9 +44,9 @@ asked_for rules tables = record {
   tables = tables;
 }
 
--- The verdict on a trace, by the text of a book and rules: that which is defined for the octets of the trace, by the tables
--- of the book. They may be any if the text is empty: the library carries some. Or the verdict is an error: the book has a
--- fault, or memory ran out.
+-- The verdict on a trace, by the text of a book and rules: that which is defined for the octets of the trace, by the
+-- tables of the book. They may be any if the text is empty: the library carries some. Or the verdict is an error: the
+-- book has a fault, or memory ran out.
 abbrev pub IsVerdictOn : List ℕ → List ℕ → Rules → Verdict → Type 0
 IsVerdictOn trace book rules verdict =
     (verdict ≡ verdicts.Error)
@@ -59,7 +59,8 @@ IsVerdictOn trace book rules verdict =
 abbrev pub copied_to_front : List ℕ → List ℕ → List ℕ
 copied_to_front octets room = take (length room) octets ++ drop (length octets) room
 
--- Octets were copied to the room, `len` is the number of all of them, and the status is that of the verdict on the trace.
+-- Octets were copied to the room, `len` is the number of all of them, and the status is that of the verdict on the
+-- trace.
 pub record WritesReport (trace book : List ℕ) (rules : Rules) (old new : List ℕ) (len status : ℕ) : Type 0 where
   pub octets : List ℕ
   pub verdict : Verdict

@@ -55,8 +55,8 @@ AnswersEarly options remaining failures failures' read verdict before after =
     (ps : List Piece) × IsCutShort remaining failures failures' read ps × (rule : FormRule)
     × IsReported options (judged_pieces (asked_of options) (record { pieces = ps; fault = Some rule })) verdict before after
 
--- The reader returned the octets `read`, or any octets if its octets are not known. They are the whole trace, or its form
--- has a fault, or the reading stopped early; and this is the verdict on them.
+-- The reader returned the octets `read`, or any octets if its octets are not known. They are the whole trace, or its
+-- form has a fault, or the reading stopped early; and this is the verdict on them.
 pub record Answers (options : TraceOptions) (remaining remaining' : Option (List ℕ)) (failures failures' : ℕ) (verdict : Verdict)
     (before after : Sum) : Type 0 where
   pub read : List ℕ

@@ -22,13 +22,13 @@ Returns old (Ok piece) new = ReaderReturns old (Ok piece) new
 Returns old (Err (halts.Form fault)) new = (rule : FormRule) × NoMatterWhat old (λ more. pieces_left old more ≡ stopped rule)
 Returns old (Err (halts.Stop stop)) new = Unit {0}
 
--- The trace begins with the octets `read`. Its first pieces are `ps`, and those that the reader of pieces still returns come
--- after them, no matter which octets follow.
+-- The trace begins with the octets `read`. Its first pieces are `ps`, and those that the reader of pieces still returns
+-- come after them, no matter which octets follow.
 abbrev pub HasRead : List ℕ → List Piece → PieceReader → Type 0
 HasRead read ps r = NoMatterWhat r (λ more. pieces_of (read ++ more) ≡ with_front ps (pieces_left r more))
 
--- Each piece so far was taken. Or the pieces `ps` were taken, and the form of the trace has a fault after them, or they are
--- 2 ^ 64 - 1 or more. Or the run stops.
+-- Each piece so far was taken. Or the pieces `ps` were taken, and the form of the trace has a fault after them, or they
+-- are 2 ^ 64 - 1 or more. Or the run stops.
 abbrev pub ReadsOn : TraceOptions → List ℕ → Result (Unit {0}) Halt → PieceReader → Trace → Type 0
 ReadsOn options read (Ok _) r t =
     (ps : List Piece) × HasRead read ps r × IsReading options (after_pieces (asked_of options) start ps) t
@@ -39,8 +39,8 @@ ReadsOn options read (Err (halts.Form fault)) r t =
     ⊎ ((2 ^ 64 - 1 ≤ length ps) × NoMatterWhat r (λ more. (rest : Pieces) × (pieces_of (read ++ more) ≡ with_front ps rest))))
 ReadsOn options read (Err (halts.Stop stop)) r t = Unit {0}
 
--- All octets were read, all pieces were taken, and the last segment was judged. Or the trace is read no further. Or the run
--- stops.
+-- All octets were read, all pieces were taken, and the last segment was judged. Or the trace is read no further. Or the
+-- run stops.
 abbrev pub Reads : TraceOptions → Option (List ℕ) → Option (List ℕ) → ℕ → ℕ → Result (Unit {0}) Halt → Trace → Type 0
 Reads options remaining remaining' failures failures' (Ok _) t =
     (read : List ℕ) × Consumes remaining remaining' read × IsAtEnd remaining' × (failures' ≡ failures) × ((pieces_of read).fault ≡ None)

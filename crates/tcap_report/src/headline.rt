@@ -62,8 +62,8 @@ fn push_end(
     }
 }
 
-/// Appends the reason for the first end that has the dialogue's verdict, or that the dialogue has no table. If both ends
-/// fail, both reasons are appended.
+/// Appends the reason for the first end that has the dialogue's verdict, or that the dialogue has no table. If both
+/// ends fail, both reasons are appended.
 pub(crate) fn push_headline(
     alloc: Global,
     text: &mut String,

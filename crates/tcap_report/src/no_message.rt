@@ -42,8 +42,8 @@ fn length_fault(octets: &[u8]) -> Option<Fault> {
 }
 
 /// Appends the line in which `show --why` explains why an entry of a dialogue is no message. It has the reason, the
-/// offset, the path of parts to it, the octets around it, and what can be read of the kind and the IDs. If the octets are
-/// not one element, which `show` does not read, the line has the reason and the offset.
+/// offset, the path of parts to it, the octets around it, and what can be read of the kind and the IDs. If the octets
+/// are not one element, which `show` does not read, the line has the reason and the offset.
 pub(crate) fn push_why(
     alloc: Global,
     text: &mut String,

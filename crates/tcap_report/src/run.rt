@@ -67,8 +67,8 @@ fn test_trace<T: Traces, W: Write, J: Lines, P: Watch>(
     }
 }
 
-/// Opens and judges the traces with these names, one after another, reports to `sinks`, and returns the worst verdict in
-/// the sum over all traces.
+/// Opens and judges the traces with these names, one after another, reports to `sinks`, and returns the worst verdict
+/// in the sum over all traces.
 ///
 /// # Errors
 /// `Stop::Memory` if memory runs out, `Stop::Write` if a sink fails.

@@ -40,7 +40,7 @@ use tcap_traces::{
     BeforeMarks, Case, JudgedDialogue, NextItem, Piece, TraceEntry, Unread, Verdict, judge,
 };
 
-/// What is asked of a trace.
+/// The options for judging a trace.
 #[derive(Clone, Copy, Debug)]
 pub struct TraceOptions<'a> {
     /// The end whose verdicts are asked, or None for both.

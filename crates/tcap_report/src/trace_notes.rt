@@ -48,8 +48,8 @@ impl Trace<'_> {
         }
     }
 
-    /// Returns the ID that suggests that a dialogue with these entries continues one from before the last quiet mark. None
-    /// if one of its IDs was used before in its segment.
+    /// Returns the ID that suggests that a dialogue with these entries continues one from before the last quiet mark.
+    /// None if one of its IDs was used before in its segment.
     fn in_use(&self, gathered: &CompleteDialogue, entries: &[TraceEntry]) -> Option<InUse>
         ensures { is_some result ≡ is_in_use_by self.now.marks gathered.now (option_map heading_in (slice_get entries.now 0)) }
     {

@@ -39,8 +39,8 @@ gathered_as g entries after under_way in_use unread = record {
   unread = unread;
 }
 
--- The entry after which unreadable entries may belong to a dialogue: its first if that is a Begin, with this number; if it
--- is none, any of the segment.
+-- The entry after which unreadable entries may belong to a dialogue: its first if that is a Begin, with this number; if
+-- it is none, any of the segment.
 abbrev pub unread_after : Option Side → Option ℕ → Option ℕ
 unread_after None number = None
 unread_after (Some side) number = number

@@ -14,7 +14,8 @@ use Rattle.tcap_traces.specs.declared.pieces.FormRule.{FormRule}
 use Rattle.tcap_traces.specs.Dialogue.{After, Dialogue, EndAfter, FaultAfter, Question, ends_on, heading_in, verdict_by}
 use Rattle.tcap_traces.specs.Segments.{Before, Segment, before_next, courses_in, dialogue_of, nothing_before, segments_of}
 
--- What is asked of a trace: what is asked of its dialogues; how transaction IDs may be reused; and the operation tables.
+-- What is asked of a trace: what is asked of its dialogues; how transaction IDs may be reused; and the operation
+-- tables.
 pub record Asked : Type 0 where
   pub question : Question
   pub reuse : Reuse
@@ -110,8 +111,8 @@ pub record JudgedTrace : Type 0 where
   pub dialogues : List JudgedDialogue
   pub messages : ℕ
 
--- The verdict is the worst of the dialogues. It is an error if the form of the trace has a fault, if the trace says that
--- it was broken off, or if no entry has a kind that can be read.
+-- The verdict is the worst of the dialogues. It is an error if the form of the trace has a fault, if the trace says
+-- that it was broken off, or if no entry has a kind that can be read.
 abbrev pub judged_by : Asked → Pieces → List Segment → List JudgedDialogue → JudgedTrace
 judged_by asked p segments dialogues = record {
   verdict = trace_verdict (is_some p.fault || list_any breaks_off p.pieces) (readable_in segments)

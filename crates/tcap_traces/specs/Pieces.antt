@@ -27,8 +27,8 @@ pub record TraceEntry : Type 0 where
   pub line : ℕ
   pub comment : List ℕ
 
--- a piece of a trace: an entry, a quiet mark, or a directive; the last two with the number of their line, which is 0 in a
--- record
+-- a piece of a trace: an entry, a quiet mark, or a directive; the last two with the number of their line, which is 0 in
+-- a record
 pub data Piece : Type 0 where
   Entry : TraceEntry → Piece
   Mark : ℕ → Piece
@@ -192,8 +192,8 @@ unless_at number None rest = rest
 unless_at number (Some rule) rest = stopped (InLine number rule)
 
 -- The pieces of a line with this meaning and number, and of the lines after it. `rest` gives the pieces of those lines
--- by what was read before them and by the comment above the first. `progress` was read before the line, and `above` is the
--- comment above it.
+-- by what was read before them and by the comment above the first. `progress` was read before the line, and `above` is
+-- the comment above it.
 abbrev pub goes_on : (Progress → List ℕ → Pieces) → Progress → ℕ → List ℕ → Line → LineMeaning → Pieces
 goes_on rest progress number above line Empty = rest progress []
 goes_on rest progress number above line (Comment text) = rest progress text
@@ -207,8 +207,8 @@ goes_on rest progress number above line (Message sender octets) =
     (rest (record progress { begun = true }) []))
 goes_on rest progress number above line Nothing = stopped (InLine number NoLine)
 
--- The pieces of these lines. `progress` was read before them, the first has this number, and `above` is the text of the line
--- above it if that is a comment.
+-- The pieces of these lines. `progress` was read before them, the first has this number, and `above` is the text of the
+-- line above it if that is a comment.
 abbrev pub pieces_in : Progress → ℕ → List ℕ → List Line → Pieces
 pieces_in progress number above [] = no_more
 pieces_in progress number above (line ∷ lines) =

@@ -17,8 +17,8 @@ use Rattle.tcap_traces.specs.Dialogue.{After, Dialogue, More, MarkAfter, heading
 
 -- ---- segments
 
--- A segment: its entries; the number in it, counted from 0, of the first entry after the directive `under way`, if there
--- is one; and what comes after it.
+-- A segment: its entries; the number in it, counted from 0, of the first entry after the directive `under way`, if
+-- there is one; and what comes after it.
 pub record Segment : Type 0 where
   pub entries : List TraceEntry
   pub under_way : Option ℕ
@@ -95,8 +95,8 @@ is_uni kind = false
 abbrev pub is_unreadable : Heading → Bool
 is_unreadable h = is_alone h && not (is_uni h.kind)
 
--- the number of the first unreadable entry with at least this number, among these headings; the first heading has number
--- n
+-- the number of the first unreadable entry with at least this number, among these headings; the first heading has
+-- number n
 abbrev pub unreadable_from : ℕ → ℕ → List Heading → Option ℕ
 unreadable_from least n [] = None
 unreadable_from least n (h ∷ hs) = cond (nat_le least n && is_unreadable h) (Some n) (unreadable_from least (suc n) hs)

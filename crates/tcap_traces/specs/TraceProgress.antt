@@ -69,8 +69,9 @@ pub record AreNoted (hs : List Heading) (begun : ℕ → Bool) (notes : Notes) :
 abbrev pub id_of : Side → List ℕ → IdOf
 id_of side octets = record { end = side; octets = octets }
 
--- The notes on the IDs of an end. Those in `sent` are known as sent from, and those in `open` as open. For an ID, `goes` is
--- true if a dialogue of the segment with it may go on, `stays` if another one has it, and `names` if its owner sent from it.
+-- The notes on the IDs of an end. Those in `sent` are known as sent from, and those in `open` as open. For an ID,
+-- `goes` is true if a dialogue of the segment with it may go on, `stays` if another one has it, and `names` if its
+-- owner sent from it.
 pub record IsMarked (sent «open» : List IdOf) (goes stays names : IdOf → Bool) (side : Side) (m : EndMarks) : Type 0 where
   pub known : (o : List ℕ) → known_in m o ≡ record { sent = is_among sent (id_of side o); «open» = is_among «open» (id_of side o) }
   pub opened : (o : List ℕ) → set.contains octets_cmp m.opened o ≡ goes (id_of side o)

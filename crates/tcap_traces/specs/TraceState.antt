@@ -10,8 +10,8 @@ use Rattle.tcap_traces.specs.Segments.{Before, Segment, before_next, courses_in,
 use Rattle.tcap_traces.specs.JudgedTrace.{Asked, JudgedDialogue, JudgedTrace, all_in, end_of, reported_in, verdict_on, worst}
 
 -- The state of a trace. `before` is known of earlier segments, which have `count` entries and quiet marks; `segment` is
--- the segment so far. `reported`, `messages` and `readable` are the reported dialogues of earlier segments, the number of
--- their entries, and the number of those whose kind can be read.
+-- the segment so far. `reported`, `messages` and `readable` are the reported dialogues of earlier segments, the number
+-- of their entries, and the number of those whose kind can be read.
 pub record State : Type 0 where
   pub before : Before
   pub count : ℕ

@@ -10,8 +10,8 @@ Notes = List ℕ × Bool
 abbrev pub notes_in : Unread → Notes
 notes_in u = (u.numbers.items, u.has_begun)
 
--- The notes after the entry with this number, given whether it is unreadable, and whether a dialogue with IDs begins with
--- it. Of several unreadable entries without such a beginning between them, only the first is noted.
+-- The notes after the entry with this number, given whether it is unreadable, and whether a dialogue with IDs begins
+-- with it. Of several unreadable entries without such a beginning between them, only the first is noted.
 abbrev pub after_entry : ℕ → Bool → Bool → Notes → Notes
 after_entry number unreadable true (numbers, begun) = (numbers, true)
 after_entry number true false (numbers, true) = (numbers ++ number ∷ [], false)

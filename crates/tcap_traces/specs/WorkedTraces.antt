@@ -32,8 +32,8 @@ abbrev text : List (List ℕ) → List ℕ
 text [] = []
 text (line ∷ lines) = line ++ 10 ∷ text lines
 
--- Messages in hexadecimal digits: A's Begin from 01, B's Continue from 02 to 01, B's End to 01, and A's Continue from 01
--- to 02.
+-- Messages in hexadecimal digits: A's Begin from 01, B's Continue from 02 to 01, B's End to 01, and A's Continue from
+-- 01 to 02.
 abbrev begin : List ℕ
 begin = codes "A 6203480101"
 

@@ -216,8 +216,8 @@ impl BeforeMarks {
         }
     }
 
-    /// Returns an ID that suggests that a dialogue continues one from before the quiet mark. This is the destination ID of
-    /// its first entry, if the ID's owner sent from it in an earlier segment; or the first of its IDs that is open.
+    /// Returns an ID that suggests that a dialogue continues one from before the quiet mark. This is the destination ID
+    /// of its first entry, if the ID's owner sent from it in an earlier segment; or the first of its IDs that is open.
     pub fn in_use(&self, first: HeadingView, gathered: &CompleteDialogue) -> Option<InUse>
         ensures found { IfSome result (λ it. IsInUse (known_in (by_end it.«end» self.now.a self.now.b) it.id)) }
         ensures none { IfNone result (is_in_use self.now (heading_read first.entry) gathered.now ≡ false) }

@@ -84,7 +84,7 @@ pub struct Circumstances {
     pub cut: bool,
     /// Whether the dialogue is open, but should be complete.
     pub open: bool,
-    /// Whether each end should have heard each message of its peer.
+    /// True if each end should have heard each message of its peer.
     pub heard: bool,
 }
 

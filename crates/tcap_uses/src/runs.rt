@@ -36,8 +36,8 @@ impl<'a> Traces for InMemory<'a> {
     }
 }
 
-/// Whether all these traces, whose octets are in memory, pass. If they do, each of their entries is in a dialogue, and in
-/// each dialogue each judged end may have sent its part.
+/// Returns whether all these traces, whose octets are in memory, pass. If they do, each of their entries is in a
+/// dialogue, and in each dialogue each judged end may have sent its part.
 pub fn do_pass(
     alloc: Global,
     traces: &[&[u8]],

@@ -47,8 +47,8 @@ abbrev pub IsJudged : Test → Sum → Sum → Verdict → Type 0
 IsJudged test before after verdict =
     (JudgesEach test before after ⊎ AreErrors (length test.traces.items) before after) × (verdict ≡ worst_of after)
 
--- The exit status is that of the worst verdict on a trace; or that of an error, if the run stopped; or 4, if the command
--- line is wrong.
+-- The exit status is that of the worst verdict on a trace; or that of an error, if the run stopped; or 4, if the
+-- command line is wrong.
 abbrev pub IsStatus : Test → ℕ → Type 0
 IsStatus test status =
     ((sum : Sum) × (verdict : Verdict) × IsJudged test no_sum sum verdict × (status ≡ status_of verdict))
