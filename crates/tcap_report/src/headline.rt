@@ -4,10 +4,11 @@
 
 use crate::awaited_answers::push_first_wait;
 use crate::doubt_words::{line_of, push_doubt, push_said};
+use crate::grounds::Grounds;
 use crate::order::{in_order, is_asked};
 use crate::text::no_table_words;
+use crate::which::push_alternative;
 use std::alloc::{AllocError, Global};
-use tcap_evidence::push_sentence;
 use tcap_record::End;
 use tcap_refute::Refutation;
 use tcap_traces::{Case, EndResult, JudgedDialogue};
@@ -23,11 +24,18 @@ fn push_line(text: &mut String, case: &Case, entry: u64) -> Result<(), AllocErro
 }
 
 /// Appends the entry, the kind and the reason of a blame.
-fn push_blame(text: &mut String, case: &Case, end: End, at: Refutation) -> Result<(), AllocError> {
+fn push_blame(
+    text: &mut String,
+    case: &Case,
+    judged: &JudgedDialogue,
+    end: End,
+    at: Refutation,
+    grounds: &Grounds,
+) -> Result<(), AllocError> {
     let kind = at.kind.number();
     push_line(text, case, at.entry)?;
     write!(text, "F{kind}: ")?;
-    push_sentence(text, end, at.kind)
+    push_alternative(text, case, judged, end, at, grounds)
 }
 
 /// Appends the first reason why an end does not pass.
@@ -38,13 +46,14 @@ fn push_end(
     judged: &JudgedDialogue,
     end: End,
     said: EndResult,
+    grounds: &Grounds,
 ) -> Result<(), AllocError> {
     text.push_str(end.letter())?;
     text.push_str(": ")?;
     match said {
-        EndResult::Fail(at) => push_blame(text, case, end, at),
+        EndResult::Fail(at) => push_blame(text, case, judged, end, at, grounds),
         EndResult::Doubtful(at, doubt) => {
-            push_blame(text, case, end, at)?;
+            push_blame(text, case, judged, end, at, grounds)?;
             text.push_str("; inconclusive: ")?;
             push_doubt(alloc, text, case, doubt)
         }
@@ -69,6 +78,7 @@ pub(crate) fn push_headline(
     case: &Case,
     judged: &JudgedDialogue,
     of: Option<End>,
+    grounds: &Grounds,
 ) -> Result<(), AllocError> {
     let Some(ends) = judged.ends else {
         return text.push_str(no_table_words(judged));
@@ -76,7 +86,7 @@ pub(crate) fn push_headline(
     for end in in_order(ends, of) {
         let said = ends.of(end);
         if is_asked(of, end) && said.verdict() == judged.verdict {
-            return push_end(alloc, text, case, judged, end, said);
+            return push_end(alloc, text, case, judged, end, said, grounds);
         }
     }
     Ok(())

@@ -1,6 +1,7 @@
 //! Reports as JUnit XML, with a testsuite for each trace.
 
 use crate::doubt_words::push_hint;
+use crate::grounds::Grounds;
 use crate::headline::push_headline;
 use crate::sum::{Counts, push_count};
 use std::alloc::{AllocError, Global};
@@ -170,13 +171,14 @@ impl Junit {
         case: &Case,
         judged: &JudgedDialogue,
         of: Option<End>,
+        grounds: &Grounds,
         text: &str,
     ) -> Result<(), AllocError> {
         let number = case.number();
         let mut name = String::new(self.alloc);
         write!(name, "dialogue {number}")?;
         let mut message = String::new(self.alloc);
-        push_headline(self.alloc, &mut message, case, judged, of)?;
+        push_headline(self.alloc, &mut message, case, judged, of, grounds)?;
         self.push_case(trace, &name, judged.verdict, &message, text)
     }
 

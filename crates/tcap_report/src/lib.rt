@@ -2,6 +2,7 @@
 //! page.
 #![tactic(auto)]
 
+mod at_fault;
 mod awaited_answers;
 mod doubt_words;
 mod ending;
@@ -17,7 +18,9 @@ mod messages;
 mod no_message;
 mod order;
 mod page;
+mod q773_names;
 mod reason;
+mod sentence_parts;
 mod sinks;
 mod sum;
 mod text;
@@ -26,6 +29,11 @@ mod trace_notes;
 mod trace_reader;
 mod unheard;
 mod used_again;
+mod which;
+mod which_answers;
+mod which_ids;
+mod which_operations;
+mod which_portions;
 
 pub use ending::report_unread;
 pub use fault::Stop;
