@@ -245,10 +245,10 @@ def look_at_why(checks, folder, end, said, entry):
     octets, fault = entry[0].encode() + bytes.fromhex(entry[1]), length_fault(entry[1])
     if fault is not None:
         why = [f"  why: {LENGTH_FAULTS[fault[0]]}, at octet {fault[1]} of it"]
-        checks.same("why it is none", said["text"].split("\n"), [f"  entry {said['entry']} of {end}: {WORDS['F1']}", *why, ""])
+        checks.same("why it is none", said["text"].split("\n")[1:], [f"  entry {said['entry']} of {end}: {WORDS['F1']}", *why, ""])
         return
     why = [line for line in run(["show", "--why", put(folder, "one", octets)]).stdout.decode().split("\n") if "why: " in line]
-    checks.same("why it is none", said["text"].split("\n"), [f"  entry {said['entry']} of {end}: {WORDS['F1']}", *why, ""])
+    checks.same("why it is none", said["text"].split("\n")[1:], [f"  entry {said['entry']} of {end}: {WORDS['F1']}", *why, ""])
 
 
 def open_words(it):

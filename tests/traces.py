@@ -132,12 +132,14 @@ def look_at_text(checks, row, report, path):
 
 
 def look_at_order(checks, it, block):
-    """Checks the order of blamed ends: the lower entry comes first, and the text says that the other comes later."""
+    """Checks the order of blamed ends: the lower entry comes first, and the text says that the other comes later. The
+    line of each has the sentence that is the first line of the reasons in JSON."""
     blamed = [end for end in in_order(it) if "kind" in it.get(end, {})]
     found = re.findall("^  ([AB]): [a-z]+ at entry .*, (F[0-9]+)(.*)$", block, re.MULTILINE)
     is_later = len({it[end]["entry"] for end in blamed}) > 1
     clauses = ["", f"; it comes later, and may follow from that of {blamed[0]}" if is_later else ""]
-    wanted = [(end, it[end]["kind"], clause) for end, clause in zip(blamed, clauses)]
+    sentences = [it[end]["text"].split("\n")[0].strip() for end in blamed]
+    wanted = [(end, it[end]["kind"], f": {said}{clause}") for end, said, clause in zip(blamed, sentences, clauses)]
     checks.same("the order of the ends", found, wanted)
 
 

@@ -5,8 +5,6 @@ import itertools
 import re
 import xml.etree.ElementTree
 
-from evidence import WORDS
-
 VERDICTS = ["pass", "inconc", "fail", "error"]
 # The length that no message of a testcase exceeds, and the most dialogues whose lines its text has.
 LONGEST, MOST_TOLD = 400, 20
@@ -55,7 +53,7 @@ def headline_of(it, end):
     line = 0 if at is None else [*it["lines"], *it.get("mark", [])[1:]][at]
     place = f"line {line}" if line else f"entry {at} of the dialogue"
     if "kind" in said:
-        words = f"{said['kind']}: " + WORDS.get(said["kind"], f"a transaction of {end} is open at this quiet mark")
+        words = f"{said['kind']}: {words.strip()}"
         words += f"; inconclusive: {said['doubt']}" if "doubt" in said else ""
     elif behind:
         words = f"which {behind[2]}"

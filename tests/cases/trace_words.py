@@ -16,17 +16,18 @@ NAMED = (
     '{"class":4,"code":48},{"class":2,"code":"2a03","name":"far"},{"class":2,"code":49,"name":"' + LONG_NAME + '"}]}]}'
 )
 # The lines that say which fault it is.
-WHICH = re.compile("  (why: |invocation |and [0-9]+ more inv|the result names |an AARE |the A|.* and a Unidirectional )")
+WHICH = re.compile("  (why: |invocation |and [0-9]+ more inv|the result names )")
 BLAME = re.compile("  [AB]: (fail|inconc)")
-NOT_ALLOWED = "it invokes or answers an operation as the table does not allow"
-MISFIT = "its dialogue portion does not fit how the dialogue stands"
-NONE = "its octets are no message"
-MISSING = "  an AARE is missing: this is the first answer to a Begin with an AARQ"
-TOO_MANY = "  the AARE is one too many: only the first answer to a Begin may have one, and a Continue before it was that"
-NO_REQUEST = "  the ABRT is one too many: the Begin of the transaction has no AARQ"
+MISSING = "an AARE is missing: this is the first answer to a Begin with an AARQ, entry 0"
+TOO_MANY = "the AARE is one too many: only the first answer to a Begin may have one, and that is entry 1"
+NO_REQUEST = "the ABRT is one too many: the Begin of the transaction has no AARQ"
 LACKS = "inconclusive: the table lacks the operation"
-BAD_LINK = "it is linked to an invocation that its end did not receive, has answered, or may not link it to"
-AGAIN = "it answers an invocation that was answered already"
+AGAIN = "invocation 1 of ask 45 was answered already, by the Return Result in this message"
+NO_FIVE = "invoke ID 5 is not one that A invoked in this transaction"
+BAD_OCTETS = "its octets are no message: empty component portion, at octet 8 of it"
+TWICE = "this message invokes ID 1 twice"
+LACKS_99 = "the table lacks operation 99"
+ON_99 = "invocation 1 in entry 0 is of operation 99, which the table lacks"
 
 ASKS, ACCEPTS = request("2A0304"), accepted("2A0304")
 # An AARE that refuses, by the user; and an ABRT of the user (Q.773 4.2.3).
@@ -63,11 +64,12 @@ class Said:
 
 
 def one(name, entries, which, blamed, sentence, at=None, verdict="fail", before=(), **more):
-    """One end is blamed, at the last entry of the dialogue where no other is named. Entries stand in lines from 1 on, behind those
+    """One end is blamed, with that sentence, at the last entry of the dialogue where no other is named. Entries stand in lines from 1 on, behind those
     of another dialogue."""
     at, (of, kind) = len(entries) - 1 if at is None else at, blamed.split()
     line = len(before) + at + 1
-    said = f"  {of}: {verdict} at entry {at} of the dialogue, line {line}, {kind}"
+    told = sentence.removesuffix(f"; {LACKS}")
+    said = f"  {of}: {verdict} at entry {at} of the dialogue, line {line}, {kind}: {told}"
     return Said(name, [*before, *entries], {of: which}, [said], f"{of}: line {line}, {kind}: {sentence}", **more)
 
 
@@ -81,7 +83,7 @@ ONE = [
             "octets 01 6c 08 a1 06 02 01 01 [30] 01 2d; Begin otid=01"
         ],
         "A F1",
-        NONE,
+        "its octets are no message: unexpected tag, at octet 12 of it",
     ),
     one(
         "an empty component portion, in the third entry",
@@ -91,14 +93,14 @@ ONE = [
             "octets 65 08 48 01 01 49 01 07 [6c] 00; Continue otid=01 dtid=07"
         ],
         "A F1",
-        NONE,
+        "its octets are no message: empty component portion, at octet 8 of it",
     ),
     one(
         "another tag than a message's",
         [f"B {trace_rows.OTHER_TAG}"],
         ["  why: unexpected tag; place 0 of the message; message; octets [63] 03 48 01 01"],
         "B F1",
-        NONE,
+        "its tag, 63, is none of the five messages",
         before=SHORT,
     ),
     one(
@@ -106,51 +108,51 @@ ONE = [
         [f"A {trace_rows.NO_OCTETS}"],
         ["  why: bad transaction ID; place 2 of the message; Begin / originating transaction ID; octets 62 02 [48] 00; Begin"],
         "A F1",
-        NONE,
+        "its octets are no message: bad transaction ID, at octet 2 of it",
         before=SHORT,
     ),
     # ---- F6
     one(
         "an error of class 3",
         [f"A {begin('01', invoke('01', '2F'))}", f"B {end('01', error('01'))}"],
-        ["  invocation 1 in entry 0 is of 47, of class 3, which allows no Return Error"],
+        [],
         "B F6",
-        NOT_ALLOWED,
+        "invocation 1 in entry 0 is of operation 47, of class 3, which allows no Return Error",
     ),
     one(
         "a result of class 2",
         [f"A {begin('01', invoke('01', '2E'))}", f"B {end('01', RESULT)}"],
-        ["  invocation 1 in entry 0 is of tell 46, of class 2, which allows no Return Result"],
+        [],
         "B F6",
-        NOT_ALLOWED,
+        "invocation 1 in entry 0 is of tell 46, of class 2, which allows no Return Result",
     ),
     one(
         "an answer to class 4, of an ID below 0",
         [f"A {begin('01', invoke('FF', '30'))}", f"B {end('01', error('FF'))}"],
-        ["  invocation -1 in entry 0 is of 48, of class 4, which allows no Return Error"],
+        [],
         "B F6",
-        NOT_ALLOWED,
+        "invocation -1 in entry 0 is of operation 48, of class 4, which allows no Return Error",
     ),
     one(
         "the result names another operation than was invoked",
         [f"A {begin('01', INVOKE)}", f"B {end('01', names('01', '02012E', '0400'))}"],
         ["  invocation 1 in entry 0 is of ask 45, of class 1", "  the result names tell 46"],
         "B F6",
-        NOT_ALLOWED,
+        "ask 45 was invoked under ID 1, and the result names tell 46",
     ),
     one(
         "so does one that is not the last, and names what the table lacks",
         [f"A {begin('01', INVOKE)}", f"B {go_on('07', '01', not_last('01', '06032A0405'))}"],
         ["  invocation 1 in entry 0 is of ask 45, of class 1", "  the result names 2a0405"],
         "B F6",
-        NOT_ALLOWED,
+        "ask 45 was invoked under ID 1, and the result names operation 2a0405",
     ),
     one(
         "a global operation by its name, of class 2",
         [f"A {begin('01', GLOBAL)}", f"B {end('01', names('01', '06022A03'))}"],
-        ["  invocation 1 in entry 0 is of far 2a03, of class 2, which allows no Return Result", "  the result names far 2a03"],
+        ["  the result names far 2a03"],
         "B F6",
-        NOT_ALLOWED,
+        "invocation 1 in entry 0 is of far 2a03, of class 2, which allows no Return Result",
     ),
     one(
         "two invocations of the ID, and not those of other IDs, of the end itself, or behind the answer",
@@ -166,7 +168,7 @@ ONE = [
             "  invocation 1 in entry 2 is of tell 46, of class 2, which allows no Return Result",
         ],
         "B F6",
-        NOT_ALLOWED,
+        "none of the 2 invocations of 1 allows this Return Result by its class",
         at=3,
     ),
     one(
@@ -184,7 +186,7 @@ ONE = [
             "  and 2 more invocations of it",
         ],
         "B F6",
-        NOT_ALLOWED,
+        "none of the 10 invocations of 1 allows this Return Result by its class",
     ),
     one(
         "what another ID of the peer invoked is not meant",
@@ -194,32 +196,32 @@ ONE = [
             f"B {go_on('07', '01', error('01'))}",
             f"B {go_on('07', '02')}",
         ],
-        ["  invocation 1 in entry 0 is of 47, of class 3, which allows no Return Error"],
+        [],
         "B F6",
-        NOT_ALLOWED,
+        "invocation 1 in entry 0 is of operation 47, of class 3, which allows no Return Error",
         at=2,
     ),
     one(
         "a Unidirectional of class 1; one of class 4 stands before it",
         [f"A {uni(invoke('02', '30'), INVOKE)}"],
-        ["  ask 45 is of class 1, and a Unidirectional may invoke operations of class 4 alone"],
+        [],
         "A F6",
-        NOT_ALLOWED,
+        "ask 45 is of class 1, and a Unidirectional may invoke operations of class 4 alone",
     ),
     one(
         "a Unidirectional of an operation that the table lacks",
         [f"A {uni(invoke('01', '63'))}"],
         [],
         "A F6",
-        f"{NOT_ALLOWED}; {LACKS}",
+        f"{LACKS_99}; {LACKS}",
         verdict="inconc",
     ),
     one(
         "a name of 10,000 characters",
         [f"A {begin('01', invoke('01', '31'))}", f"B {end('01', RESULT)}"],
-        [f"  invocation 1 in entry 0 is of {LONG_NAME} 49, of class 2, which allows no Return Result"],
+        [],
         "B F6",
-        NOT_ALLOWED,
+        "invocation 1 in entry 0 is of operation 49, of class 2, which allows no Return Result",
     ),
     # ---- F11 to F13
     one(
@@ -227,7 +229,7 @@ ONE = [
         [f"A {begin('01', INVOKE)}", f"B {go_on('07', '01', invoke('05', '30', '01'))}"],
         ["  invocation 1 in entry 0 is of ask 45, of class 1"],
         "B F11",
-        BAD_LINK,
+        "it is linked to invocation 1 of ask 45, which does not list operation 48",
     ),
     one(
         "two answers to one invocation, and not to that of another ID",
@@ -241,37 +243,38 @@ ONE = [
         [f"A {begin('01', invoke('01', '32'))}", f"B {go_on('07', '01', invoke('02', '30', '01'))}", f"A {go_on('01', '07', UNLINKED)}"],
         ["  invocation 2 in entry 1 is of leaf 48, of class 4, linked to 1"],
         "A F13",
-        "it rejects with a problem that nothing received has",
+        "invoke problem 6 (linkedResponseUnexpected) rejects the link of an Invoke of 2, and in this transaction A received none that is "
+        "linked to an operation that lists none",
         table='{"tables":[{"operations":[{"class":1,"code":50,"linked":[48]},{"class":4,"code":48,"name":"leaf"}]}]}',
     ),
     # ---- F9
     one(
         "no AARE in a Continue",
         [f"A {begin('01', asks=ASKS)}", BACK],
-        [MISSING],
+        [],
         "B F9",
-        MISFIT,
+        MISSING,
     ),
     one(
         "no AARE in an End",
         [f"A {begin('01', asks=ASKS)}", SHORT[1]],
-        [MISSING],
+        [],
         "B F9",
-        MISFIT,
+        MISSING,
     ),
     one(
         "an AARE in the second Continue too",
         [f"A {begin('01', asks=ASKS)}", *[f"B {go_on('07', '01', asks=ACCEPTS)}"] * 2],
-        [TOO_MANY],
+        [],
         "B F9",
-        MISFIT,
+        TOO_MANY,
     ),
     one(
         "an AARE in the End too",
         [f"A {begin('01', asks=ASKS)}", f"B {go_on('07', '01', asks=ACCEPTS)}", f"B {end('01', asks=ACCEPTS)}"],
-        [TOO_MANY],
+        [],
         "B F9",
-        MISFIT,
+        TOO_MANY,
     ),
     one(
         "an AARE in an Abort behind that",
@@ -280,38 +283,38 @@ ONE = [
             f"B {go_on('07', '01', asks=ACCEPTS)}",
             f"B {element('67', element('49', '01'), REFUSES)}",
         ],
-        [TOO_MANY],
+        [],
         "B F9",
-        MISFIT,
+        TOO_MANY,
     ),
     one(
         "the first answer lacks it: the second, which has it, is not looked at",
         [f"A {begin('01', asks=ASKS)}", BACK, f"B {go_on('07', '01', asks=ACCEPTS)}"],
-        [MISSING],
+        [],
         "B F9",
-        MISFIT,
+        MISSING,
         at=1,
     ),
     one(
         "an ABRT of the user, where the Begin has no AARQ",
         [SHORT[0], f"B {element('67', element('49', '01'), ABORTS)}"],
-        [NO_REQUEST],
+        [],
         "B F9",
-        MISFIT,
+        NO_REQUEST,
     ),
     one(
         "so by the end that began",
         [SHORT[0], BACK, f"A {element('67', element('49', '07'), ABORTS)}"],
-        [NO_REQUEST],
+        [],
         "A F9",
-        MISFIT,
+        NO_REQUEST,
     ),
     one(
         "an AARE where there was no AARQ is F7, which says it",
         [SHORT[0], f"B {go_on('07', '01', asks=ACCEPTS)}"],
         [],
         "B F7",
-        "its dialogue portion is one that it may not carry",
+        "an AARE answers an AARQ, and A sent none from 01 in this dialogue",
     ),
     # ---- other kinds, which have no such lines
     one(
@@ -326,7 +329,7 @@ ONE = [
         [f"A {begin('01', INVOKE, INVOKE)}", f"B {end('01', trace_rows.result('05'))}"],
         [],
         "B F5",
-        "it answers or rejects what its peer never sent",
+        NO_FIVE,
         words="--of B",
     ),
 ]
@@ -342,50 +345,50 @@ SAID = [
         [SHORT[0], f"B {go_on('07', '01', trace_rows.result('05'))}", f"A {trace_rows.BAD_CONTINUE}"],
         {},
         [
-            "  B: fail at entry 1 of the dialogue, line 2, F5",
-            "  A: fail at entry 2 of the dialogue, line 3, F1; it comes later, and may follow from that of B",
+            f"  B: fail at entry 1 of the dialogue, line 2, F5: {NO_FIVE}",
+            f"  A: fail at entry 2 of the dialogue, line 3, F1: {BAD_OCTETS}; it comes later, and may follow from that of B",
         ],
-        "B: line 2, F5: it answers or rejects what its peer never sent; A: line 3, F1: its octets are no message",
+        f"B: line 2, F5: {NO_FIVE}; A: line 3, F1: {BAD_OCTETS}",
     ),
     Said(
         "A is at fault before B",
         [f"A {begin('01', INVOKE, INVOKE)}", f"B {end('01', trace_rows.result('05'))}"],
         {},
         [
-            "  A: fail at entry 0 of the dialogue, line 1, F10",
-            "  B: fail at entry 1 of the dialogue, line 2, F5; it comes later, and may follow from that of A",
+            f"  A: fail at entry 0 of the dialogue, line 1, F10: {TWICE}",
+            f"  B: fail at entry 1 of the dialogue, line 2, F5: {NO_FIVE}; it comes later, and may follow from that of A",
         ],
-        "A: line 1, F10: it invokes an ID that is in use; B: line 2, F5: it answers or rejects what its peer never sent",
+        f"A: line 1, F10: {TWICE}; B: line 2, F5: {NO_FIVE}",
     ),
     Said(
         "both are inconclusive: B answers what A invoked",
         [f"A {begin('01', invoke('01', '63'))}", f"B {end('01', RESULT)}"],
-        {"B": ["  invocation 1 in entry 0 is of 99, which the table lacks"]},
+        {"B": []},
         [
-            "  A: inconc at entry 0 of the dialogue, line 1, F6",
-            "  B: inconc at entry 1 of the dialogue, line 2, F6; it comes later, and may follow from that of A",
+            f"  A: inconc at entry 0 of the dialogue, line 1, F6: {LACKS_99}",
+            f"  B: inconc at entry 1 of the dialogue, line 2, F6: {ON_99}; it comes later, and may follow from that of A",
         ],
-        f"A: line 1, F6: {NOT_ALLOWED}; {LACKS}",
+        f"A: line 1, F6: {LACKS_99}; {LACKS}",
     ),
     Said(
         "what comes first is inconclusive: the testcase fails by the other",
         [f"A {begin('01', INVOKE, invoke('02', '63'))}", f"B {end('01', RESULT, RESULT)}"],
         {"B": ["  invocation 1 in entry 0 is of ask 45, of class 1"]},
         [
-            "  A: inconc at entry 0 of the dialogue, line 1, F6",
-            "  B: fail at entry 1 of the dialogue, line 2, F12; it comes later, and may follow from that of A",
+            f"  A: inconc at entry 0 of the dialogue, line 1, F6: {LACKS_99}",
+            f"  B: fail at entry 1 of the dialogue, line 2, F12: {AGAIN}; it comes later, and may follow from that of A",
         ],
-        "B: line 2, F12: it answers an invocation that was answered already",
+        f"B: line 2, F12: {AGAIN}",
     ),
     Said(
         "both at one quiet mark",
         [SHORT[0], BACK, f"A {go_on('01', '07')}", "Q"],
         {},
         [
-            "  A: inconc at entry 3 of the dialogue, line 4, F15",
-            "  B: inconc at entry 3 of the dialogue, line 4, F15",
+            "  A: inconc at entry 3 of the dialogue, line 4, F15: a transaction of A is open at this quiet mark: that from 01, as in entry 2",
+            "  B: inconc at entry 3 of the dialogue, line 4, F15: a transaction of B is open at this quiet mark: that from 07, as in entry 1",
         ],
-        "A: line 4, F15: a transaction of A is open at this quiet mark; "
+        "A: line 4, F15: a transaction of A is open at this quiet mark: that from 01, as in entry 2; "
         "inconclusive: the trace's quiet mark is the bench's word, and it may stand too early",
     ),
     # ---- no end is blamed
@@ -435,7 +438,7 @@ SAID = [
         {},
         [
             "  A: inconc: the quiet mark before this dialogue may have come too early: ID 01 of A was in use before it",
-            "  B: inconc at entry 0 of the dialogue, line 3, F2",
+            "  B: inconc at entry 0 of the dialogue, line 3, F2: it goes to 01, and A sent nothing from 01 in this dialogue",
         ],
         "A: the quiet mark before this dialogue may have come too early: ID 01 of A was in use before it",
     ),
@@ -443,8 +446,8 @@ SAID = [
         "an ID that came again, where IDs have settled, and the dialogue begins without a Begin",
         [*SHORT, f"B {end('01')}"],
         {},
-        ["  B: inconc at entry 0 of the dialogue, line 3, F2"],
-        "B: line 3, F2: its peer sent nothing from the destination ID that it could answer; inconclusive: an ID of the dialogue was "
+        ["  B: inconc at entry 0 of the dialogue, line 3, F2: it goes to 01, and A sent nothing from 01 in this dialogue"],
+        "B: line 3, F2: it goes to 01, and A sent nothing from 01 in this dialogue; inconclusive: an ID of the dialogue was "
         "one of an earlier one, of which a message may have been under way; this is dialogue 2, and that was dialogue 0",
         "--ids settled --linger 0",
     ),
@@ -473,7 +476,8 @@ def look_at_case(checks, report, path, case):
     (found,) = [it for it in report.dialogues[path] if it["verdict"] != "pass"]
     (told,) = [it for it in xml.etree.ElementTree.fromstring(report.junit).iter() if it.tag in ("failure", "error")]
     for of, wanted in case.which.items():
-        text = found[of]["text"].splitlines()
+        # The first line is the sentence.
+        _, *text = found[of]["text"].splitlines()
         checks.same(f"which fault of {of}", [line for line in text if WHICH.match(line)], wanted)
         for line in text:
             checks.holds(f"the text has {line[:100]}", f"\n{line}\n" in report.text)

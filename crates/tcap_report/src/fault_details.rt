@@ -1,15 +1,15 @@
-//! Details of a fault, in words. F6: the operations that an answer answers and names. F9: what is wrong with a dialogue
-//! portion. F10 to F13: the invocations that an Invoke, an answer or a Reject is compared with.
+//! Details of a fault, in words. F6: the operations that an answer answers and names. F10 to F13: the invocations that an
+//! Invoke, an answer or a Reject is compared with.
 //!
 //! Each function returns `AllocError` if memory runs out.
 
+use crate::at_fault::message_at;
 use std::alloc::AllocError;
 use tcap_books::NamedTable;
 use tcap_end::reports;
-use tcap_evidence::{Evidence, Invocation};
-use tcap_msg::{Kind as Form, Message, MessageParts};
-use tcap_parts::{CodeView, ComponentView, DialogueView};
-use tcap_record::{Body, Entry, Record, push_hex};
+use tcap_evidence::{Evidence, Invocation, component_at};
+use tcap_parts::{CodeView, ComponentView};
+use tcap_record::push_hex;
 use tcap_refute::{Kind, Refutation};
 use tcap_traces::JudgedDialogue;
 
@@ -18,15 +18,15 @@ const MOST: usize = 8;
 
 /// A component that answers an invocation.
 #[derive(Clone, Copy)]
-struct Answer<'a> {
+pub(crate) struct Answer<'a> {
     /// True for a Return Result, false for a Return Error.
-    is_result: bool,
+    pub(crate) is_result: bool,
     /// The operation that a Return Result names.
-    named: Option<CodeView<'a>>,
+    pub(crate) named: Option<CodeView<'a>>,
 }
 
 /// Returns the answer in a component, if it is a Return Result or a Return Error.
-fn answer_in(component: ComponentView) -> Option<Answer> {
+pub(crate) fn answer_in(component: ComponentView) -> Option<Answer> {
     match component {
         ComponentView::ReturnResult { body, .. } => Some(Answer {
             is_result: true,
@@ -76,15 +76,28 @@ fn push_invocation(
     let number = invocation.entry;
     write!(text, "  invocation {id} in entry {number} is of ")?;
     push_operation(text, table, invocation.code.view())?;
+    push_class(text, class)
+}
+
+/// Appends the class of an operation, after a comma.
+pub(crate) fn push_class(text: &mut String, class: Option<u8>) -> Result<(), AllocError> {
     match class {
         Some(class) => write!(text, ", of class {class}"),
         None => text.push_str(", which the table lacks"),
     }
 }
 
+/// Returns whether the class of an invoked operation allows an answer.
+pub(crate) fn is_allowed(table: &NamedTable, invocation: &Invocation, answer: Answer) -> bool {
+    match table.table().class_of(invocation.code.view()) {
+        Some(class) => reports(answer.is_result, class),
+        None => false,
+    }
+}
+
 /// Appends what is wrong with the answer at fault, if there is one; else the ID that the invocation is linked to, if
 /// any.
-fn push_after(
+pub(crate) fn push_after(
     text: &mut String,
     invocation: &Invocation,
     class: Option<u8>,
@@ -122,14 +135,26 @@ fn push_invocations(
     Ok(())
 }
 
-/// Appends, for F6, the invocations that an answer answers and the operation that it names.
+/// Returns whether the sentence on a fault has all about the invocations that an answer answers: there is one, and its
+/// class does not allow the answer.
+fn is_said(table: &NamedTable, found: &Evidence, answer: Answer) -> bool {
+    match found.invocations.as_slice() {
+        [only] => !is_allowed(table, only, answer),
+        _ => false,
+    }
+}
+
+/// Appends, for F6, the invocations that an answer answers and the operation that it names, without what the sentence
+/// on the fault says.
 fn push_answered(
     text: &mut String,
     table: &NamedTable,
     found: &Evidence,
     answer: Answer,
 ) -> Result<(), AllocError> {
-    push_invocations(text, table, found, Some(answer))?;
+    if !is_said(table, found, answer) {
+        push_invocations(text, table, found, Some(answer))?;
+    }
     if let Some(code) = answer.named {
         text.push_str("  the result names ")?;
         push_operation(text, table, code)?;
@@ -138,75 +163,17 @@ fn push_answered(
     Ok(())
 }
 
-/// Appends the operation that a Unidirectional invokes and its class, which is not 4. Appends nothing if the table
-/// lacks the operation.
-fn push_of_unidirectional(
-    text: &mut String,
-    table: &NamedTable,
-    code: CodeView,
-) -> Result<(), AllocError> {
-    let Some(class) = table.table().class_of(code) else {
-        return Ok(());
-    };
-    text.push_str("  ")?;
-    push_operation(text, table, code)?;
-    writeln!(
-        text,
-        " is of class {class}, and a Unidirectional may invoke operations of class 4 alone"
-    )
-}
-
-/// Appends, for F6, the operations that the fault is about.
+/// Appends, for F6, the operations that the fault is about. The sentence on the fault has that of an Invoke.
 fn push_operations(
     text: &mut String,
     table: &NamedTable,
-    message: &Message,
     component: ComponentView,
     found: &Evidence,
 ) -> Result<(), AllocError> {
-    match (message.kind(), component) {
-        (Form::Unidirectional, ComponentView::Invoke { code, .. }) => {
-            push_of_unidirectional(text, table, code)
-        }
-        _ => match answer_in(component) {
-            Some(answer) => push_answered(text, table, found, answer),
-            None => Ok(()),
-        },
+    match answer_in(component) {
+        Some(answer) => push_answered(text, table, found, answer),
+        None => Ok(()),
     }
-}
-
-/// Returns words on what is wrong with a dialogue portion (F9). An AARE that does not answer an AARQ is F7.
-fn dialogue_words(message: &Message) -> &'static str {
-    match (message.kind(), message.dialogue()) {
-        (Form::Continue | Form::End, None) => {
-            "  an AARE is missing: this is the first answer to a Begin with an AARQ\n"
-        }
-        (_, Some(DialogueView::Response { .. })) => {
-            "  the AARE is one too many: only the first answer to a Begin may have one, and a Continue before it was that\n"
-        }
-        (Form::Abort, Some(DialogueView::Abort { .. })) => {
-            "  the ABRT is one too many: the Begin of the transaction has no AARQ\n"
-        }
-        _ => "",
-    }
-}
-
-/// Returns the message in entry `number`, if it is one.
-fn message_at(record: &Record, number: u64) -> Option<&Message> {
-    match record.entries.get(number as usize) {
-        Some(
-            Entry {
-                body: Body::Good(message),
-                ..
-            },
-        ) => Some(message),
-        _ => None,
-    }
-}
-
-/// Returns the component with this number, counted from 0.
-fn component_at(message: &Message, number: Option<u64>) -> Option<ComponentView<'_>> {
-    message.components().nth(number? as usize)
 }
 
 /// Appends which fault of its kind this is, if there is more to say than the evidence.
@@ -222,9 +189,8 @@ pub(crate) fn push_which(
     };
     match (at.kind, component_at(message, found.about.component)) {
         (Kind::WrongOperation, Some(component)) => {
-            push_operations(text, table, message, component, found)
+            push_operations(text, table, component, found)
         }
-        (Kind::WrongDialogue, _) => text.push_str(dialogue_words(message)),
         _ => push_invocations(text, table, found, None),
     }
 }

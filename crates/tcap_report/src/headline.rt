@@ -4,10 +4,11 @@
 
 use crate::awaited_answers::push_first_wait;
 use crate::doubt_words::{line_of, push_doubt, push_said};
+use crate::grounds::Grounds;
 use crate::order::{in_order, is_asked};
 use crate::text::no_table_words;
+use crate::which::push_alternative;
 use std::alloc::{AllocError, Global};
-use tcap_evidence::push_sentence;
 use tcap_record::End;
 use tcap_refute::Refutation;
 use tcap_traces::{Case, EndResult, JudgedDialogue, Verdict};
@@ -23,11 +24,18 @@ fn push_line(text: &mut String, case: &Case, entry: u64) -> Result<(), AllocErro
 }
 
 /// Appends the entry, the kind and the reason of a blame.
-fn push_blame(text: &mut String, case: &Case, end: End, at: Refutation) -> Result<(), AllocError> {
+fn push_blame(
+    text: &mut String,
+    case: &Case,
+    judged: &JudgedDialogue,
+    end: End,
+    at: Refutation,
+    grounds: &Grounds,
+) -> Result<(), AllocError> {
     let kind = at.kind.number();
     push_line(text, case, at.entry)?;
     write!(text, "F{kind}: ")?;
-    push_sentence(text, end, at.kind)
+    push_alternative(text, case, judged, end, at, grounds)
 }
 
 /// Appends the first reason why an end does not pass.
@@ -38,13 +46,14 @@ fn push_end(
     judged: &JudgedDialogue,
     end: End,
     said: EndResult,
+    grounds: &Grounds,
 ) -> Result<(), AllocError> {
     text.push_str(end.letter())?;
     text.push_str(": ")?;
     match said {
-        EndResult::Fail(at) => push_blame(text, case, end, at),
+        EndResult::Fail(at) => push_blame(text, case, judged, end, at, grounds),
         EndResult::Doubtful(at, doubt) => {
-            push_blame(text, case, end, at)?;
+            push_blame(text, case, judged, end, at, grounds)?;
             text.push_str("; inconclusive: ")?;
             push_doubt(alloc, text, case, doubt)
         }
@@ -70,6 +79,7 @@ pub(crate) fn push_headline(
     case: &Case,
     judged: &JudgedDialogue,
     of: Option<End>,
+    grounds: &Grounds,
 ) -> Result<(), AllocError> {
     let Some(ends) = judged.ends else {
         return text.push_str(no_table_words(judged));
@@ -80,7 +90,7 @@ pub(crate) fn push_headline(
         let is_told = first || judged.verdict == Verdict::Fail;
         if is_told && is_asked(of, end) && said.verdict() == judged.verdict {
             text.push_str(if first { "" } else { "; " })?;
-            push_end(alloc, text, case, judged, end, said)?;
+            push_end(alloc, text, case, judged, end, said, grounds)?;
             first = false;
         }
     }

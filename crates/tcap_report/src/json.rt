@@ -14,6 +14,7 @@ use crate::reason_codes::reason_code;
 use crate::sinks::TraceSummary;
 use crate::sum::Sum;
 use crate::text::{push_after, push_undecided};
+use crate::which::push_alternative;
 use std::alloc::{AllocError, Global};
 use tcap_evidence::{Evidence, push_fact};
 use tcap_page::{push_flag, push_named, push_numbers, push_octets, push_text};
@@ -63,6 +64,22 @@ fn push_entries(json: &mut String, case: &Case) -> Result<(), AllocError> {
     json.push_str("]")
 }
 
+/// Appends a sentence on a blame as a line, and then its reasons.
+fn push_why(
+    alloc: Global,
+    text: &mut String,
+    case: &Case,
+    judged: &JudgedDialogue,
+    end: End,
+    at: Refutation,
+    grounds: &Grounds,
+) -> Result<(), AllocError> {
+    text.push_str("  ")?;
+    push_alternative(text, case, judged, end, at, grounds)?;
+    text.push_str("\n")?;
+    push_reason(alloc, text, case, judged, end, at, grounds)
+}
+
 /// Appends the fields of an end that is blamed.
 fn push_blamed(
     alloc: Global,
@@ -81,7 +98,7 @@ fn push_blamed(
         push_named(json, "comment", &comment)?;
     }
     let mut text = String::new(alloc);
-    push_reason(alloc, &mut text, case, judged, end, at, grounds)?;
+    push_why(alloc, &mut text, case, judged, end, at, grounds)?;
     push_named(json, "text", &text)?;
     if grounds.later == Some(end) {
         push_named(json, "may_follow", end.other().letter())?;

@@ -2,6 +2,7 @@
 
 use crate::case_names::CaseNames;
 use crate::doubt_words::push_hint;
+use crate::grounds::Grounds;
 use crate::headline::push_headline;
 use crate::sinks::TraceSummary;
 use crate::sum::{Counts, push_counts};
@@ -145,13 +146,14 @@ impl Junit {
         case: &Case,
         judged: &JudgedDialogue,
         of: Option<End>,
+        grounds: &Grounds,
         lines: &str,
     ) -> Result<(), AllocError> {
         let worst = self.worst.worse(judged.verdict);
         let is_worse = worst != self.worst;
         if is_worse {
             let mut headline = String::new(self.alloc);
-            push_headline(self.alloc, &mut headline, case, judged, of)?;
+            push_headline(self.alloc, &mut headline, case, judged, of, grounds)?;
             self.headline = headline;
             self.worst = worst;
         }

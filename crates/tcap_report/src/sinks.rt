@@ -111,7 +111,7 @@ impl<W: Write, J: Lines, P> Sinks<'_, W, J, P> {
         let mut lines = String::new(alloc);
         text::push_case(alloc, &mut lines, name, case, judged, of, grounds)?;
         if let Some(junit) = &mut self.junit {
-            junit.add_dialogue(case, judged, of, &lines)?;
+            junit.add_dialogue(case, judged, of, grounds, &lines)?;
         }
         write_text(self.text, &lines)
     }

@@ -9,6 +9,7 @@ use crate::listed_entries::{is_near, last_listed};
 use crate::no_message::push_no_message;
 use crate::order::{in_order, is_asked, last_open};
 use crate::reason::push_reason;
+use crate::which::push_alternative;
 use std::alloc::{AllocError, Global};
 use tcap_books::NamedTable;
 use tcap_msg::MessageParts;
@@ -93,10 +94,11 @@ fn push_blamed(
     alloc: Global,
     text: &mut String,
     case: &Case,
+    judged: &JudgedDialogue,
     end: End,
     verdict: Verdict,
     at: Refutation,
-    later: bool,
+    grounds: &Grounds,
 ) -> Result<(), AllocError> {
     let entry = at.entry;
     let kind = at.kind.number();
@@ -106,8 +108,9 @@ fn push_blamed(
     text.push_str(verdict.word())?;
     write!(text, " at entry {entry} of the dialogue")?;
     push_place(alloc, text, case, entry)?;
-    write!(text, ", F{kind}")?;
-    push_later(text, end, later)?;
+    write!(text, ", F{kind}: ")?;
+    push_alternative(text, case, judged, end, at, grounds)?;
+    push_later(text, end, grounds.later == Some(end))?;
     text.push_str("\n")
 }
 
@@ -137,15 +140,14 @@ fn push_end(
     said: EndResult,
     grounds: &Grounds,
 ) -> Result<(), AllocError> {
-    let later = grounds.later == Some(end);
     match said {
         EndResult::Pass(_) => Ok(()),
         EndResult::Fail(at) => {
-            push_blamed(alloc, text, case, end, said.verdict(), at, later)?;
+            push_blamed(alloc, text, case, judged, end, said.verdict(), at, grounds)?;
             push_reason(alloc, text, case, judged, end, at, grounds)
         }
         EndResult::Doubtful(at, doubt) => {
-            push_blamed(alloc, text, case, end, said.verdict(), at, later)?;
+            push_blamed(alloc, text, case, judged, end, said.verdict(), at, grounds)?;
             text.push_str("  that is inconclusive: ")?;
             push_doubt(alloc, text, case, doubt)?;
             text.push_str("\n")?;
