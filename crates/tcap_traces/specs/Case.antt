@@ -6,6 +6,7 @@ use Rattle.tcap_traces.specs.Pieces.{TraceEntry, further}
 use Rattle.tcap_traces.specs.declared.case.NextItem.{NextItem}
 use Rattle.tcap_traces.specs.declared.case.NextItem.TheVariants as behinds
 use Rattle.tcap_traces.specs.declared.case.Case.{Case}
+use Rattle.tcap_traces.specs.declared.case.Rules.{Rules}
 use Rattle.tcap_traces.specs.declared.table_choice.ChosenTable.{ChosenTable}
 use Rattle.tcap_dialogues.specs.Course.{Heading}
 use Rattle.tcap_record.specs.declared.entry.End.{End as Side}
