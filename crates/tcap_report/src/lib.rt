@@ -2,13 +2,11 @@
 //! page.
 #![tactic(auto)]
 
-mod at_fault;
 mod awaited_answers;
 mod case_names;
 mod doubt_words;
 mod ending;
 mod fault;
-mod fault_details;
 mod fields;
 mod grounds;
 mod headline;
@@ -20,11 +18,9 @@ mod messages;
 mod no_message;
 mod order;
 mod page;
-mod q773_names;
 mod reason;
 mod reason_codes;
 mod run;
-mod sentence_parts;
 mod sinks;
 mod sum;
 mod text;
@@ -34,11 +30,6 @@ mod trace_reader;
 mod unheard;
 mod used_again;
 mod watch;
-mod which;
-mod which_answers;
-mod which_ids;
-mod which_operations;
-mod which_portions;
 mod xml;
 
 pub use ending::report_unread;

@@ -3,8 +3,8 @@
 use crate::doubt_words::{comment_of, line_of};
 use crate::grounds::Grounds;
 use crate::listed_entries::{is_near, last_listed};
-use crate::no_message::push_no_message;
 use std::alloc::{AllocError, Global};
+use tcap_fault_words::push_no_message;
 use tcap_page::{push_entry, push_named, push_octets};
 use tcap_record::{Body, Entry};
 use tcap_traces::{Case, JudgedDialogue};

@@ -2,19 +2,13 @@
 
 use std::alloc::{AllocError, Global};
 use tcap_ber::{Counted, Fault, Outer, Reason, outer};
-use tcap_diagnostics::{name_of, run_why};
+use tcap_diagnostics::run_why;
+use tcap_fault_words::push_no_message;
 use tcap_record::End;
 use tcap_traces::Case;
 
 /// The beginning of the line in which `show --why` gives the reason.
 const WHY: &str = "  why: ";
-
-/// Appends the reason why an entry is no message, and the offset of the fault in the entry.
-pub(crate) fn push_no_message(text: &mut String, fault: Fault) -> Result<(), AllocError> {
-    text.push_str(name_of(fault.reason))?;
-    let place = fault.place;
-    write!(text, ", at octet {place} of it")
-}
 
 /// Returns what `show --why` prints for a record.
 fn shown(alloc: Global, record: &[u8]) -> Result<String, AllocError> {

@@ -4,7 +4,7 @@
 //! runs out.
 
 use crate::at_fault::{AtFault, Fact, entries_of, is_from_entry, message_at};
-use crate::grounds::Grounds;
+use crate::blame::Blame;
 use crate::no_message::push_no_message;
 use crate::sentence_parts::push_id;
 use crate::which_answers::{push_answered_again, push_answers_nothing, push_rejects_wrongly};
@@ -18,19 +18,17 @@ use tcap_ber::{Fault, Reason};
 use tcap_evidence::{Evidence, component_at, push_sentence};
 use tcap_msg::MessageParts;
 use tcap_record::{Body, End, Entry, Record, push_hex};
-use tcap_refute::{Kind, Refutation};
-use tcap_traces::{Case, JudgedDialogue};
+use tcap_refute::Kind;
 
 /// The bits of a tag's first octet that are all set if more octets follow.
 const LONG_TAG: u8 = 0x1F;
 
-/// Returns the outer tag of an entry if its fault is that tag, and the tag has one octet.
-fn wrong_tag(case: &Case, entry: u64, fault: Fault) -> Option<u8> {
+/// Returns the outer tag of the octets at fault if the fault is that tag, and the tag has one octet.
+fn wrong_tag(octets: &[u8], fault: Fault) -> Option<u8> {
     if fault.reason != Reason::UnexpectedTag || fault.place != 0 {
         return None;
     }
-    let held = case.entries.get(entry as usize)?;
-    let tag = *held.octets.first()?;
+    let tag = *octets.first()?;
     if tag & LONG_TAG == LONG_TAG {
         return None;
     }
@@ -38,22 +36,17 @@ fn wrong_tag(case: &Case, entry: u64, fault: Fault) -> Option<u8> {
 }
 
 /// Appends a sentence for F1.
-fn push_of_octets(
-    text: &mut String,
-    case: &Case,
-    record: &Record,
-    entry: u64,
-) -> Result<bool, AllocError> {
+fn push_of_octets(text: &mut String, blame: &Blame) -> Result<bool, AllocError> {
     let Some(
         Entry {
             body: Body::Bad(fault),
             ..
         },
-    ) = record.entries.get(entry as usize)
+    ) = blame.record.entries.get(blame.at.entry as usize)
     else {
         return Ok(false);
     };
-    match wrong_tag(case, entry, *fault) {
+    match wrong_tag(blame.octets, *fault) {
         Some(tag) => {
             text.push_str("its tag, ")?;
             push_hex(text, &[tag])?;
@@ -126,19 +119,17 @@ fn push_of_message(text: &mut String, kind: Kind, at: &AtFault) -> Result<bool, 
 }
 
 /// Appends the sentence for a blame, if its way is known.
-fn push_way(
-    text: &mut String,
-    case: &Case,
-    judged: &JudgedDialogue,
-    end: End,
-    at: Refutation,
-    grounds: &Grounds,
-) -> Result<bool, AllocError> {
-    let record = &judged.record;
+fn push_way(text: &mut String, blame: &Blame) -> Result<bool, AllocError> {
+    let Blame {
+        record,
+        end,
+        at,
+        ..
+    } = *blame;
     if at.kind == Kind::BadMessage {
-        return push_of_octets(text, case, record, at.entry);
+        return push_of_octets(text, blame);
     }
-    let (Some(table), Some(found)) = (judged.table, grounds.at(end)) else {
+    let (Some(table), Some(found)) = (blame.table, blame.found) else {
         return Ok(false);
     };
     if at.kind == Kind::OpenAtMark {
@@ -160,16 +151,12 @@ fn push_way(
 
 /// Appends a sentence on a blame, without a full stop: which of the ways to have its kind it is. If that is not known,
 /// the sentence is that of the kind.
-pub(crate) fn push_alternative(
-    text: &mut String,
-    case: &Case,
-    judged: &JudgedDialogue,
-    end: End,
-    at: Refutation,
-    grounds: &Grounds,
-) -> Result<(), AllocError> {
-    if push_way(text, case, judged, end, at, grounds)? {
+///
+/// # Errors
+/// `AllocError` if memory runs out.
+pub fn push_alternative(text: &mut String, blame: &Blame) -> Result<(), AllocError> {
+    if push_way(text, blame)? {
         return Ok(());
     }
-    push_sentence(text, end, at.kind)
+    push_sentence(text, blame.end, blame.at.kind)
 }

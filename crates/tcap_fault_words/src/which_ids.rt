@@ -117,7 +117,7 @@ pub(crate) fn push_after_end(text: &mut String, at: &AtFault) -> Result<bool, Al
     Ok(true)
 }
 
-/// Appends where the peer's first Continue from the destination ID goes, and that the end did not begin that ID.
+/// Appends the ID to which the peer's first Continue from the destination ID goes, and that the end did not begin it.
 fn push_nowhere(text: &mut String, at: &AtFault) -> Result<bool, AllocError> {
     let Some(number) = at.first(Fact::PeerContinues) else {
         return Ok(false);

@@ -4,14 +4,14 @@
 //! Each function returns `AllocError` if memory runs out.
 
 use crate::at_fault::message_at;
+use crate::blame::Blame;
 use std::alloc::AllocError;
 use tcap_books::NamedTable;
 use tcap_end::reports;
 use tcap_evidence::{Evidence, Invocation, component_at};
 use tcap_parts::{CodeView, ComponentView};
 use tcap_record::push_hex;
-use tcap_refute::{Kind, Refutation};
-use tcap_traces::JudgedDialogue;
+use tcap_refute::Kind;
 
 /// The most invocations of an ID that are listed.
 const MOST: usize = 8;
@@ -176,18 +176,18 @@ fn push_operations(
     }
 }
 
-/// Appends which fault of its kind this is, if there is more to say than the evidence.
-pub(crate) fn push_which(
-    text: &mut String,
-    judged: &JudgedDialogue,
-    table: &NamedTable,
-    at: Refutation,
-    found: &Evidence,
-) -> Result<(), AllocError> {
-    let Some(message) = message_at(&judged.record, at.entry) else {
+/// Appends lines on the operations and invocations of a blame, if there is more to say than the evidence.
+///
+/// # Errors
+/// `AllocError` if memory runs out.
+pub fn push_details(text: &mut String, blame: &Blame) -> Result<(), AllocError> {
+    let (Some(table), Some(found)) = (blame.table, blame.found) else {
         return Ok(());
     };
-    match (at.kind, component_at(message, found.about.component)) {
+    let Some(message) = message_at(blame.record, blame.at.entry) else {
+        return Ok(());
+    };
+    match (blame.at.kind, component_at(message, found.about.component)) {
         (Kind::WrongOperation, Some(component)) => {
             push_operations(text, table, component, found)
         }
