@@ -30,7 +30,7 @@ STATUS = {"pass": 0, "fail": 1, "inconc": 2, "error": 3}
 # The most entries of a dialogue that are checked by the schema.
 MOST_LOOKED_AT = 1000
 # The length that no message of a testcase exceeds.
-LONGEST = 400
+LONGEST = 600
 # The text for an end of a dialogue that must be complete, at the end of its trace or at a quiet mark.
 OPEN, OPEN_AT_MARK = "the dialogue is open at the end of its trace", "the dialogue is open at the quiet mark after it"
 

@@ -128,7 +128,7 @@ fn is_from(message: &Message, id: &[u8]) -> bool {
     }
 }
 
-/// Returns whether a component is wanted.
+/// Returns whether a component would allow the message at fault.
 fn is_wanted(wanted: Wanted, component: ComponentView) -> bool {
     match (wanted, component) {
         (Wanted::Invoke(wanted), ComponentView::Invoke { id, .. })
@@ -138,7 +138,7 @@ fn is_wanted(wanted: Wanted, component: ComponentView) -> bool {
     }
 }
 
-/// Returns whether a message is wanted, or has a component that is.
+/// Returns whether a message, or a component of it, would allow the message at fault.
 fn has_wanted(wanted: Wanted, message: &Message) -> bool {
     match wanted {
         Wanted::Any => true,
@@ -240,8 +240,8 @@ impl<'a> AtFault<'a> {
         }
     }
 
-    /// Returns the peer's first entry after this one that comes from the destination ID and is wanted. Entries after the
-    /// next quiet mark do not count.
+    /// Returns the peer's first entry after this one that comes from the destination ID and would have allowed the
+    /// message. Entries after the next quiet mark do not count.
     pub(crate) fn later(&self, wanted: Wanted) -> Option<u64> {
         let peer = self.end.other();
         for (at, entry) in self.record.entries.iter().enumerate() {

@@ -68,7 +68,8 @@ fn push_start(text: &mut String, octets: &[u8]) -> Result<(), AllocError> {
     text.push_str(if octets.len() > MOST_OCTETS { ".." } else { "" })
 }
 
-/// Appends in which place the peer sent nothing that is wanted; and the entry in which it does so later, if there is one.
+/// Appends the place in which the peer sent nothing that would allow the message at fault, and the entry in which it does
+/// so later, if there is one.
 pub(crate) fn push_none_in(
     text: &mut String,
     at: &AtFault,
@@ -83,8 +84,8 @@ pub(crate) fn push_none_in(
     text.push_str(": is the trace in order?")
 }
 
-/// Appends that the peer sent nothing in this dialogue; or before which entry, if it sends something later. Only a Begin
-/// that comes later suggests that the trace is out of order, since a dialogue may have been under way before it.
+/// Appends that the peer sent nothing in this dialogue, or nothing before an entry in which it does. Only a Begin that
+/// comes later suggests that the trace is out of order, since a dialogue may have been under way before it.
 pub(crate) fn push_nothing_before(text: &mut String, at: &AtFault) -> Result<(), AllocError> {
     if at.later(Wanted::Form(Form::Begin)).is_some() {
         return push_none_in(text, at, DIALOGUE, Wanted::Form(Form::Begin));

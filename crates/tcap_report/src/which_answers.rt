@@ -138,7 +138,12 @@ pub(crate) fn push_answered_again(text: &mut String, at: &AtFault) -> Result<boo
         }
     }
     let count = at.found.invocations.len();
-    if count < 2 {
+    if count == 0 {
+        push_end(text, at.end, " can't have received an Invoke of ")?;
+        write!(text, "{id} in this transaction")?;
+        return Ok(true);
+    }
+    if count == 1 {
         return Ok(false);
     }
     write!(
@@ -175,14 +180,17 @@ fn push_duplicate(
         return Ok(true);
     }
     let times = rejects.saturating_add(1);
-    write!(text, " rejects {id}, {times} times so far, and ")?;
-    push_end(text, at.end, " received it ")?;
-    write!(text, "{invokes} times in this transaction")?;
+    write!(text, " is in {times} Rejects of {id}, and ")?;
+    push_end(text, at.end, " received ")?;
+    write!(
+        text,
+        "{invokes} Invokes of it in this transaction, the first of which is no duplicate"
+    )?;
     Ok(true)
 }
 
-/// Returns words on the linked Invokes of an ID, of which none has the problem `number`. The words follow on those for
-/// a received one.
+/// Returns words on the linked Invokes of an ID, if none has the problem `number`. They follow on the letter of the end
+/// that received them.
 fn link_words(number: u8, linked: usize, rejects: usize) -> &'static str {
     if linked == 0 {
         " received no linked one"
@@ -248,7 +256,7 @@ struct AnswerReject<'a> {
     /// The sort of the answer, with its article, and its invoke ID.
     what: &'static str,
     id: i8,
-    /// How many such answers were received, and the entries of the Rejects of them before this one.
+    /// The number of such answers that were received, and the entries of their Rejects before this one.
     answers: usize,
     rejects: &'a [u64],
 }

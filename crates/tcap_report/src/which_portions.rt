@@ -17,7 +17,7 @@ const REJECTED: u8 = 1;
 /// The greatest source of an ABRT that Q.773 4.2.3 defines.
 const LAST_SOURCE: u8 = 1;
 
-/// Appends where a PDU goes, and in which message it is.
+/// Appends the message in which a PDU goes, and the one in which it is.
 fn push_place(text: &mut String, words: &str, at: &AtFault) -> Result<bool, AllocError> {
     text.push_str(words)?;
     text.push_str(" alone, and this is ")?;
