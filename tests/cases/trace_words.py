@@ -131,7 +131,7 @@ ONE = [
     ),
     one(
         "a message to an ID of its own end",
-        [SHORT[0], BACK, f"B {end('07')}"],
+        [SHORT[0], BACK, f"B {go_on('07', '07')}"],
         [],
         "B F2",
         "it goes to 07, and A sent nothing from 07 in this dialogue; this is B's own ID: are the ends mixed up?",
