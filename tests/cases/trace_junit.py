@@ -7,7 +7,7 @@ import xml.etree.ElementTree
 
 VERDICTS = ["pass", "inconc", "fail", "error"]
 # The length that no message of a testcase exceeds, and the most dialogues whose lines its text has.
-LONGEST, MOST_TOLD = 400, 20
+LONGEST, MOST_TOLD = 600, 20
 # The attributes that the elements of JUnit's XML have, and the elements in them. Jenkins' schema allows all of these.
 JUNIT = {
     "testsuites": ({"tests", "failures", "errors"}, {"testsuite"}),

@@ -111,6 +111,31 @@ ONE = [
         "its octets are no message: bad transaction ID, at octet 2 of it",
         before=SHORT,
     ),
+    # ---- F2 and F5: what a trace that is out of order, or has the ends mixed up, looks like
+    one(
+        "an answer before the Begin that it answers",
+        [BACK, SHORT[0], SHORT[1]],
+        [],
+        "B F2",
+        "it goes to 01, and A sent nothing from 01 in this dialogue before entry 1: is the trace in order?",
+        at=0,
+        words="--ids once",
+    ),
+    one(
+        "an answer before its Invoke",
+        [SHORT[0], f"B {go_on('07', '01', RESULT)}", f"A {go_on('01', '07', INVOKE)}"],
+        [],
+        "B F5",
+        "invoke ID 1 is not one that A invoked in this transaction before entry 2: is the trace in order?",
+        at=1,
+    ),
+    one(
+        "a message to an ID of its own end",
+        [SHORT[0], BACK, f"B {go_on('07', '07')}"],
+        [],
+        "B F2",
+        "it goes to 07, and A sent nothing from 07 in this dialogue; this is B's own ID: are the ends mixed up?",
+    ),
     # ---- F6
     one(
         "an error of class 3",

@@ -201,11 +201,15 @@ fn push_of_half(text: &mut String, at: &AtFault) -> Result<bool, AllocError> {
     if at.message.kind() != Form::Continue {
         return push_closed(text, at);
     }
-    match (at.found.about.origin, at.own_begin(at.from())) {
-        (HalfOrigin::Accepted, Some(number)) => push_began_itself(text, at, number),
-        _ if !own.is_empty() && own != at.from() => push_other_id(text, at, own),
-        _ => push_closed(text, at),
+    if at.found.about.origin == HalfOrigin::Accepted {
+        if let Some(number) = at.own_begin(at.from()) {
+            return push_began_itself(text, at, number);
+        }
     }
+    if own.is_empty() || own == at.from() {
+        return push_closed(text, at);
+    }
+    push_other_id(text, at, own)
 }
 
 /// Appends a sentence for F8.
@@ -269,31 +273,51 @@ fn push_goes_to_open(text: &mut String, at: &AtFault) -> Result<bool, AllocError
     Ok(true)
 }
 
+/// Appends that each Continue from the destination ID was answered with cause 1 before, first in entry `number`.
+fn push_all_answered(text: &mut String, at: &AtFault, number: u64) -> Result<bool, AllocError> {
+    push_answers_continue(
+        text,
+        at,
+        ", and each of these was answered so already, as in entry ",
+    )?;
+    write!(text, "{number}")?;
+    Ok(true)
+}
+
+/// Appends that the end received a Continue, since it sent entry `number` to the destination ID, and whether it answered
+/// others with cause 1.
+fn push_received(
+    text: &mut String,
+    at: &AtFault,
+    number: u64,
+    answered: usize,
+) -> Result<bool, AllocError> {
+    push_answers_continue(text, at, ", and ")?;
+    push_end(text, at.end, " received one, since it sent entry ")?;
+    write!(text, "{number}")?;
+    push_id(text, " to ", at.to())?;
+    if answered > 0 {
+        text.push_str("; each other was answered so already")?;
+    }
+    Ok(true)
+}
+
 /// Appends a sentence for F14 with cause 1.
 fn push_unrecognized_again(text: &mut String, at: &AtFault) -> Result<bool, AllocError> {
     let continues = at.count(Fact::PeerContinues);
     let answered = at.count(Fact::Unknown);
-    let received = at.first(Fact::Outgoing);
-    match (at.first(Fact::Unknown), received) {
-        (Some(number), _) if continues <= answered => {
-            push_answers_continue(
-                text,
-                at,
-                ", and each of these was answered so already, as in entry ",
-            )?;
-            write!(text, "{number}")?;
-            Ok(true)
+    if let Some(number) = at.first(Fact::Unknown) {
+        if continues <= answered {
+            return push_all_answered(text, at, number);
         }
-        (_, Some(number))
-            if at.found.about.origin != HalfOrigin::Accepted && answered == 0 && continues == 1 => {
-            push_answers_continue(text, at, ", and ")?;
-            push_end(text, at.end, " received one, since it sent entry ")?;
-            write!(text, "{number}")?;
-            push_id(text, " to ", at.to())?;
-            Ok(true)
-        }
-        _ => push_goes_to_open(text, at),
     }
+    let is_accepted = at.found.about.origin == HalfOrigin::Accepted;
+    if let Some(number) = at.first(Fact::Outgoing) {
+        if !is_accepted && continues <= answered.saturating_add(1) {
+            return push_received(text, at, number, answered);
+        }
+    }
+    push_goes_to_open(text, at)
 }
 
 /// Appends a sentence for F14.
