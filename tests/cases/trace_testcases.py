@@ -10,7 +10,7 @@ from trace_rows import LACKED, OPERATIONS, SHORT, WRONG_END, end, go_on, lines, 
 from traced import Checks, Report, agree, content, put
 
 FAILS, IS_INCONCLUSIVE = [SHORT[0], WRONG_END, "Q"], [LACKED, SHORT[1], "Q"]
-WRONG_ANSWER = "F5: it answers or rejects what its peer never sent"
+NOT_INVOKED = "F5: invoke ID {} is not one that {} invoked in this transaction"
 
 
 def testcases(xml_text):
@@ -110,7 +110,7 @@ def limits(_, folder):
     """Traces with many dialogues that don't pass: the text has twenty of them, among these the one of the message, and the count of the
     others."""
     checks = Checks("the dialogues of a testcase")
-    fail, behind = "B: line {}, " + WRONG_ANSWER, "and {} more dialogues that do not pass\n"
+    fail, behind = "B: line {}, " + NOT_INVOKED.format(5, "A"), "and {} more dialogues that do not pass\n"
     for name, entries, verdict, message, blocks, rest in [
         ("19", FAILS * 19, "fail", fail.format(2), [*range(0, 57, 3)], ""),
         ("20", FAILS * 20, "fail", fail.format(2), [*range(0, 60, 3)], ""),
@@ -138,9 +138,9 @@ def both(_, folder):
     checks = Checks("both ends fail")
     answers = f"A {end('07', result('03'))}", f"B {go_on('07', '01', result('05'))}"
     for flags, wanted in [
-        ([], f"B: line 2, {WRONG_ANSWER}; A: line 3, {WRONG_ANSWER}"),
-        (["--of", "A"], f"A: line 3, {WRONG_ANSWER}"),
-        (["--of", "B"], f"B: line 2, {WRONG_ANSWER}"),
+        ([], f"B: line 2, {NOT_INVOKED.format(5, 'A')}; A: line 3, {NOT_INVOKED.format(3, 'B')}"),
+        (["--of", "A"], f"A: line 3, {NOT_INVOKED.format(3, 'B')}"),
+        (["--of", "B"], f"B: line 2, {NOT_INVOKED.format(5, 'A')}"),
     ]:
         report = Report(folder, flags, [put(folder, "both.hex", lines(SHORT[0], answers[1], answers[0]).encode())])
         agree(checks, report)
