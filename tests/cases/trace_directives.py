@@ -129,6 +129,19 @@ def no_comments(_, folder):
     return checks
 
 
+def named(_, folder):
+    """What directives say of the ends is in the object of the trace, and under each dialogue that does not pass. There U+FFFD stands
+    for a control character."""
+    checks = Checks("names of ends")
+    for said, names in [("", None), ("#: A pc=101\n", {"A": "pc=101"}), ("#: B x\x1b[1m y\n#: A \u00e9\n", {"A": "\u00e9", "B": "x\x1b[1m y"})]:
+        found, _, report = said_of(checks, folder, said + lines(SHORT[0], WRONG_END, "Q", *SHORT))
+        checks.same(f"{said!r}, JSON", found.get("names"), names)
+        wanted = [f"  {end} is {name.replace(chr(0x1B), chr(0xFFFD))}" for end, name in (names or {}).items()]
+        checks.same(f"{said!r}, the text", report.text.split("\n")[1 : 1 + len(wanted)], wanted)
+        checks.same(f"{said!r}, once", sum(" is " in line for line in wanted), len([line for line in report.text.split("\n") if line[:5] in ("  A i", "  B i")]))
+    return checks
+
+
 def longest_lines(_, folder):
     """A comment of as many octets as a line may have, and of one more, wherever the pieces end in which a trace is read:
     `test` says what `pack` does."""
@@ -151,5 +164,5 @@ def longest_lines(_, folder):
 
 def jobs():
     """Each case, with what it is about."""
-    for case in known, unknown, misplaced, packed, broken_off, no_comments, longest_lines:
+    for case in known, unknown, misplaced, packed, broken_off, no_comments, named, longest_lines:
         yield case, None

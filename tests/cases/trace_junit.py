@@ -11,7 +11,9 @@ LONGEST, MOST_TOLD = 600, 20
 # The attributes that the elements of JUnit's XML have, and the elements in them. Jenkins' schema allows all of these.
 JUNIT = {
     "testsuites": ({"tests", "failures", "errors"}, {"testsuite"}),
-    "testsuite": ({"name", "tests", "failures", "errors"}, {"testcase"}),
+    "testsuite": ({"name", "tests", "failures", "errors"}, {"properties", "testcase"}),
+    "properties": (set(), {"property"}),
+    "property": ({"name", "value"}, set()),
     "testcase": ({"classname", "name"}, {"failure", "error", "system-out"}),
     "failure": ({"type", "message"}, set()),
     "error": ({"type", "message"}, set()),
@@ -122,7 +124,8 @@ def look_at_junit(checks, report):
         names, inner = JUNIT[it.tag]
         checks.holds(f"the form of {it.tag}", {*it.keys()} == names and {child.tag for child in it} <= inner)
     (suite,) = root
-    cases, verdicts = [*suite], [it["verdict"] for it in report.traces.values()]
+    (properties, *cases), verdicts = suite, [it["verdict"] for it in report.traces.values()]
+    checks.same("the version", [it.attrib for it in properties], [{"name": "version", "value": report.of_run["version"]}])
     tags = [tag for verdict in verdicts for tag in TAGS[verdict]]
     sums = len(verdicts), tags.count("failure"), tags.count("error")
     for it in root, suite:

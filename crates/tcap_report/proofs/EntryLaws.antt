@@ -403,10 +403,10 @@ module _ (options : TraceOptions) (s : State) where
       either None n = refl
       either (Some m) n = refl
 
-  -- The directive `broken off` comes.
-  pub break_read : (t u : Trace) (text : List ℕ) → IsReading options s t → u ≡ record t { broken_off = u.broken_off } → is_some u.broken_off ≡ true
-      → IsReading options (record s { broken_off = true }) u
-  break_read t u text reading same broken = record {
+  -- A directive comes that is about the trace or an end.
+  pub said_read : (t u : Trace) (so : Bool) → IsReading options s t → u ≡ record t { broken_off = u.broken_off; names = u.names }
+      → is_some u.broken_off ≡ so → IsReading options (record s { broken_off = so }) u
+  said_read t u so reading same broken = record {
     keeps = record {
       asks = ap (λ (x : Trace). x.options) same ∙ k.asks;
       counts = ap (λ (x : Trace). x.dialogues) same ∙ k.counts;

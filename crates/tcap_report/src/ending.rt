@@ -87,6 +87,7 @@ impl Trace<'_> {
         write_text(sinks.text, &line)?;
         let returned = TraceSummary {
             name: self.name,
+            names: &self.names,
             verdict,
             messages: self.messages,
             dialogues: self.dialogues,

@@ -271,6 +271,7 @@ pub(crate) fn push_trace(json: &mut String, returned: TraceSummary) -> Result<()
         &returned.dialogues,
         returned.unheard,
     )?;
+    returned.names.push_object(json)?;
     if !returned.why.is_empty() {
         push_named(json, "text", returned.why)?;
     }

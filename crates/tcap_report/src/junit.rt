@@ -204,17 +204,19 @@ impl Junit {
         Ok(())
     }
 
-    /// Returns the XML text of all testcases, as one testsuite.
+    /// Returns the XML text of all testcases, as one testsuite. `version` is that of the program.
     ///
     /// # Errors
     /// `AllocError` if memory runs out.
-    pub fn text(&self) -> Result<String, AllocError> {
+    pub fn text(&self, version: &str) -> Result<String, AllocError> {
         let mut xml = String::new(self.alloc);
         xml.push_str("<?xml version=\"1.0\" encoding=\"UTF-8\"?>\n<testsuites")?;
         self.tally.push(&mut xml)?;
         xml.push_str(">\n  <testsuite name=\"tcapjudge\"")?;
         self.tally.push(&mut xml)?;
-        xml.push_str(">\n")?;
+        xml.push_str(">\n    <properties>\n      <property name=\"version\" value=\"")?;
+        push_value(&mut xml, version)?;
+        xml.push_str("\"/>\n    </properties>\n")?;
         xml.push_str(&self.cases)?;
         xml.push_str("  </testsuite>\n</testsuites>\n")?;
         Ok(xml)

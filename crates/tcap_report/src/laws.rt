@@ -9,7 +9,7 @@ ghost use Rattle.tcap_report.specs.Counts.{worst_of};
 ghost use Rattle.tcap_report.specs.KeptState.{asked_of};
 ghost use Rattle.tcap_report.specs.RunAnswer.{AnswersEach};
 
-/// Shows what a run that passes says of each of its traces.
+/// Shows what it means for each trace that a run passes.
 ///
 /// If the worst verdict is a pass, then each trace whose octets are known passes by the definition `judged_trace` of
 /// these octets.

@@ -5,6 +5,7 @@
 mod awaited_answers;
 mod case_names;
 mod doubt_words;
+mod end_names;
 mod ending;
 mod fault;
 mod fields;

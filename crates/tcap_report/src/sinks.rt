@@ -2,6 +2,7 @@
 
 ghost use Rattle.std.specs.Prelude.{◌≡◌};
 
+use crate::end_names::EndNames;
 use crate::fault::{FormFault, Stop};
 use crate::grounds::Grounds;
 use crate::junit::Junit;
@@ -50,6 +51,7 @@ pub struct Sinks<'a, W, J, P> {
 #[derive(Clone, Copy)]
 pub(crate) struct TraceSummary<'a> {
     pub(crate) name: &'a str,
+    pub(crate) names: &'a EndNames,
     pub(crate) verdict: Verdict,
     pub(crate) messages: u64,
     pub(crate) dialogues: Counts,
@@ -73,6 +75,7 @@ impl<W: Write, J: Lines, P> Sinks<'_, W, J, P> {
         &mut self,
         alloc: Global,
         name: &str,
+        names: &EndNames,
         case: &Case,
         judged: &JudgedDialogue,
         of: Option<End>,
@@ -80,7 +83,7 @@ impl<W: Write, J: Lines, P> Sinks<'_, W, J, P> {
         ensures { self.new.sum ≡ self.old.sum }
     {
         let grounds = Grounds::of(alloc, judged, of)?;
-        self.report_found(alloc, name, case, judged, of, &grounds)
+        self.report_found(alloc, name, names, case, judged, of, &grounds)
     }
 
     /// Reports the verdict on a dialogue, with the evidence that was found for it.
@@ -88,6 +91,7 @@ impl<W: Write, J: Lines, P> Sinks<'_, W, J, P> {
         &mut self,
         alloc: Global,
         name: &str,
+        names: &EndNames,
         case: &Case,
         judged: &JudgedDialogue,
         of: Option<End>,
@@ -109,7 +113,7 @@ impl<W: Write, J: Lines, P> Sinks<'_, W, J, P> {
             return Ok(());
         }
         let mut lines = String::new(alloc);
-        text::push_case(alloc, &mut lines, name, case, judged, of, grounds)?;
+        text::push_case(alloc, &mut lines, name, names, case, judged, of, grounds)?;
         if let Some(junit) = &mut self.junit {
             junit.add_dialogue(case, judged, of, grounds, &lines)?;
         }

@@ -4,6 +4,7 @@
 
 use crate::awaited_answers::push_waiting;
 use crate::doubt_words::{comment_of, ids_of, line_of, push_doubt, push_ids, push_said};
+use crate::end_names::{EndNames, push_printable};
 use crate::grounds::Grounds;
 use crate::listed_entries::{is_near, last_listed};
 use crate::order::{in_order, is_asked, last_open};
@@ -73,7 +74,7 @@ fn push_place(alloc: Global, text: &mut String, case: &Case, entry: u64) -> Resu
     let comment = comment_of(alloc, case, entry)?;
     if !comment.is_empty() {
         text.push_str(" (")?;
-        text.push_str(&comment)?;
+        push_printable(text, &comment)?;
         text.push_str(")")?;
     }
     Ok(())
@@ -240,12 +241,14 @@ pub(crate) fn push_case(
     alloc: Global,
     text: &mut String,
     trace: &str,
+    names: &EndNames,
     case: &Case,
     judged: &JudgedDialogue,
     of: Option<End>,
     grounds: &Grounds,
 ) -> Result<(), AllocError> {
     push_dialogue(text, trace, case, judged)?;
+    names.push_lines(text)?;
     push_after(alloc, text, case, judged, of, grounds)?;
     push_entries(alloc, text, case, judged)
 }

@@ -23,6 +23,7 @@ ghost use Rattle.tcap_report.specs.Counts.{HasJudged, more, no_counts, with_one}
 ghost use Rattle.tcap_report.specs.KeptState.{AreSeparate, HoldsEntry, IsAt, IsBefore, IsReading, Keeps, asked_of, before_item, courses_at, no_id};
 ghost use Rattle.tcap_report.specs.TraceReading.{HasRead, IsFormHalt, Reads, ReadsOn};
 
+use crate::end_names::EndNames;
 use crate::fault::{FormFault, Halt, Stop};
 use crate::sinks::{Lines, Sinks};
 use crate::sum::{Counts, Sum};
@@ -74,6 +75,8 @@ pub(crate) struct Trace<'a> {
     pub(crate) under_way: Option<u64>,
     // The transaction IDs that were in use before the segment.
     pub(crate) marks: BeforeMarks,
+    // What the trace says of its ends.
+    pub(crate) names: EndNames,
     // The text to print if the trace says that it is broken off.
     pub(crate) broken_off: Option<String>,
     pub(crate) messages: u64,
@@ -100,6 +103,7 @@ impl<'a> Trace<'a> {
             unread: Unread::new(alloc),
             under_way: None,
             marks: BeforeMarks::new(alloc),
+            names: EndNames::new(),
             broken_off: None,
             messages: 0,
             readable: 0,
@@ -274,7 +278,14 @@ impl<'a> Trace<'a> {
             return Ok(());
         }
         self.count(case, judged);
-        sinks.report_case(self.alloc, self.name, case, judged, self.options.of)
+        sinks.report_case(
+            self.alloc,
+            self.name,
+            &self.names,
+            case,
+            judged,
+            self.options.of,
+        )
     }
 
     /// Counts the verdict on a dialogue.
@@ -333,7 +344,11 @@ impl<'a> Trace<'a> {
                 self.broken_off = Some(broken_off_text(self.alloc, line, &missing)?);
                 Ok(())
             }
-            Piece::About(_, _, _) => Ok(()),
+            Piece::About(_, end, text) => {
+                let text = String::from_utf8_lossy(self.alloc, &text)?;
+                self.names.set(end, text);
+                Ok(())
+            }
             Piece::Mark(line) => self.pass_mark(line, sinks),
         }
     }

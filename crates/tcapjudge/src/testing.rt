@@ -311,7 +311,7 @@ fn write_junit(output: Option<&mut Output>, junit: &Junit) -> Result<(), Stop> {
     let Some(output) = output else {
         return Ok(());
     };
-    let text = junit.text()?;
+    let text = junit.text(VERSION)?;
     output.replace(text.as_bytes()).map_err(|_| Stop::Write)
 }
 
