@@ -227,7 +227,7 @@ def over_the_first(_, folder):
     words = [PROGRAM, "test", "--table", table, "--junit"]
     status = subprocess.run([*words, path, "x"], cwd=folder, stdout=subprocess.DEVNULL, check=False).returncode
     junit = content(f"{folder}/hard")
-    ((case,),) = xml.etree.ElementTree.fromstring(junit)
+    ((_, case),) = xml.etree.ElementTree.fromstring(junit)
     checks.same("status, the testcase, rights", (status, case.get("name"), os.stat(path).st_mode & 0o777), (0, "x", 0o640))
     ran = subprocess.run([*words, "/dev/stderr", "x"], cwd=folder, stdout=subprocess.DEVNULL, stderr=subprocess.PIPE, check=False)
     checks.same("a pipe", (ran.returncode, ran.stderr), (0, junit))
