@@ -29,15 +29,15 @@ module _ (options : TraceOptions) (octets : ℕ → Option (List ℕ)) where
       (between, so_far, is, answered_more (suc number) verdicts verdict between b c so_far g h more (rw same one))
 
   -- The next trace gets its verdict.
-  pub answers_more : (count : ℕ) (verdict : Verdict) (a b c : Sum) (f g h : ℕ) → AnswersEach options octets count a b f g
-      → IsAnswered options (octets count) verdict b c g h → HasJudged (verdict ∷ []) b c
-      → AnswersEach options octets (count + 1) a c f h
-  answers_more count verdict a b c f g h so_far one counted =
-      let same : 0 + length so_far.verdicts ≡ count = omega (so_far.count_is, arith) in
+  pub answers_more : (first count : ℕ) (verdict : Verdict) (a b c : Sum) (f g h : ℕ) → AnswersEach options octets first count a b f g
+      → IsAnswered options (octets (first + count)) verdict b c g h → HasJudged (verdict ∷ []) b c
+      → AnswersEach options octets first (count + 1) a c f h
+  answers_more first count verdict a b c f g h so_far one counted =
+      let same : first + length so_far.verdicts ≡ first + count = ap (λ n. first + n) so_far.count_is in
       record {
         verdicts = so_far.verdicts ++ verdict ∷ [];
         count_is = length_push so_far.verdicts verdict ∙ ap (λ n. n + 1) so_far.count_is;
-        each = answered_more 0 so_far.verdicts verdict a b c f g h so_far.each (rw same one);
+        each = answered_more first so_far.verdicts verdict a b c f g h so_far.each (rw same one);
         counted = judged_more so_far.verdicts (verdict ∷ []) a b c so_far.counted counted;
       }
 
@@ -81,8 +81,8 @@ module _ (options : TraceOptions) (octets : ℕ → Option (List ℕ)) where
   pass_of_trace : (trace : List ℕ) (known : Option (List ℕ)) (verdict : Verdict) (a b : Sum) (f g : ℕ)
       → IsAnswered options known verdict a b f g → verdict ≡ verdicts.Pass → known ≡ Some trace
       → (judged_trace (asked_of options) trace).verdict ≡ verdicts.Pass
-  pass_of_trace trace known verdict a b f g (inl (read, same)) passes is =
-      by (verdict_defined options known read.remaining read.failures read.failures' verdict a b read.answers trace is)
+  pass_of_trace trace known verdict a b f g (inl read) passes is =
+      by (verdict_defined options known read.remaining 0 read.failures verdict a b read.answers trace is)
     where
       by : (verdict ≡ verdicts.Error) ⊎ (verdict ≡ (judged_trace (asked_of options) trace).verdict)
           → (judged_trace (asked_of options) trace).verdict ≡ verdicts.Pass
@@ -109,12 +109,12 @@ module _ (options : TraceOptions) (octets : ℕ → Option (List ℕ)) where
       by false same goes_on = let other = eqb-false at number same in goes_on (omega (least, other, arith))
 
   -- Each trace of a run that passes passes by its definition.
-  pub pass_of_each : (count : ℕ) (before after : Sum) (unopened unopened' : ℕ)
-      → AnswersEach options octets count before after unopened unopened' → worst_of after ≡ verdicts.Pass
-      → (number : ℕ) (trace : List ℕ) → number < count → octets number ≡ Some trace
+  pub pass_of_each : (first count : ℕ) (before after : Sum) (unread unread' : ℕ)
+      → AnswersEach options octets first count before after unread unread' → worst_of after ≡ verdicts.Pass
+      → (number : ℕ) (trace : List ℕ) → first ≤ number → number < first + count → octets number ≡ Some trace
       → (judged_trace (asked_of options) trace).verdict ≡ verdicts.Pass
-  pass_of_each count before after unopened unopened' run passes number trace less is =
+  pass_of_each first count before after unread unread' run passes number trace least less is =
       let counted = run.counted in
       let few = run.count_is in
-      pass_from 0 run.verdicts before after unopened unopened' before.traces run.each
-      (sym (ap (λ (c : Counts). c.worst) counted) ∙ passes) number trace (omega arith) (omega (less, few, arith)) is
+      pass_from first run.verdicts before after unread unread' before.traces run.each
+      (sym (ap (λ (c : Counts). c.worst) counted) ∙ passes) number trace least (omega (less, few, arith)) is

@@ -1,8 +1,8 @@
 //! Judges each trace of a run.
 
-ghost use Rattle.std.specs.Prelude.{◌≡◌, [], ◌∷◌, ℕ, List, Option, length, IfOk, OnOk};
+ghost use Rattle.std.specs.Prelude.{◌≡◌, ◌+◌, [], ◌∷◌, ℕ, List, Option, length, IfOk, OnOk};
 ghost use Rattle.tcap_report.specs.Counts.{HasJudged, worst_of};
-ghost use Rattle.tcap_report.specs.RunAnswer.{AnswersEach, CountsUnopened, IsAnswered, Opens};
+ghost use Rattle.tcap_report.specs.RunAnswer.{AnswersEach, CountsUnopened, IsAnswered, Opens, unread_after};
 
 use crate::ending::report_unread;
 use crate::fault::Stop;
@@ -22,53 +22,65 @@ pub enum Opened<R> {
     Unread(String),
 }
 
-/// The traces of a run, numbered from 0. They are opened one at a time.
+/// The traces of a run, in their order. They are opened one at a time.
 pub trait Traces {
     /// The reader of a trace.
     type Octets: Read + Drop;
 
-    // The octets of the trace with this number, if they are known.
+    // The octets of each trace, by its number from 0, if they are known.
     ghost octets: { Self → ℕ → Option (List ℕ) };
 
-    // The number of traces that could not be opened, at most 2 ^ 64 - 1.
-    ghost unopened: { Self → ℕ };
+    // The number of traces that were opened.
+    ghost opened: { Self → ℕ };
 
-    /// Opens the trace with this number and this name.
+    // The number of traces that could not be opened, or whose reader failed, at most 2 ^ 64 - 1.
+    ghost unread: { Self → ℕ };
+
+    /// Opens the next trace.
     ///
     /// # Errors
     /// `Stop::Memory` if memory runs out.
-    fn open(&mut self, number: usize, name: &str) -> Result<Opened<Self::Octets>, Stop>
-        ensures opens { IfOk result (λ opened. Opens Self.Octets.remaining (octets self.old number) opened) }
-        ensures counts { IfOk result (λ opened. CountsUnopened (unopened self.old) (unopened self.new) opened) }
+    fn open(&mut self) -> Result<Opened<Self::Octets>, Stop>
+        ensures opens { IfOk result (λ given.
+            Opens Self.Octets.remaining Self.Octets.failures (octets self.old (opened self.old)) given) }
+        ensures next { OnOk result (opened self.new ≡ opened self.old + 1) }
+        ensures counts { IfOk result (λ given. CountsUnopened (unread self.old) (unread self.new) given) }
         ensures same { OnOk result (octets self.new ≡ octets self.old) };
+
+    /// Takes the reader of a trace back.
+    fn close(&mut self, reader: Self::Octets)
+        ensures counts { unread self.new ≡ unread_after (Self.Octets.failures reader) (unread self.old) }
+        ensures same { (octets self.new ≡ octets self.old) × (opened self.new ≡ opened self.old) };
 }
 
-/// Opens and judges the trace with this number.
+/// Opens and judges the next trace. It is reported under this name.
 fn test_trace<T: Traces, W: Write, J: Lines, P: Watch>(
     alloc: Global,
     traces: &mut T,
-    number: usize,
     name: &str,
     options: TraceOptions,
     sinks: &mut Sinks<W, J, P>,
 ) -> Result<Verdict, Stop>
-    ensures answers { IfOk result (λ verdict. IsAnswered options.entry (T.octets traces.old number) verdict
-        sinks.old.sum.now sinks.new.sum.now (T.unopened traces.old) (T.unopened traces.new)) }
+    ensures answers { IfOk result (λ verdict. IsAnswered options.entry (T.octets traces.old (T.opened traces.old)) verdict
+        sinks.old.sum.now sinks.new.sum.now (T.unread traces.old) (T.unread traces.new)) }
     ensures counted { IfOk result (λ verdict. HasJudged (verdict ∷ []) sinks.old.sum.now sinks.new.sum.now) }
+    ensures next { OnOk result (T.opened traces.new ≡ T.opened traces.old + 1) }
     ensures same { OnOk result (T.octets traces.new ≡ T.octets traces.old) }
     ensures same_sum { sinks.new.sum.ghost_name ≡ sinks.old.sum.ghost_name }
 {
-    match traces.open(number, name)? {
-        Opened::Octets(mut octets, len) => {
+    match traces.open()? {
+        Opened::Octets(mut reader, len) => {
             sinks.watch.begin(len);
-            run_trace(alloc, name, &mut octets, options, sinks)
+            let verdict = run_trace(alloc, name, &mut reader, options, sinks)?;
+            traces.close(reader);
+            Ok(verdict)
         }
         Opened::Unread(why) => report_unread(alloc, name, options, &why, sinks),
     }
 }
 
-/// Opens and judges the traces with these names, one after another, reports to `sinks`, and returns the worst verdict
-/// in the sum over all traces.
+/// Opens and judges the next traces, one for each name, and reports them under these names to `sinks`. Returns the worst
+/// verdict in the sum over all traces.
 ///
 /// # Errors
 /// `Stop::Memory` if memory runs out, `Stop::Write` if a sink fails.
@@ -79,13 +91,14 @@ pub fn run_test<T: Traces, W: Write, J: Lines, P: Watch>(
     options: TraceOptions,
     sinks: &mut Sinks<W, J, P>,
 ) -> Result<Verdict, Stop>
-    ensures answers { OnOk result (AnswersEach options.entry (T.octets traces.old) (length names.now)
-        sinks.old.sum.now sinks.new.sum.now (T.unopened traces.old) (T.unopened traces.new)) }
+    ensures answers { OnOk result (AnswersEach options.entry (T.octets traces.old) (T.opened traces.old) (length names.now)
+        sinks.old.sum.now sinks.new.sum.now (T.unread traces.old) (T.unread traces.new)) }
+    ensures opened { OnOk result (T.opened traces.new ≡ T.opened traces.old + length names.now) }
     ensures worst { IfOk result (λ verdict. verdict ≡ worst_of sinks.new.sum.now) }
     ensures same_sum { sinks.new.sum.ghost_name ≡ sinks.old.sum.ghost_name }
 {
-    for (number, name) in names.iter().enumerate() {
-        test_trace(alloc, traces, number, *name, options, sinks)?;
+    for name in names {
+        test_trace(alloc, traces, *name, options, sinks)?;
     }
     Ok(sinks.sum.worst())
 }

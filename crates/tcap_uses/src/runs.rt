@@ -13,7 +13,8 @@ use tcap_traces::{Verdict, laws as trace_laws};
 struct InMemory<'a> {
     alloc: Global,
     traces: &'a [&'a [u8]],
-    unopened: u64,
+    opened: u64,
+    unread: u64,
 }
 
 impl<'a> Traces for InMemory<'a> {
@@ -21,17 +22,30 @@ impl<'a> Traces for InMemory<'a> {
 
     ghost octets = { λ traces number. option_map (λ trace. trace.now) (slice_get traces.traces.now number) };
 
-    ghost unopened = { λ traces. traces.unopened };
+    ghost opened = { λ traces. traces.opened };
 
-    fn open(&mut self, number: usize, _name: &str) -> Result<Opened<Counted<&'a [u8]>>, Stop> {
+    ghost unread = { λ traces. traces.unread };
+
+    fn open(&mut self) -> Result<Opened<Counted<&'a [u8]>>, Stop> {
+        let Some(next) = self.opened.checked_add(1) else {
+            return Err(Stop::Memory);
+        };
+        let number = self.opened as usize;
+        self.opened = next;
         match self.traces.get(number) {
             Some(trace) => Ok(Opened::Octets(Counted::new(*trace), None)),
             None => {
                 let mut why = String::new(self.alloc);
                 why.push_str("there is no such trace")?;
-                self.unopened = self.unopened.saturating_add(1);
+                self.unread = self.unread.saturating_add(1);
                 Ok(Opened::Unread(why))
             }
+        }
+    }
+
+    fn close(&mut self, reader: Counted<&'a [u8]>) {
+        if reader.failures() > 0 {
+            self.unread = self.unread.saturating_add(1);
         }
     }
 }
@@ -63,7 +77,8 @@ pub fn do_pass(
     let mut given = InMemory {
         alloc,
         traces,
-        unopened: 0,
+        opened: 0,
+        unread: 0,
     };
     Ok(run_test(alloc, &mut given, names, options, &mut sinks)? == Verdict::Pass)
 }

@@ -1,1 +1,2 @@
 pub mod TestStatus
+pub mod TraceFiles

@@ -1,6 +1,6 @@
 //! What the program reads: a file, or the standard input.
 
-ghost use Rattle.std.specs.Prelude.{None};
+ghost use Rattle.std.specs.Prelude.{◌≡◌, None};
 
 use crate::opening::{DASH, is_folder};
 use std::fs;
@@ -29,7 +29,9 @@ pub(crate) struct Source {
 
 impl Source {
     /// Creates a reader of this origin.
-    fn new(origin: Origin) -> Source {
+    fn new(origin: Origin) -> Source
+        ensures { result.failures ≡ 0 }
+    {
         Source {
             origin,
             failures: 0,
@@ -37,13 +39,24 @@ impl Source {
     }
 
     /// Creates a reader of a file.
-    pub(crate) fn file(file: File) -> Source {
+    pub(crate) fn file(file: File) -> Source
+        ensures { result.failures ≡ 0 }
+    {
         Source::new(Origin::File(Counted::new(file)))
     }
 
     /// Creates a reader of the standard input.
-    pub(crate) fn input(rt: &HostRuntime) -> Source {
+    pub(crate) fn input(rt: &HostRuntime) -> Source
+        ensures { result.failures ≡ 0 }
+    {
         Source::new(Origin::Input(Counted::new(rt.reader())))
+    }
+
+    /// Returns how many reads failed, at most 2 ^ 64 - 1.
+    pub(crate) fn failures(&self) -> u64
+        ensures { result ≡ self.now.failures }
+    {
+        self.failures
     }
 
     /// Opens the file with this path, or the standard input if the path is `-`. If the file can't be opened, or is a

@@ -1,6 +1,6 @@
 //! The subcommand `test`, which judges each dialogue of traces.
 
-ghost use Rattle.std.specs.Prelude.{◌≡◌, true, is_some, IfOk, OnErr, OnOk, length};
+ghost use Rattle.std.specs.Prelude.{◌≡◌, true, false, is_some, IfOk, OnErr, OnOk, length};
 ghost use Rattle.tcap_traces.specs.declared.verdict.Verdict.TheVariants as verdicts;
 ghost use Rattle.tcap_traces.specs.Verdict.{status_of};
 ghost use Rattle.tcap_report.specs.Counts.{worst_of};
@@ -214,7 +214,7 @@ fn report_fault<E: Display>(
 
 /// Returns the options that the command line gives for each trace.
 fn options_of<'a>(test: &Test, book: &'a Book) -> TraceOptions<'a>
-    ensures { AreOptions test.now result.entry }
+    ensures { AreOptions test.now book.entry.now result.entry }
 {
     TraceOptions {
         of: test.of,
@@ -251,7 +251,7 @@ fn refuse_all<W: Write, J: Lines>(
     Ok(())
 }
 
-/// Opens and judges each trace.
+/// Opens and judges each trace by these tables.
 fn judge_all<W: Write, J: Lines>(
     rt: &HostRuntime,
     test: &Test,
@@ -298,6 +298,8 @@ fn test_all<W: Write, J: Lines>(
     ensures judged { IfOk result (IsJudged test.now sinks.old.sum.now sinks.new.sum.now) }
     ensures refused { is_some tables.now.refused ≡ true
         → OnOk result (AreErrors (length test.now.traces.items) sinks.old.sum.now sinks.new.sum.now) }
+    ensures accepted { is_some tables.now.refused ≡ false
+        → OnOk result (JudgesEach test.now tables.now.book sinks.old.sum.now sinks.new.sum.now) }
 {
     match &tables.refused {
         Some(why) => refuse_all(rt, test, tables, why, sinks)?,

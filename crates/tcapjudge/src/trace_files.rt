@@ -1,6 +1,7 @@
 //! The traces of `test`, as files.
 
-ghost use Rattle.std.specs.Prelude.{None};
+ghost use Rattle.std.specs.Prelude.{◌≡◌, None, IfOk};
+ghost use Rattle.tcapjudge.specs.TraceFiles.{HasNotFailed};
 
 use crate::opening::{DASH, is_folder};
 use crate::outputs::INPUT;
@@ -16,32 +17,57 @@ const IS_FOLDER: &str = "it is a directory";
 #[derive(Drop)]
 pub(crate) struct TraceFiles<'a> {
     rt: &'a HostRuntime,
-    unopened: u64,
+    paths: &'a [&'a str],
+    opened: u64,
+    unread: u64,
 }
 
 impl<'a> TraceFiles<'a> {
-    /// Creates the traces. None is opened yet.
-    pub(crate) fn new(rt: &'a HostRuntime) -> TraceFiles<'a> {
-        TraceFiles { rt, unopened: 0 }
+    /// Creates the traces with these paths. None is opened yet.
+    pub(crate) fn new(rt: &'a HostRuntime, paths: &'a [&'a str]) -> TraceFiles<'a>
+        ensures { (result.opened ≡ 0) × (result.unread ≡ 0) }
+    {
+        TraceFiles {
+            rt,
+            paths,
+            opened: 0,
+            unread: 0,
+        }
     }
 
     /// Returns that a trace can't be read, with the reason.
-    fn unread(&self, why: &str) -> Result<Opened<Source>, AllocError> {
+    fn unread(&self, why: &str) -> Result<Opened<Source>, AllocError>
+        ensures { IfOk result HasNotFailed }
+    {
         let mut text = String::new(self.rt.alloc());
         text.push_str(why)?;
         Ok(Opened::Unread(text))
     }
 
     /// Opens the standard input.
-    fn open_input(&self) -> Result<Opened<Source>, AllocError> {
+    fn open_input(&self) -> Result<Opened<Source>, AllocError>
+        ensures { IfOk result HasNotFailed }
+    {
         if is_folder(self.rt, INPUT) {
             return self.unread(IS_FOLDER);
         }
         Ok(Opened::Octets(Source::input(self.rt), None))
     }
 
+    /// Opens the trace with this number.
+    fn open_number(&self, number: u64) -> Result<Opened<Source>, Stop>
+        ensures { IfOk result HasNotFailed }
+    {
+        match self.paths.get(number as usize) {
+            Some(path) => self.open_path(*path),
+            None => Ok(self.unread("it is not on the command line")?),
+        }
+    }
+
     /// Opens the trace with this path.
-    fn open_path(&self, path: &str) -> Result<Opened<Source>, Stop> {
+    fn open_path(&self, path: &str) -> Result<Opened<Source>, Stop>
+        ensures { IfOk result HasNotFailed }
+    {
         if path == DASH {
             return Ok(self.open_input()?);
         }
@@ -72,13 +98,25 @@ impl Traces for TraceFiles<'_> {
 
     ghost octets = { λ _ _. None };
 
-    ghost unopened = { λ files. files.unopened };
+    ghost opened = { λ files. files.opened };
 
-    fn open(&mut self, _number: usize, path: &str) -> Result<Opened<Source>, Stop> {
-        let opened = self.open_path(path)?;
+    ghost unread = { λ files. files.unread };
+
+    fn open(&mut self) -> Result<Opened<Source>, Stop> {
+        let Some(next) = self.opened.checked_add(1) else {
+            return Err(Stop::Memory);
+        };
+        let opened = self.open_number(self.opened)?;
+        self.opened = next;
         if let Opened::Unread(_) = &opened {
-            self.unopened = self.unopened.saturating_add(1);
+            self.unread = self.unread.saturating_add(1);
         }
         Ok(opened)
+    }
+
+    fn close(&mut self, reader: Source) {
+        if reader.failures() > 0 {
+            self.unread = self.unread.saturating_add(1);
+        }
     }
 }
