@@ -1,5 +1,5 @@
 """Runs tools/compare_reports.py over files of `tcapjudge test --json`: pairs of runs with faults that are new, gone and the
-same, and files that are no whole report. What it prints and its exit status were worked out by hand."""
+same, or were not judged, and files that are no whole report. What it prints and its exit status were worked out by hand."""
 
 import os
 import subprocess
@@ -14,6 +14,22 @@ TOOL = os.path.abspath("tools/compare_reports.py")
 FAILS, LACKS, PASSES = [SHORT[0], WRONG_END, "Q"], [LACKED, SHORT[1], "Q"], [*SHORT, "Q"]
 NEVER_SENT = ["Q", f"B {end('09')}"]
 NOT_WHOLE = "the line of the run is missing: the run did not end"
+OTHER_FORM = "a line is none of `tcapjudge test --json`"
+# Lines with a field of another type, or without one that is needed.
+WRONG_FIELDS = [
+    b'{"trace":[],"verdict":1}',
+    b'{"trace":5,"verdict":"error","text":"x"}',
+    b'{"trace":"a","verdict":"error","text":5}',
+    b'{"trace":"a","dialogue":"0","verdict":"error","text":"x"}',
+    b'{"trace":"a","dialogue":0}',
+    b'{"trace":"a","dialogue":0,"verdict":["error"]}',
+    b'{"trace":"a","dialogue":0,"verdict":"fail","A":[]}',
+    b'{"trace":"a","dialogue":0,"verdict":"fail","B":{}}',
+    b'{"trace":"a","dialogue":0,"verdict":"fail","B":{"verdict":1}}',
+    b'{"trace":"a","dialogue":0,"verdict":"fail","B":{"verdict":"fail","kind":6}}',
+    b'{"trace":"a","dialogue":0,"verdict":"inconc","B":{"verdict":"inconc","reason":{}}}',
+    b'{"total":5}',
+]
 
 
 class Runs:
@@ -34,9 +50,10 @@ class Runs:
                 os.remove(f"{self.folder}/{trace}")
         return name
 
-    def compare(self, *words):
+    def compare(self, *words, encoding="utf-8"):
         """Returns the status of the tool, the lines that it prints, and its lines on standard error."""
-        ran = subprocess.run([sys.executable, TOOL, *words], cwd=self.folder, capture_output=True, check=False)
+        env = os.environ | {"PYTHONIOENCODING": encoding}
+        ran = subprocess.run([sys.executable, TOOL, *words], cwd=self.folder, env=env, capture_output=True, check=False)
         return ran.returncode, ran.stdout.decode().splitlines(), ran.stderr.decode().splitlines()
 
 
@@ -76,12 +93,45 @@ def pairs(runs):
     return checks
 
 
+def not_judged(runs):
+    """The faults of a trace are not gone if the trace is an error by itself: it may have been cut before them."""
+    checks = Checks("traces that are errors by themselves")
+    old = runs.judge("old", {"a.hex": FAILS + LACKS, "b.hex": FAILS})
+    cut = runs.judge("cut", {"a.hex": [*FAILS, "no line"], "b.hex": PASSES})
+    told = [
+        "new: a.hex: the trace itself: 0 before, 1 now",
+        "gone: b.hex: B, F5: 1 before, 0 now",
+        "same: a.hex: B, F5: 1 before, 1 now",
+        "not judged: a.hex: A, F6, lacking_operation: 1 before, 0 now",
+        "1 new, 1 gone, 1 same, 1 not judged",
+    ]
+    checks.same("a line is none", runs.compare(old, cut), (1, told, []))
+    no_file = runs.judge("no file", {"a.hex": None, "b.hex": None})
+    told = [
+        "new: a.hex: the trace itself: 0 before, 1 now",
+        "same: b.hex: the trace itself: 1 before, 1 now",
+        "not judged: a.hex: B, F5: 1 before, 0 now",
+        "1 new, 0 gone, 1 same, 1 not judged",
+    ]
+    old = runs.judge("one", {"a.hex": FAILS, "b.hex": None})
+    checks.same("no file", runs.compare(old, no_file), (1, told, []))
+    # The error itself is gone if the trace is judged.
+    told = ["new: b.hex: B, F5: 0 before, 1 now", "gone: b.hex: the trace itself: 1 before, 0 now"]
+    told += ["same: a.hex: B, F5: 1 before, 1 now", "1 new, 1 gone, 1 same, 0 not judged"]
+    checks.same("judged again", runs.compare(old, runs.judge("again", {"a.hex": FAILS, "b.hex": FAILS})), (1, told, []))
+    return checks
+
+
 def names(runs):
-    """A name with an ESC and a newline is printed in one line, without them."""
+    """A name with an ESC and a newline is printed in one line, without them; a letter that the output lacks, by its number."""
     checks = Checks("names")
     report = runs.judge("named", {"a\x1b[31m\nb": FAILS})
     told = ["same: a\ufffd[31m\ufffdb: B, F5: 1 before, 1 now", "0 new, 0 gone, 1 same, 0 not judged"]
     checks.same("a name", runs.compare(report, report), (0, told, []))
+    report = runs.judge("letters", {"\xe9.hex": FAILS})
+    for encoding, name in ("utf-8", "\xe9.hex"), ("ascii", "\\xe9.hex"):
+        told = [f"same: {name}: B, F5: 1 before, 1 now", "0 new, 0 gone, 1 same, 0 not judged"]
+        checks.same(encoding, runs.compare(report, report, encoding=encoding), (0, told, []))
     return checks
 
 
@@ -98,7 +148,8 @@ def not_whole(runs):
         ("text", b"a.hex: pass\n", "line 1 is no JSON"),
         ("a list", b"[]\n", "line 1 is no object"),
         ("other objects", b'{"a":1}\n', "line 1 is none of `tcapjudge test --json`"),
-        ("a trace of another form", b'{"trace":[],"verdict":1}\n', "a line is none of `tcapjudge test --json`"),
+        ("deep", b"[" * 200_000 + b"\n", "line 1 is nested too deeply"),
+        *((f"field {number}", octets + b"\n" + text, OTHER_FORM) for number, octets in enumerate(WRONG_FIELDS)),
         ("octets", b"\xff\xfe\n", "no text"),
         ("no file", None, "No such file or directory"),
         (".", None, "Is a directory"),
@@ -114,7 +165,7 @@ def not_whole(runs):
 
 def main():
     passed, failed = 0, 0
-    for case in pairs, names, not_whole:
+    for case in pairs, not_judged, names, not_whole:
         with tempfile.TemporaryDirectory() as folder:
             checks = case(Runs(folder))
         for line in checks.wrong:

@@ -12,7 +12,7 @@ ghost use Rattle.tcap_traces.specs.TraceMeaning.{IsAtFaultIn, MayHaveSentPart};
 
 use tcap_traces::laws;
 
-/// If a trace passes, each of its entries is in a dialogue, and each judged end may have sent its part of it.
+/// Shows that each entry of a trace that passes is in a dialogue, and each judged end may have sent its part of it.
 pub fn entry_of_pass()
     ensures { (asked : Asked) (octets : List ℕ) (entry : TraceEntry) (side : Side)
         → (judged_trace asked octets).verdict ≡ verdicts.Pass → Contains (pieces_of octets).pieces (Entry entry)
@@ -22,7 +22,7 @@ pub fn entry_of_pass()
     laws::pass_is_lawful();
 }
 
-/// If a trace fails, a judged end is at fault in some dialogue.
+/// Shows that a judged end is at fault in some dialogue of a trace that fails.
 pub fn end_of_fail()
     ensures { (asked : Asked) (octets : List ℕ) → (judged_trace asked octets).verdict ≡ verdicts.Fail
         → (d : Dialogue) × (side : Side) × (r : Refutation) × (is_judged asked.question.of side ≡ true)
