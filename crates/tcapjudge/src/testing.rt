@@ -258,16 +258,11 @@ fn judge_all<W: Write, J: Lines>(
     tables: &Tables,
     sinks: &mut Sinks<W, J, Progress>,
 ) -> Result<(), Stop>
-    ensures judges { OnOk result (JudgesEach test.now sinks.old.sum.now sinks.new.sum.now) }
+    ensures judges { OnOk result (JudgesEach test.now tables.now.book sinks.old.sum.now sinks.new.sum.now) }
 {
     let options = options_of(test, &tables.book);
-    run_test(
-        rt.alloc(),
-        &mut TraceFiles::new(rt),
-        &test.traces,
-        options,
-        sinks,
-    )?;
+    let mut files = TraceFiles::new(rt, &test.traces);
+    run_test(rt.alloc(), &mut files, &test.traces, options, sinks)?;
     Ok(())
 }
 
