@@ -214,7 +214,7 @@ fn report_fault<E: Display>(
 
 /// Returns the options that the command line gives for each trace.
 fn options_of<'a>(test: &Test, book: &'a Book) -> TraceOptions<'a>
-    ensures { AreOptions test.now book.entry.now result.entry }
+    ensures { AreOptions test.now book.now result }
 {
     TraceOptions {
         of: test.of,
