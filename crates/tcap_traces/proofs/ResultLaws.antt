@@ -1,5 +1,7 @@
 -- The result for an end holds, by its definition alone.
 use Rattle.std.proofs.Common.{◌≡◌, ℕ, Bool, true, false, cond, ◌==◌, List, length, map, take, Option, Some, None, Result, Ok, Err, refl, sym, subst}
+use Rattle.std.specs.Prelude.{◌&&◌, drop, nat_lt}
+use Rattle.std.specs.List.{list_any}
 use Rattle.tcap_record.specs.declared.entry.End.{End as Side}
 use Rattle.tcap_record.specs.declared.entry.Entry.{Entry}
 use Rattle.tcap_end.specs.Table.{Table}
@@ -24,8 +26,6 @@ use Rattle.tcap_traces.specs.ResultMeaning.{IsFoundBefore, IsTrueResult, MayHave
 use Rattle.tcap_traces.specs.TraceMeaning.{blamed_by}
 use Rattle.tcap_traces.specs.Verdict.{doubt_of, fails, found_before, is_of, no_message_at, passes, result_before, result_by, result_of}
 use Rattle.tcap_traces.proofs.ShownLaws.{said_so}
-use Rattle.std.specs.List.{list_any}
-use Rattle.std.specs.Prelude.{◌&&◌, drop, nat_lt}
 
 -- ---- findings
 
