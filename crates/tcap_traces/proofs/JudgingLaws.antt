@@ -1,10 +1,14 @@
 -- Both ends have the same first entry that is no message, so the entries before it are judged once for both.
-use Rattle.std.proofs.Common.{◌≡◌, ℕ, ◌==◌, cond, List, length, map, Option, Some, None, refl, sym, ap, ◌∙◌}
+use Rattle.std.proofs.Common.{arith, ◌≡◌, ℕ, suc, ◌+◌, ◌==◌, false, cond, List, [], ◌∷◌, length, map, Option, Some, None, Result, Ok, Err, refl, sym, ap, subst, ◌∙◌}
+use Rattle.std.specs.Prelude.{slice_get}
 use Rattle.std.specs.Option.{option_or}
+use Rattle.std.proofs.lemmas.Bool.{eqb-false}
 use Rattle.tcap_record.specs.declared.entry.End.{End as Side}
 use Rattle.tcap_record.specs.declared.entry.End.TheVariants as sides
 use Rattle.tcap_record.specs.declared.entry.Entry.{Entry}
 use Rattle.tcap_end.specs.Table.{Table}
+use Rattle.tcap_model.specs.declared.reason.Reason.{Reason}
+use Rattle.tcap_model.specs.World.{Item}
 use Rattle.tcap_model.specs.Entries.{item_of}
 use Rattle.tcap_judge.specs.declared.findings.Finding.{Finding}
 use Rattle.tcap_judge.specs.declared.findings.Finding.TheVariants.{Blamed, Lawful, NotBlamed}
@@ -14,6 +18,7 @@ use Rattle.tcap_judge.specs.BlameOutcome.{finding, finding_by, items_before}
 use Rattle.tcap_judge.specs.Verdict.{verdict_for}
 use Rattle.tcap_traces.specs.declared.end_result.Circumstances.{Circumstances}
 use Rattle.tcap_traces.specs.declared.end_result.EndResult.{EndResult}
+use Rattle.tcap_traces.specs.ResultMeaning.{IsNoMessage}
 use Rattle.tcap_traces.specs.Verdict.{found_before, no_message_at, result_by, result_of}
 
 -- ---- an end that is not blamed: the number of entries before the first that is no message
@@ -33,6 +38,27 @@ counted_by count (outcomes.Faulty number place) = refl
 pub counted : (table : Table) (entries : List Entry) (side : Side)
     → number_in (items_before (map item_of entries)) (finding table entries side) ≡ items_before (map item_of entries)
 counted table entries side = counted_by (items_before (map item_of entries)) (verdict_for side table entries)
+
+-- If this is not the number of all entries, the entry with this number is no message.
+pub no_message : (entries : List Entry) → (items_before (map item_of entries) == length entries) ≡ false
+    → IsNoMessage entries (items_before (map item_of entries))
+no_message entries differs = from entries (eqb-false (items_before (map item_of entries)) (length entries) differs)
+  where
+    from : (more : List Entry) → (items_before (map item_of more) ≡ length more → ⊥)
+        → IsNoMessage more (items_before (map item_of more))
+    from [] differs = absurd (differs refl)
+    from (entry ∷ more) differs = by (item_of entry) refl (from more) differs
+      where
+        by : (item : Result Item Reason) → item_of entry ≡ item
+            → ((items_before (map item_of more) ≡ length more → ⊥) → IsNoMessage more (items_before (map item_of more)))
+            → (items_before (item ∷ map item_of more) ≡ suc (length more) → ⊥)
+            → IsNoMessage (entry ∷ more) (items_before (item ∷ map item_of more))
+        by (Ok item) is later differs =
+            let n = items_before (map item_of more) in
+            let (found, reason, has, bad) = later (λ (same : n ≡ length more). differs (omega (same, arith))) in
+            let next : suc n ≡ 1 + n = omega arith in
+            (found, reason, subst (λ k. slice_get (entry ∷ more) k ≡ Some found) next has, bad)
+        by (Err reason) is later differs = (entry, reason, refl, is)
 
 -- ---- the number for both ends
 

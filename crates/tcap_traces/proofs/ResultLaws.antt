@@ -1,5 +1,7 @@
 -- The result for an end holds, by its definition alone.
 use Rattle.std.proofs.Common.{◌≡◌, ℕ, Bool, true, false, cond, ◌==◌, List, length, map, take, Option, Some, None, Result, Ok, Err, refl, sym, subst}
+use Rattle.std.specs.Prelude.{◌&&◌, drop, nat_lt}
+use Rattle.std.specs.List.{list_any}
 use Rattle.tcap_record.specs.declared.entry.End.{End as Side}
 use Rattle.tcap_record.specs.declared.entry.Entry.{Entry}
 use Rattle.tcap_end.specs.Table.{Table}
@@ -20,12 +22,10 @@ use Rattle.tcap_traces.specs.declared.end_result.Circumstances.{Circumstances}
 use Rattle.tcap_traces.specs.declared.end_result.Doubt.{Doubt}
 use Rattle.tcap_traces.specs.declared.end_result.EndResult.{EndResult}
 use Rattle.tcap_traces.specs.declared.end_result.EndResult.TheVariants as end_results
-use Rattle.tcap_traces.specs.ResultMeaning.{IsFoundBefore, IsTrueResult, MayHaveSentUnheard}
+use Rattle.tcap_traces.specs.ResultMeaning.{IsTrueResult, MayHaveSentUnheard}
 use Rattle.tcap_traces.specs.TraceMeaning.{blamed_by}
 use Rattle.tcap_traces.specs.Verdict.{doubt_of, fails, found_before, is_of, no_message_at, passes, result_before, result_by, result_of}
-use Rattle.tcap_traces.proofs.ShownLaws.{said_so}
-use Rattle.std.specs.List.{list_any}
-use Rattle.std.specs.Prelude.{◌&&◌, drop, nat_lt}
+use Rattle.tcap_traces.proofs.ShownLaws.{IsEarlier, said_so}
 
 -- ---- findings
 
@@ -43,18 +43,18 @@ module _ (side : Side) (table : Table) where
   found_holds : (entries : List Entry) → IsFound side table entries (finding table entries side)
   found_holds entries = found_by entries (items_before (map item_of entries)) (blamed table side entries) _ refl
 
-  before_holds : (entries : List Entry) (n : ℕ) (is_all : Bool)
-      → IsFoundBefore side table entries (Some n) (found_before table entries side (cond is_all None (Some n)))
-  before_holds entries n true = tt
-  before_holds entries n false = found_holds (take n entries)
+  before_holds : (entries : List Entry) (n : ℕ) (is_all : Bool) → (n == length entries) ≡ is_all
+      → IsEarlier side table entries (length entries) (found_before table entries side (cond is_all None (Some n))) n
+  before_holds entries n true is = (tt, λ some. cc)
+  before_holds entries n false is = (found_holds (take n entries), λ some. is)
 
   -- The result for an end holds.
   pub result_holds : (c : Circumstances) (entries : List Entry) → IsTrueResult side table entries (result_of table c entries side)
   result_holds c entries =
       said_so table c entries side (blamed_at_fault table side entries) (finding table entries side) refl (found_holds entries) _
       (λ n is.
-      subst (λ f. IsFoundBefore side table entries (Some n) (found_before table entries side (no_message_at f (length entries)))) (sym is)
-      (before_holds entries n (n == length entries)))
+      subst (λ f. IsEarlier side table entries (length entries) (found_before table entries side (no_message_at f (length entries))) n) (sym is)
+      (before_holds entries n (n == length entries) refl))
 
   -- ---- an end that is blamed
 

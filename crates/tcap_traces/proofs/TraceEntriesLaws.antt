@@ -5,13 +5,13 @@ use Rattle.std.specs.List.{count_by}
 use Rattle.std.proofs.lemmas.Bool.{eqb-true, false≢true}
 use Rattle.std.proofs.lemmas.List.Sums.{sum_by-cons}
 use Rattle.std.proofs.lemmas.List.Elements.{All-cons, All-head, All-nil, All-tail, Contains-append_left, Contains-append_right, Contains-push, Contains-push_cases}
-use Rattle.tcap_dialogues.specs.Course.{Course, courses_of, has_entry}
+use Rattle.tcap_dialogues.specs.Course.{Course, has_entry}
 use Rattle.tcap_dialogues.proofs.CourseEnds.{entry_has_one}
 use Rattle.tcap_dialogues.proofs.CutLists.{first_in, in_cases, later_in, left_in, none_in}
 use Rattle.tcap_traces.specs.Directive.{BrokenOff, About, UnderWay, Unknown}
 use Rattle.tcap_traces.specs.Pieces.{Piece, Entry, Mark, Stated, TraceEntry}
 use Rattle.tcap_traces.specs.Dialogue.{After, EndAfter, MarkAfter, heading_in}
-use Rattle.tcap_traces.specs.Segments.{Before, Segment, after_it, before_next, courses_in, dialogue_of, empty, entries_in, headings_in, segments_after, segments_of, with_one, with_under_way}
+use Rattle.tcap_traces.specs.Segments.{Before, Segment, after_it, before_next, courses_in, dialogue_of, empty, entries_in, headings_in, segments_after, with_one, with_under_way}
 use Rattle.tcap_traces.specs.JudgedTrace.{Asked, JudgedDialogue, all_in, is_broken, is_fail, is_reported, judged, readable_in, reported_from, reported_in, verdict_on}
 use Rattle.tcap_traces.proofs.SegmentLaws.{headings_length}
 

@@ -7,7 +7,6 @@ use Rattle.std.proofs.lemmas.List.Elements.{All-append, All-contains, All-from_r
 use Rattle.tcap_record.specs.declared.entry.End.{End as Side}
 use Rattle.tcap_record.specs.declared.entry.End.TheVariants as sides
 use Rattle.tcap_record.specs.declared.entry.Entry.{Entry as JudgedEntry}
-use Rattle.tcap_end.specs.Table.{Table}
 use Rattle.tcap_books.specs.Book.{NamedTable}
 use Rattle.tcap_certificate.specs.Replay.{is_judged}
 use Rattle.tcap_dialogues.specs.Course.{Course}
@@ -20,16 +19,16 @@ use Rattle.tcap_traces.specs.declared.end_result.EndResult.TheVariants as end_re
 use Rattle.tcap_traces.specs.declared.pieces.FormRule.{FormRule}
 use Rattle.tcap_traces.specs.declared.verdict.Verdict.{Verdict}
 use Rattle.tcap_traces.specs.declared.verdict.Verdict.TheVariants as verdicts
-use Rattle.tcap_traces.specs.Pieces.{Entry, Piece, TraceEntry, pieces_of}
+use Rattle.tcap_traces.specs.Pieces.{Entry, TraceEntry, pieces_of}
 use Rattle.tcap_traces.specs.TableChoice.{Choice, choice}
-use Rattle.tcap_traces.specs.Dialogue.{After, Dialogue, EndAfter, Question, circumstances, ends_by, ends_on, entry_of, is_long, is_marked, is_open, judged_entries, most, quiet_mark, verdict_by}
+use Rattle.tcap_traces.specs.Dialogue.{Dialogue, EndAfter, circumstances, ends_by, ends_on, entry_of, is_marked, is_open, judged_entries, most, quiet_mark, verdict_by}
 use Rattle.tcap_traces.specs.Segments.{Before, Segment, before_next, courses_in, dialogue_of, empty, nothing_before, segments_of}
 use Rattle.tcap_traces.specs.ResultMeaning.{MayHaveSentUnheard}
 use Rattle.tcap_traces.specs.ResultOfEnd.{result_at}
 use Rattle.tcap_traces.specs.Verdict.{rank, result_of, verdict_asked, verdict_of, worse}
 use Rattle.tcap_traces.specs.JudgedTrace.{Asked, JudgedDialogue, all_in, breaks_off, end_of, is_reported, judged, judged_trace, readable_in, reported_from, reported_in, verdict_on, worst}
 use Rattle.tcap_traces.specs.TraceMeaning.{IsAtFaultIn, MayHaveSentPart, MeansFail, MeansPass, all_entries, blamed_by}
-use Rattle.tcap_traces.proofs.ResultLaws.{IsSure, blamed_so, of_sure, passes_so, result_holds}
+use Rattle.tcap_traces.proofs.ResultLaws.{blamed_so, of_sure, passes_so, result_holds}
 use Rattle.tcap_traces.proofs.TraceEntriesLaws.{IsReadable, IsReportedIn, are_whole, from_segment, in_segment, in_some, some_readable}
 
 -- ---- the worst verdict

@@ -1,11 +1,13 @@
 -- What the result for an end of a dialogue means: an end that fails is at fault, and an end that passes may have sent
 -- its part.
-use Rattle.std.specs.Prelude.{◌≡◌, ◌⊎◌, ℕ, false, List, ◌∷◌, ◌++◌, drop, take, Option, Some}
+use Rattle.std.specs.Prelude.{◌≡◌, ◌⊎◌, ℕ, false, List, ◌∷◌, ◌++◌, drop, take, slice_get, Option, Some, Err}
 use Rattle.std.specs.List.{list_any}
 use Rattle.tcap_record.specs.declared.entry.End.{End as Side}
 use Rattle.tcap_record.specs.declared.entry.Entry.{Entry}
 use Rattle.tcap_end.specs.Table.{Table}
+use Rattle.tcap_model.specs.declared.reason.Reason.{Reason}
 use Rattle.tcap_model.specs.World.{Item}
+use Rattle.tcap_model.specs.Entries.{item_of}
 use Rattle.tcap_model.specs.Run.{IsLawfulFor}
 use Rattle.tcap_faults.specs.BlameMeaning.{IsAtFaultOf}
 use Rattle.tcap_judge.specs.declared.findings.Finding.{Finding}
@@ -15,11 +17,16 @@ use Rattle.tcap_traces.specs.declared.end_result.EndResult.{EndResult}
 use Rattle.tcap_traces.specs.declared.end_result.EndResult.TheVariants as end_results
 use Rattle.tcap_traces.specs.Verdict.{is_of}
 
+-- The entry with this number is no message.
+abbrev pub IsNoMessage : List Entry → ℕ → Type 0
+IsNoMessage entries number = (entry : Entry) × (reason : Reason) × (slice_get entries number ≡ Some entry)
+    × (item_of entry ≡ Err reason)
+
 -- In some run the end keeps the rules, and this many messages of its peer are unheard. The run sends the entries, or
--- those before an entry from which on none is of this end.
+-- those before an entry that is no message, from which on none is of this end.
 abbrev pub MayHaveSentUnheard : Side → Table → List Entry → ℕ → Type 0
 MayHaveSentUnheard side table entries unheard = AreLawfulUnheard (Some side) table entries unheard
-    ⊎ ((number : ℕ) × AreLawfulUnheard (Some side) table (take number entries) unheard
+    ⊎ ((number : ℕ) × IsNoMessage entries number × AreLawfulUnheard (Some side) table (take number entries) unheard
     × (list_any (is_of side) (drop number entries) ≡ false))
 
 -- The end may have sent its part with some number of unheard messages.

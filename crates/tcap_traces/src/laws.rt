@@ -23,7 +23,7 @@ ghost use Rattle.tcap_traces.specs.TraceMeaning.{IsAtFaultIn, MeansFail, MeansPa
 ///
 /// The octets are a trace to their end, and it does not say that it was broken off. Each of its entries is in a
 /// dialogue. In each dialogue, each judged end may have sent its part: some run in which this end keeps the rules sends
-/// the entries of the dialogue, or those before an entry from which on none is of this end.
+/// the entries of the dialogue, or those before an entry that is no message, from which on none is of this end.
 pub fn pass_is_lawful()
     ensures { (asked : Asked) (octets : List ℕ) → (judged_trace asked octets).verdict ≡ verdicts.Pass
         → MeansPass asked octets }
