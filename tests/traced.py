@@ -43,7 +43,7 @@ CODES = {
     "after_bad_entry": "is no message that is judged",
     "too_long": "more than 100,000 entries",
     "open": "the dialogue is open at the",
-    "unheard": "it keeps the rules only if it did not hear",
+    "unheard": "in the run that was found",
 }
 
 

@@ -166,7 +166,7 @@ ROWS = [
         "a message crosses an End, and was to be heard",
         "--heard",
         lines(*CROSSED),
-        [Wanted([0, 1, 2, 3, 4], "01", "07", "pass", "inconc it keeps the rules only if it did not hear 1 message of its peer")],
+        [Wanted([0, 1, 2, 3, 4], "01", "07", "pass", "inconc in the run that was found, 1 message of its peer is unheard; another run may have fewer")],
     ),
     Row(
         "a message crosses an End, and A alone is asked",

@@ -59,13 +59,15 @@ pub(crate) fn push_doubt(
     push_used_again(alloc, text, case)
 }
 
-/// Appends that an end keeps the rules only if it did not hear this many messages of its peer.
+/// Appends that this many messages of the peer are unheard in the run that was found.
 fn push_unheard(text: &mut String, unheard: u64) -> Result<(), AllocError> {
-    let messages = if unheard == 1 { "message" } else { "messages" };
-    write!(
-        text,
-        "it keeps the rules only if it did not hear {unheard} {messages} of its peer"
-    )
+    write!(text, "in the run that was found, {unheard} ")?;
+    text.push_str(if unheard == 1 {
+        "message of its peer is unheard"
+    } else {
+        "messages of its peer are unheard"
+    })?;
+    text.push_str("; another run may have fewer")
 }
 
 /// Appends why an end is undecided. `said` is neither a pass nor a blame.
