@@ -10,7 +10,7 @@ from trace_rows import LACKED, OPERATIONS, SHORT, WRONG_END, end, go_on, lines, 
 from traced import Checks, Report, agree, content, put
 
 FAILS, IS_INCONCLUSIVE = [SHORT[0], WRONG_END, "Q"], [LACKED, SHORT[1], "Q"]
-NOT_INVOKED = "F5: invoke ID {} is not one that {} invoked in this transaction"
+NOT_INVOKED = "F5: invoke ID {} is not one that {} had invoked in this transaction"
 
 
 def testcases(xml_text):

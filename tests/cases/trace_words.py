@@ -8,7 +8,7 @@ from dataclasses import dataclass
 
 import trace_rows
 from traced import Checks, Report, agree, look_at_messages, put, run
-from trace_rows import BACK, INVOKE, RESULT, SHORT, accepted, begin, dialogue, element, end, error, go_on, invoke, lines, reject, request, uni
+from trace_rows import BACK, INVOKE, RESULT, SHORT, abort, accepted, begin, dialogue, element, end, error, go_on, invoke, lines, reject, request, uni
 
 LONG_NAME = "x" * 10_000
 NAMED = (
@@ -19,11 +19,11 @@ NAMED = (
 WHICH = re.compile("  (why: |invocation |and [0-9]+ more inv|the result names )")
 BLAME = re.compile("  [AB]: (fail|inconc)")
 MISSING = "an AARE is missing: this is the first answer to a Begin with an AARQ, entry 0"
-TOO_MANY = "the AARE is one too many: only the first answer to a Begin may have one, and that is entry 1"
-NO_REQUEST = "the ABRT is one too many: the Begin of the transaction has no AARQ"
+TOO_MANY = "only the first answer to a Begin may have an AARE, and that was entry 1"
+NO_REQUEST = "an ABRT of the user needs an AARQ, and the Begin of the transaction has none"
 LACKS = "inconclusive: the table lacks the operation"
 AGAIN = "invocation 1 of ask 45 was answered already, by the Return Result in this message"
-NO_FIVE = "invoke ID 5 is not one that A invoked in this transaction"
+NO_FIVE = "invoke ID 5 is not one that A had invoked in this transaction"
 BAD_OCTETS = "its octets are no message: empty component portion, at octet 8 of it"
 TWICE = "this message invokes ID 1 twice"
 LACKS_99 = "the table lacks operation 99"
@@ -38,6 +38,8 @@ ABORTS = dialogue(element("64", "800100"))
 GLOBAL = element("A1", "020101", element("06", "2A03"))
 # A Reject of the Invoke 2: a link is unexpected, since the operation that is linked to lists none.
 UNLINKED = reject("02", "06")
+LASTING = '{"tables":[{"operations":[{"class":1,"code":45,"name":"ask","expires":false},{"class":3,"code":47}]}]}'
+NONE_OF_1 = "invoke ID 1 is not one that A had invoked in this transaction"
 
 
 def names(id, *code):
@@ -117,7 +119,7 @@ ONE = [
         [BACK, SHORT[0], SHORT[1]],
         [],
         "B F2",
-        "it goes to 01, and A sent nothing from 01 in this dialogue before entry 1: is the trace in order?",
+        "it goes to 01, and A had sent nothing from 01 in this dialogue before entry 1: is the trace in order?",
         at=0,
         words="--ids once",
     ),
@@ -126,7 +128,7 @@ ONE = [
         [SHORT[0], f"B {go_on('07', '01', RESULT)}", f"A {go_on('01', '07', INVOKE)}"],
         [],
         "B F5",
-        "invoke ID 1 is not one that A invoked in this transaction before entry 2: is the trace in order?",
+        "invoke ID 1 is not one that A had invoked in this transaction before entry 2: is the trace in order?",
         at=1,
     ),
     one(
@@ -134,7 +136,14 @@ ONE = [
         [SHORT[0], BACK, f"B {go_on('07', '07')}"],
         [],
         "B F2",
-        "it goes to 07, and A sent nothing from 07 in this dialogue; this is B's own ID: are the ends mixed up?",
+        "it goes to 07, and A had sent nothing from 07 in this dialogue; this is B's own ID: are the ends mixed up?",
+    ),
+    one(
+        "an Abort with a cause that Q.773 lacks",
+        [SHORT[0], f"B {abort('01', '05')}"],
+        [],
+        "B F2",
+        "cause 5 is not in Q.773",
     ),
     # ---- F6
     one(
@@ -264,13 +273,29 @@ ONE = [
         AGAIN,
     ),
     one(
+        "two errors for invocations of class 1 and class 3: no error answers the second",
+        [f"A {begin('01', INVOKE)}", BACK, f"A {go_on('01', '07', invoke('01', '2F'))}", f"B {end('01', error('01'), error('01'))}"],
+        ["  invocation 1 in entry 0 is of ask 45, of class 1", "  invocation 1 in entry 2 is of 47, of class 3"],
+        "B F12",
+        "with it, more answers or Rejects of 1 were sent than its 2 invocations allow",
+    ),
+    one(
         "a Reject of a link that the table allows",
         [f"A {begin('01', invoke('01', '32'))}", f"B {go_on('07', '01', invoke('02', '30', '01'))}", f"A {go_on('01', '07', UNLINKED)}"],
         ["  invocation 2 in entry 1 is of leaf 48, of class 4, linked to 1"],
         "A F13",
-        "invoke problem 6 (linkedResponseUnexpected) rejects the link of an Invoke of 2, and in this transaction A received none that is "
+        "invoke problem 6 (linkedResponseUnexpected) rejects the link of an Invoke of 2, and in this transaction A had received none that is "
         "linked to an operation that lists none",
         table='{"tables":[{"operations":[{"class":1,"code":50,"linked":[48]},{"class":4,"code":48,"name":"leaf"}]}]}',
+    ),
+    # ---- F10
+    one(
+        "of two invocations of the ID one does not expire",
+        [f"A {begin('01', invoke('01', '2F'))}", BACK, *[f"A {go_on('01', '07', INVOKE)}"] * 2],
+        ["  invocation 1 in entry 0 is of 47, of class 3", "  invocation 1 in entry 2 is of ask 45, of class 1"],
+        "A F10",
+        "not all invocations of ID 1 are over: 1 of them does not expire",
+        table=LASTING,
     ),
     # ---- F9
     one(
@@ -339,7 +364,7 @@ ONE = [
         [SHORT[0], f"B {go_on('07', '01', asks=ACCEPTS)}"],
         [],
         "B F7",
-        "an AARE answers an AARQ, and A sent none from 01 in this dialogue",
+        "an AARE answers an AARQ, and A had sent none from 01 in this dialogue",
     ),
     # ---- other kinds, which have no such lines
     one(
@@ -365,6 +390,35 @@ ONCE = "; A uses its ID 01 again at line 3, and by --ids once no ID is free befo
 SAID = [
     *ONE,
     # ---- both ends
+    Said(
+        "an answer before a Continue of its peer, and before its Begin: the Continue comes first",
+        [BACK, f"A {go_on('01', '07')}", SHORT[0]],
+        {},
+        [
+            "  B: fail at entry 0 of the dialogue, line 1, F2: it goes to 01, and A had sent nothing from 01 in this dialogue before entry 1: "
+            "is the trace in order?",
+            "  A: fail at entry 2 of the dialogue, line 3, F3: A went on from 01 before, in entry 1, and no message had ended that transaction; "
+            "it comes later, and may follow from that of B",
+        ],
+        "B: line 1, F2: it goes to 01, and A had sent nothing from 01 in this dialogue before entry 1: is the trace in order?; A: line 3, F3: "
+        "A went on from 01 before, in entry 1, and no message had ended that transaction",
+        "--ids once",
+    ),
+    *[
+        Said(
+            f"a Reject with result problem {number} of an answer to no invocation",
+            [SHORT[0], f"B {go_on('07', '01', RESULT)}", f"A {end('07', element('A4', '020101', element('82', f'0{number}')))}"],
+            {},
+            [
+                f"  B: fail at entry 1 of the dialogue, line 2, F5: {NONE_OF_1}",
+                f"  A: fail at entry 2 of the dialogue, line 3, F13: return result problem {number} ({name}) rejects a Return Result of 1, and "
+                "A had invoked no 1 in this transaction; it comes later, and may follow from that of B",
+            ],
+            f"B: line 2, F5: {NONE_OF_1}; A: line 3, F13: return result problem {number} ({name}) rejects a Return Result of 1, and A had "
+            "invoked no 1 in this transaction",
+        )
+        for number, name in ((1, "returnResultUnexpected"), (2, "mistypedParameter"))
+    ],
     Said(
         "B is at fault before A",
         [SHORT[0], f"B {go_on('07', '01', trace_rows.result('05'))}", f"A {trace_rows.BAD_CONTINUE}"],
@@ -463,7 +517,7 @@ SAID = [
         {},
         [
             "  A: inconc: the quiet mark before this dialogue may have come too early: ID 01 of A was in use before it",
-            "  B: inconc at entry 0 of the dialogue, line 3, F2: it goes to 01, and A sent nothing from 01 in this dialogue",
+            "  B: inconc at entry 0 of the dialogue, line 3, F2: it goes to 01, and A had sent nothing from 01 in this dialogue",
         ],
         "A: the quiet mark before this dialogue may have come too early: ID 01 of A was in use before it",
     ),
@@ -471,8 +525,8 @@ SAID = [
         "an ID that came again, where IDs have settled, and the dialogue begins without a Begin",
         [*SHORT, f"B {end('01')}"],
         {},
-        ["  B: inconc at entry 0 of the dialogue, line 3, F2: it goes to 01, and A sent nothing from 01 in this dialogue"],
-        "B: line 3, F2: it goes to 01, and A sent nothing from 01 in this dialogue; inconclusive: an ID of the dialogue was "
+        ["  B: inconc at entry 0 of the dialogue, line 3, F2: it goes to 01, and A had sent nothing from 01 in this dialogue"],
+        "B: line 3, F2: it goes to 01, and A had sent nothing from 01 in this dialogue; inconclusive: an ID of the dialogue was "
         "one of an earlier one, of which a message may have been under way; this is dialogue 2, and that was dialogue 0",
         "--ids settled --linger 0",
     ),

@@ -1,4 +1,4 @@
-//! A message at fault, and looks over the other entries of its dialogue.
+//! A message at fault, and searches among the other entries of its dialogue.
 
 use tcap_books::NamedTable;
 use tcap_evidence::{Evidence, Invocation, ShownFact};

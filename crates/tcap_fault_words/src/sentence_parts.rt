@@ -84,15 +84,16 @@ pub(crate) fn push_none_in(
     text.push_str(": is the trace in order?")
 }
 
-/// Appends that the peer sent nothing in this dialogue, or nothing before an entry in which it does. Only a Begin that
-/// comes later suggests that the trace is out of order, since a dialogue may have been under way before it.
+/// Appends the dialogue, in which the peer had sent nothing, and the first entry in which it does, if there is one. Only a
+/// later Begin suggests that the trace is out of order, since a dialogue may have been under way before it.
 pub(crate) fn push_nothing_before(text: &mut String, at: &AtFault) -> Result<(), AllocError> {
-    if at.later(Wanted::Form(Form::Begin)).is_some() {
-        return push_none_in(text, at, DIALOGUE, Wanted::Form(Form::Begin));
-    }
     text.push_str(DIALOGUE)?;
-    match at.later(Wanted::Any) {
-        Some(number) => write!(text, " before entry {number}"),
+    let Some(number) = at.later(Wanted::Any) else {
+        return Ok(());
+    };
+    write!(text, " before entry {number}")?;
+    match at.later(Wanted::Form(Form::Begin)) {
+        Some(_) => text.push_str(": is the trace in order?"),
         None => Ok(()),
     }
 }

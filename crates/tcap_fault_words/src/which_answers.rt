@@ -42,7 +42,7 @@ fn push_in_first(
 /// Appends that the peer did not invoke this ID.
 fn push_not_invoked(text: &mut String, at: &AtFault, id: i8) -> Result<bool, AllocError> {
     write!(text, "invoke ID {id} is not one that ")?;
-    push_end(text, at.end.other(), " invoked")?;
+    push_end(text, at.end.other(), " had invoked")?;
     push_none_in(text, at, TRANSACTION, Wanted::Invoke(id))?;
     Ok(true)
 }
@@ -63,7 +63,7 @@ fn push_rejects_none(
     push_problem(text, problem)?;
     text.push_str(words)?;
     write!(text, "{id}, and ")?;
-    push_end(text, at.end.other(), " sent none")?;
+    push_end(text, at.end.other(), " had sent none")?;
     push_none_in(text, at, TRANSACTION, wanted)?;
     Ok(true)
 }
@@ -80,10 +80,11 @@ fn push_readable(
         Some(_) => text.push_str(" rejects what can't be read, and ")?,
         None => text.push_str(" without an invoke ID rejects what can't be read, and ")?,
     }
+    text.push_str("all that ")?;
     push_end(
         text,
         at.end.other(),
-        " sent nothing of the kind in this dialogue",
+        " had sent in this dialogue can be read",
     )?;
     Ok(true)
 }
@@ -148,7 +149,7 @@ pub(crate) fn push_answered_again(text: &mut String, at: &AtFault) -> Result<boo
     }
     write!(
         text,
-        "with it, the {count} invocations of {id} are answered or rejected too often"
+        "with it, more answers or Rejects of {id} were sent than its {count} invocations allow"
     )?;
     Ok(true)
 }
@@ -158,7 +159,7 @@ pub(crate) fn push_answered_again(text: &mut String, at: &AtFault) -> Result<boo
 /// Appends that the number of a problem is over the greatest one.
 fn push_over(text: &mut String, problem: ProblemView, last: u8) -> Result<bool, AllocError> {
     push_problem(text, problem)?;
-    write!(text, " is over the last, {last}")?;
+    write!(text, " is greater than {last}, the last")?;
     Ok(true)
 }
 
@@ -176,12 +177,12 @@ fn push_duplicate(
     push_problem(text, problem)?;
     if invokes == 1 {
         write!(text, " rejects the second Invoke of {id}, and ")?;
-        push_end(text, at.end, " received one in this transaction")?;
+        push_end(text, at.end, " had received one in this transaction")?;
         return Ok(true);
     }
     let times = rejects.saturating_add(1);
     write!(text, " is in {times} Rejects of {id}, and ")?;
-    push_end(text, at.end, " received ")?;
+    push_end(text, at.end, " had received ")?;
     write!(
         text,
         "{invokes} Invokes of it in this transaction, the first of which is no duplicate"
@@ -193,13 +194,13 @@ fn push_duplicate(
 /// that received them.
 fn link_words(number: u8, linked: usize, rejects: usize) -> &'static str {
     if linked == 0 {
-        " received no linked one"
+        " had received no linked one"
     } else if rejects >= linked {
-        " rejected each linked one so already"
+        " had rejected each linked one in this way already"
     } else {
         match number {
-            6 => " received none that is linked to an operation that lists none",
-            7 => " received none that is linked to an operation that lists others alone",
+            6 => " had received none that is linked to an operation that lists none",
+            7 => " had received none that is linked to an operation that lists only others",
             _ => "",
         }
     }
@@ -270,6 +271,22 @@ fn push_rejected(text: &mut String, reject: &AnswerReject) -> Result<(), AllocEr
     write!(text, " of {id}")
 }
 
+/// Appends that the end had invoked nothing under the ID of an answer. Then the answer is of an unrecognized ID, and no
+/// class or operation makes it wrong.
+fn push_never_invoked(
+    text: &mut String,
+    at: &AtFault,
+    reject: &AnswerReject,
+) -> Result<bool, AllocError> {
+    let id = reject.id;
+    push_rejected(text, reject)?;
+    text.push_str(", and ")?;
+    push_end(text, at.end, " had invoked no ")?;
+    write!(text, "{id}")?;
+    text.push_str(TRANSACTION)?;
+    Ok(true)
+}
+
 /// Appends that an answer is not unexpected, with the operation if there is only one invocation.
 fn push_expected(
     text: &mut String,
@@ -296,11 +313,11 @@ fn push_one_too_many(
 ) -> Result<bool, AllocError> {
     push_rejected(text, reject)?;
     match (reject.answers, reject.rejects) {
-        (0, _) => text.push_str(", and none was received in this transaction")?,
+        (0, _) => text.push_str(", and none had been received in this transaction")?,
         (1, [only]) => {
             push_before(text, at, " that was rejected already, by the Reject", *only)?;
         }
-        _ => text.push_str(", and each that was received was rejected already")?,
+        _ => text.push_str(", and each that had been received was rejected already")?,
     }
     Ok(true)
 }
@@ -319,6 +336,7 @@ fn push_of_answer(
     }
     match reject.number {
         0 => Ok(false),
+        _ if at.found.invocations.is_empty() => push_never_invoked(text, at, reject),
         UNEXPECTED => push_expected(text, at, reject),
         _ => {
             push_rejected(text, reject)?;

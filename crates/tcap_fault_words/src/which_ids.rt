@@ -18,7 +18,7 @@ const REFUSES: u8 = 4;
 fn push_nothing(text: &mut String, at: &AtFault) -> Result<bool, AllocError> {
     push_id(text, "it goes to ", at.to())?;
     text.push_str(", and ")?;
-    push_end(text, at.end.other(), " sent nothing from ")?;
+    push_end(text, at.end.other(), " had sent nothing from ")?;
     push_id(text, "", at.to())?;
     push_nothing_before(text, at)?;
     if at.is_own(at.to()) {
@@ -28,21 +28,26 @@ fn push_nothing(text: &mut String, at: &AtFault) -> Result<bool, AllocError> {
     Ok(true)
 }
 
-/// Appends what an Abort with this cause answers, and that the peer sent no such message.
+/// Appends what an Abort with this cause answers, and that the peer sent no such message; or that Q.773 lacks the cause.
 fn push_unfounded(text: &mut String, at: &AtFault, cause: u8) -> Result<bool, AllocError> {
     let (what, form) = match cause {
         UNRECOGNIZED => (" answers a Continue, and ", Form::Continue),
         REFUSES => (" answers a Begin, and ", Form::Begin),
-        _ => {
+        0 | 2 | 3 => {
             push_cause(text, cause)?;
             text.push_str(" answers octets that are no message, and ")?;
-            push_end(text, at.end.other(), " sent none in this dialogue")?;
+            push_end(text, at.end.other(), " had sent none")?;
+            text.push_str(DIALOGUE)?;
+            return Ok(true);
+        }
+        _ => {
+            write!(text, "cause {cause} is not in Q.773")?;
             return Ok(true);
         }
     };
     push_cause(text, cause)?;
     text.push_str(what)?;
-    push_end(text, at.end.other(), " sent none from ")?;
+    push_end(text, at.end.other(), " had sent none from ")?;
     push_id(text, "", at.to())?;
     push_none_in(text, at, DIALOGUE, Wanted::Form(form))?;
     Ok(true)
@@ -70,7 +75,7 @@ fn push_used(text: &mut String, at: &AtFault, number: u64) -> Result<bool, Alloc
     write!(text, " before, in entry {number}")?;
     // An Abort of the end's provider may be meant to end the transaction.
     if !at.has_provider_abort() {
-        text.push_str(", and no message ended that transaction")?;
+        text.push_str(", and no message had ended that transaction")?;
     }
     Ok(true)
 }
@@ -145,7 +150,7 @@ fn push_refused(text: &mut String, at: &AtFault) -> Result<bool, AllocError> {
     };
     push_end(text, at.end, " refused the Begin from ")?;
     push_id(text, "", at.to())?;
-    text.push_str(" by ")?;
+    text.push_str(" with ")?;
     push_cause(text, REFUSES)?;
     write!(text, " in entry {number}")?;
     Ok(true)
@@ -155,7 +160,7 @@ fn push_refused(text: &mut String, at: &AtFault) -> Result<bool, AllocError> {
 fn push_unanswered(text: &mut String, at: &AtFault, own: &[u8]) -> Result<bool, AllocError> {
     push_id(text, "the Begin from ", own)?;
     push_id(text, " has an AARQ, and no Continue from ", at.to())?;
-    text.push_str(" has answered it with an AARE")?;
+    text.push_str(" had answered it with an AARE")?;
     Ok(true)
 }
 
@@ -182,7 +187,11 @@ fn push_other_id(text: &mut String, at: &AtFault, own: &[u8]) -> Result<bool, Al
 
 /// Appends that the end's provider reported the half as unrecognized.
 fn push_closed(text: &mut String, at: &AtFault) -> Result<bool, AllocError> {
-    push_end(text, at.end, " answered a Continue of this transaction by ")?;
+    push_end(
+        text,
+        at.end,
+        " answered a Continue of this transaction with ",
+    )?;
     push_cause(text, UNRECOGNIZED)?;
     match at.first(Fact::Unknown) {
         Some(number) => write!(text, " before, as in entry {number}")?,
@@ -278,7 +287,7 @@ fn push_all_answered(text: &mut String, at: &AtFault, number: u64) -> Result<boo
     push_answers_continue(
         text,
         at,
-        ", and each of these was answered so already, as in entry ",
+        ", and each of these was answered in this way already, as in entry ",
     )?;
     write!(text, "{number}")?;
     Ok(true)
@@ -297,7 +306,7 @@ fn push_received(
     write!(text, "{number}")?;
     push_id(text, " to ", at.to())?;
     if answered > 0 {
-        text.push_str("; each other was answered so already")?;
+        text.push_str("; each other was answered in this way already")?;
     }
     Ok(true)
 }

@@ -157,8 +157,13 @@ pub(crate) fn push_busy(text: &mut String, at: &AtFault) -> Result<bool, AllocEr
     }
     write!(
         text,
-        "not all invocations of ID {id} are over: {count} of them do not expire"
+        "not all invocations of ID {id} are over: {count} of them "
     )?;
+    text.push_str(if count == 1 {
+        "does not expire"
+    } else {
+        "do not expire"
+    })?;
     Ok(true)
 }
 
@@ -171,7 +176,7 @@ fn push_not_received(text: &mut String, at: &AtFault, id: i8) -> Result<bool, Al
         Some(_) => push_end(
             text,
             at.end,
-            " received no Invoke of it in this transaction",
+            " had received no Invoke of it in this transaction",
         )?,
         None => {
             text.push_str("nothing comes before ")?;

@@ -65,7 +65,7 @@ fn push_response(
 ) -> Result<bool, AllocError> {
     if at.entries(Fact::PeerRequests).is_empty() {
         text.push_str("an AARE answers an AARQ, and ")?;
-        push_end(text, at.end.other(), " sent none from ")?;
+        push_end(text, at.end.other(), " had sent none from ")?;
         push_id(text, "", at.to())?;
         text.push_str(DIALOGUE)?;
         return Ok(true);
@@ -127,14 +127,12 @@ pub(crate) fn push_misplaced(text: &mut String, at: &AtFault) -> Result<bool, Al
     }
 }
 
-/// Appends that an AARE is one too many, and the entry of the first answer.
+/// Appends that only the first answer may have an AARE, and the entry of that answer.
 fn push_too_many(text: &mut String, at: &AtFault) -> Result<bool, AllocError> {
     let Some(number) = at.first(Fact::OutgoingContinues) else {
         return Ok(false);
     };
-    text.push_str(
-        "the AARE is one too many: only the first answer to a Begin may have one, and that is entry ",
-    )?;
+    text.push_str("only the first answer to a Begin may have an AARE, and that was entry ")?;
     write!(text, "{number}")?;
     Ok(true)
 }
@@ -151,7 +149,9 @@ pub(crate) fn push_unfit(text: &mut String, at: &AtFault) -> Result<bool, AllocE
         }
         (_, Some(DialogueView::Response { .. })) => push_too_many(text, at),
         (Form::Abort, Some(DialogueView::Abort { .. })) => {
-            text.push_str("the ABRT is one too many: the Begin of the transaction has no AARQ")?;
+            text.push_str(
+                "an ABRT of the user needs an AARQ, and the Begin of the transaction has none",
+            )?;
             Ok(true)
         }
         _ => Ok(false),
