@@ -397,11 +397,11 @@ SAID = [
         [
             "  B: fail at entry 0 of the dialogue, line 1, F2: it goes to 01, and A had sent nothing from 01 in this dialogue before entry 1: "
             "is the trace in order?",
-            "  A: fail at entry 2 of the dialogue, line 3, F3: A went on from 01 before, in entry 1, and no message had ended that transaction; "
-            "it comes later, and may follow from that of B",
+            "  A: fail at entry 1 of the dialogue, line 2, F8: the Continue from 07 in entry 0 goes to 01, and A had begun nothing from 01 in "
+            "this dialogue; it comes later, and may follow from that of B",
         ],
-        "B: line 1, F2: it goes to 01, and A had sent nothing from 01 in this dialogue before entry 1: is the trace in order?; A: line 3, F3: "
-        "A went on from 01 before, in entry 1, and no message had ended that transaction",
+        "B: line 1, F2: it goes to 01, and A had sent nothing from 01 in this dialogue before entry 1: is the trace in order?; A: line 2, F8: "
+        "the Continue from 07 in entry 0 goes to 01, and A had begun nothing from 01 in this dialogue",
         "--ids once",
     ),
     *[
