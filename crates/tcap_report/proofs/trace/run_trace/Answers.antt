@@ -16,3 +16,6 @@ pub returns-clause-all : goal.returns-clause-all
 returns-clause-all g c =
     IfOk-weaker c.run.result _ _ (λ verdict answers. read_whole c.args.options _ _ _ _ verdict _ _ answers)
     (c.run.ensures.answers c.args.options c.new-trace.ensures.reading)
+
+pub returns-clause-answers : goal.returns-clause-answers
+returns-clause-answers g c = c.run.ensures.answers c.args.options c.new-trace.ensures.reading
