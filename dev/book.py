@@ -14,9 +14,11 @@ BOOK = f"{FOLDER}/book.json"
 CARRIED = "crates/tcap_books/src/carried.rt"
 # The file of each table, and the name of the table in the set.
 TABLES = {"map": "MAP", "cap": "CAP"}
-CARRIED_FORM = '''//! The book that the program carries: the text of examples/tables/book.json, word for word. dev/book.py writes this file.
+CARRIED_FORM = '''//! The book that the program carries: the text of examples/tables/book.json, word for word. dev/book.py writes this
+//! file.
 
-/// The text of a book: the operations of MAP and CAP with their names, and the application contexts that each table is for.
+/// The text of a book: the operations of MAP and CAP with their names, and the application contexts that each table is
+/// for.
 pub const CARRIED_BOOK: &str = r#"{}"#;
 '''
 

@@ -55,11 +55,13 @@ pub record IsFaultyChoice {V : Type 0} (choice : Choice V) (s : Span) (reason : 
   pub rest : List ℕ
   pub is_element : IsElement tag content octets
   pub joined : s.octets ≡ octets ++ rest
-  pub inside : choice.faulty tag s.place (record { octets = content; place = s.place + content_start tag content octets }) reason place
+  pub inside : choice.faulty tag s.place
+      (record { octets = content; place = s.place + content_start tag content octets }) reason place
 
 -- an element of this choice
 abbrev pub one_of : {V : Type 0} → Choice V → Field V
 one_of choice = record {
   spells = λ v octets behind. IsOneOf choice v octets;
-  faulty = λ s reason place. IsMissing s reason place ⊎ IsElementFault s reason place ⊎ IsFaultyChoice choice s reason place;
+  faulty =
+      λ s reason place. IsMissing s reason place ⊎ IsElementFault s reason place ⊎ IsFaultyChoice choice s reason place;
 }

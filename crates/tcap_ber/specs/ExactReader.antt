@@ -11,7 +11,8 @@ use Rattle.tcap_ber.specs.Reading.{Element}
 -- a reader of a part at the front of a window, which also returns the window after it
 pub record ReadsField {V : Type 0} (part : Field V) (read : Span → Result (V × Span) Fault) : Type 0 where
   pub sound : (s : Span) (v : V) (rest : Span) → read s ≡ Ok (v, rest) → Taken part s v rest
-  pub complete : (place : ℕ) (v : V) (front rest : List ℕ) → part.spells v front rest → read (record { octets = front ++ rest; place = place }) ≡ Ok (v, after place front rest)
+  pub complete : (place : ℕ) (v : V) (front rest : List ℕ) → part.spells v front rest
+      → read (record { octets = front ++ rest; place = place }) ≡ Ok (v, after place front rest)
   pub refuses : (s : Span) (f : Fault) → read s ≡ Err f → part.faulty s f.reason f.place
   pub stops : (s : Span) (f : Fault) → part.faulty s f.reason f.place → read s ≡ Err f
 

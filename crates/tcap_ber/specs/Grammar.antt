@@ -61,7 +61,8 @@ pub record IsFaultyInside (tag : ℕ) (faulty : ℕ → Span → Reason → ℕ 
   pub rest : List ℕ
   pub is_element : IsElement (tag ∷ []) content octets
   pub joined : s.octets ≡ octets ++ rest
-  pub inside : faulty s.place (record { octets = content; place = s.place + content_start (tag ∷ []) content octets }) reason place
+  pub inside : faulty s.place (record { octets = content; place = s.place + content_start (tag ∷ []) content octets })
+      reason place
 
 -- the octets are an element of this tag with such a content
 pub record IsElementOf (tag : ℕ) (spells : List ℕ → Type 0) (octets : List ℕ) : Type 0 where

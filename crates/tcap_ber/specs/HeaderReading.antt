@@ -83,7 +83,8 @@ abbrev pub opening_behind : Span → Option ℕ → Result (Option Opening) Faul
 opening_behind s None = Ok None
 opening_behind s (Some tag) =
     if is_next 0x80 (drop tag s.octets)
-    then (if is_constructed s.octets then Ok (Some (Indefinite tag)) else Err (fault IndefinitePrimitive (s.place + tag)))
+    then (if is_constructed s.octets then Ok (Some (Indefinite tag)) else Err
+    (fault IndefinitePrimitive (s.place + tag)))
     else (definite_behind s tag >>= λ h. Ok (definite_of h))
 
 -- the header at the front, of definite or indefinite length, or None if the octets end before the header does

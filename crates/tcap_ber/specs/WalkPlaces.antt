@@ -106,5 +106,6 @@ pub record BeginsElement (octets : List ℕ) (n : ℕ) : Type 0 where
 -- The octets are unfinished, and any element that begins with them has at least n octets, which is more than they are.
 pub record NeedsMore (octets : List ℕ) (n : ℕ) : Type 0 where
   pub above : length octets < n
-  pub least : (tag content element more : List ℕ) → IsElement tag content element → element ≡ octets ++ more → n ≤ length element
+  pub least : (tag content element more : List ℕ) → IsElement tag content element → element ≡ octets ++ more
+      → n ≤ length element
   pub unfinished : IsUnfinished octets

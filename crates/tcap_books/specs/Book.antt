@@ -87,7 +87,8 @@ sharer table first number (other ∷ more) =
 abbrev pub clash_from : List NamedTable → ℕ → List NamedTable → Option (ℕ × ℕ)
 clash_from tables number [] = None
 clash_from tables number (table ∷ more) =
-    option_or (option_map (λ second. (number, second)) (sharer table number 0 tables)) (clash_from tables (suc number) more)
+    option_or (option_map (λ second. (number, second)) (sharer table number 0 tables))
+    (clash_from tables (suc number) more)
 
 -- the numbers of the first two tables with a context in common, so that no single table is determined for it
 abbrev pub clash : List NamedTable → Option (ℕ × ℕ)

@@ -22,7 +22,8 @@ tables_limit = 100
 -- the members without those that `drops` selects, each value changed by `make`
 abbrev pub kept : (List ℕ → Bool) → (List ℕ → Data → Data) → Members → Members
 kept drops make no_members = no_members
-kept drops make (member key d more) = cond (drops key) (kept drops make more) (member key (make key d) (kept drops make more))
+kept drops make (member key d more) =
+    cond (drops key) (kept drops make more) (member key (make key d) (kept drops make more))
 
 -- whether a key is "name"
 abbrev pub is_name : List ℕ → Bool
@@ -85,7 +86,8 @@ context_in _ = None
 -- the contexts, with those of a list added
 abbrev pub contexts_with : List (List ℕ) → Items → Option (List (List ℕ))
 contexts_with found no_items = Some found
-contexts_with found (item d more) = option_and_then (λ context. contexts_with (found ++ context ∷ []) more) (context_in d)
+contexts_with found (item d more) =
+    option_and_then (λ context. contexts_with (found ++ context ∷ []) more) (context_in d)
 
 -- the contexts of a table; none if the member is absent
 abbrev pub contexts_in : Option Data → Option (List (List ℕ))
@@ -94,7 +96,8 @@ contexts_in (Some (array items)) = contexts_with [] items
 contexts_in (Some _) = None
 
 -- the names with that of a row added, if it has a code and a name; a fault if its name is not a string
-abbrev pub named : ℕ → ℕ → List (Code × List ℕ) → Option Code → Option (Option (List ℕ)) → Result (List (Code × List ℕ)) BookFault
+abbrev pub named : ℕ → ℕ → List (Code × List ℕ) → Option Code → Option (Option (List ℕ))
+    → Result (List (Code × List ℕ)) BookFault
 named table row found code None = Err (faults.RowName table row)
 named table row found code (Some None) = Ok found
 named table row found None (Some (Some name)) = Ok found

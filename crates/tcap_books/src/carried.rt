@@ -1,6 +1,8 @@
-//! The book that the program carries: the text of examples/tables/book.json, word for word. dev/book.py writes this file.
+//! The book that the program carries: the text of examples/tables/book.json, word for word. dev/book.py writes this
+//! file.
 
-/// The text of a book: the operations of MAP and CAP with their names, and the application contexts that each table is for.
+/// The text of a book: the operations of MAP and CAP with their names, and the application contexts that each table is
+/// for.
 pub const CARRIED_BOOK: &str = r#"{"tables":[
 {"name":"MAP","contexts":[
 "040000010001",

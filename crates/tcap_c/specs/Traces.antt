@@ -76,4 +76,5 @@ WritesNothing old new len status = (new ≡ old) × (len ≡ 0) × (status ≡ 4
 -- The text is a table set, and each dialogue has at most one table in it: at most one table has no contexts, and no two
 -- share one.
 abbrev pub IsClearBook : List ℕ → Type 0
-IsClearBook text = (tables : List NamedTable) × IsBookOf text (Ok tables) × (is_ambiguous tables ≡ false) × (clash tables ≡ None)
+IsClearBook text =
+    (tables : List NamedTable) × IsBookOf text (Ok tables) × (is_ambiguous tables ≡ false) × (clash tables ≡ None)

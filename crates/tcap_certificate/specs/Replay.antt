@@ -222,7 +222,8 @@ delivery_by judged table c gap number _ _ r = Ok r
 
 -- the replay after all messages whose fate is this gap are delivered, by number; the first of these items has this
 -- number
-abbrev pub deliveries_by : Option Side → Table → Certificate → ℕ → ℕ → List Fate → List Item → Replay → Result Replay CheckFault
+abbrev pub deliveries_by : Option Side → Table → Certificate → ℕ → ℕ → List Fate → List Item → Replay
+    → Result Replay CheckFault
 deliveries_by judged table c gap number (fate ∷ fates) (item ∷ items) r =
     delivery_by judged table c gap number fate item r >>= deliveries_by judged table c gap (number + 1) fates items
 deliveries_by judged table c gap number _ _ r = Ok r
@@ -376,7 +377,8 @@ peer_replayed table c fate judged message r = do
 
 -- the replay after a message with this fate, and the gap before it: from a judged end, or from the peer of an end that
 -- is judged alone
-abbrev pub message_judged : Option Side → Table → Certificate → Fate → Side → Message → Replay → Result Replay CheckFault
+abbrev pub message_judged : Option Side → Table → Certificate → Fate → Side → Message → Replay
+    → Result Replay CheckFault
 message_judged None table c fate sender message r = own_judged None table c fate sender message r
 message_judged (Some judged) table c fate sender message r = cond (is_side judged sender)
     (own_judged (Some judged) table c fate judged message r) (peer_replayed table c fate judged message r)
@@ -418,7 +420,8 @@ entry_by judged table c fate (Ok item) r = item_by judged table c fate item r
 entry_by judged table c fate (Err reason) r = refused reason (next_entry r)
 
 -- the replay after the entries from the next one on, and the last gap
-abbrev pub entries_by : Option Side → Table → Certificate → List (Result Item Reason) → Replay → Result Replay CheckFault
+abbrev pub entries_by : Option Side → Table → Certificate → List (Result Item Reason) → Replay
+    → Result Replay CheckFault
 entries_by judged table c [] r = do
   needs (next_entry r == length c.fates) (fault_at FateCount (next_entry r))
   gap_by judged table c r
@@ -440,7 +443,8 @@ run_by judged table c entries = do
   Ok (lost_last judged c r).events
 
 -- the messages that this run discards, with the reasons
-abbrev pub discards_by : Option Side → Table → Certificate → List (Result Item Reason) → Result (List (ℕ × EndFault)) CheckFault
+abbrev pub discards_by : Option Side → Table → Certificate → List (Result Item Reason)
+    → Result (List (ℕ × EndFault)) CheckFault
 discards_by judged table c entries = do
   certificate_fits c
   r ← entries_by judged table c entries nothing_replayed

@@ -77,7 +77,8 @@ discards_what_it_cannot_receive = record {
 
 -- The certificate discards these messages, for these reasons.
 abbrev pub Discards : Table → WorkedAlone → List (ℕ × EndFault) → Type 0
-Discards table w discards = discards_by (Some w.side) table w.certificate (map item_of (map entry_of w.items)) ≡ Ok discards
+Discards table w discards =
+    discards_by (Some w.side) table w.certificate (map item_of (map entry_of w.items)) ≡ Ok discards
 
 -- ---- order
 

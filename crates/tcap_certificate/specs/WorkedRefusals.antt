@@ -31,15 +31,27 @@ IsNotDescribed w = IsRunOf w.items table w.events × (Follows w.certificate w.it
 
 -- The fate is a loss, but the message is not lost.
 abbrev pub not_lost : Worked
-not_lost = record { items = Sent A (begin None None) ∷ []; certificate = by_fates (Lost ∷ []); events = Sends A (begin None None) ∷ [] }
+not_lost = record {
+  items = Sent A (begin None None) ∷ [];
+  certificate = by_fates (Lost ∷ []);
+  events = Sends A (begin None None) ∷ [];
+}
 
 -- The fate is a gap after the last one.
 abbrev pub never_delivered : Worked
-never_delivered = record { items = Sent A (begin None None) ∷ []; certificate = by_fates (Gap 2 ∷ []); events = Sends A (begin None None) ∷ [] }
+never_delivered = record {
+  items = Sent A (begin None None) ∷ [];
+  certificate = by_fates (Gap 2 ∷ []);
+  events = Sends A (begin None None) ∷ [];
+}
 
 -- The fate is a reply, but there is no such entry.
 abbrev pub never_taken : Worked
-never_taken = record { items = Sent A (begin None None) ∷ []; certificate = by_fates (By 1 ∷ []); events = Sends A (begin None None) ∷ [] }
+never_taken = record {
+  items = Sent A (begin None None) ∷ [];
+  certificate = by_fates (By 1 ∷ []);
+  events = Sends A (begin None None) ∷ [];
+}
 
 -- An expiry is in a gap after the last one.
 abbrev pub expired_behind_the_end : Worked
@@ -66,7 +78,8 @@ abbrev pub expiry_over_a_mark : Worked
 expiry_over_a_mark = record {
   items = Sent A (begin None (Some (invoke 45 ∷ []))) ∷ Sent B (end_to 1 (Some (result ∷ []))) ∷ Item.Quiet
       ∷ Sent A (begin None (Some (invoke 45 ∷ []))) ∷ [];
-  certificate = record (by_fates (Gap 1 ∷ Gap 2 ∷ Gap 3 ∷ Gap 4 ∷ [])) { expire = record { gap = 4; side = A; entry = 0; component = 0 } ∷ [] };
+  certificate = record (by_fates (Gap 1 ∷ Gap 2 ∷ Gap 3 ∷ Gap 4 ∷ []))
+      { expire = record { gap = 4; side = A; entry = 0; component = 0 } ∷ [] };
   events = begins ∷ Receives B 0 ∷ Sends B (end_to 1 (Some (result ∷ []))) ∷ Receives A 1 ∷ Quiet ∷ begins
       ∷ Expires A (Own (id 1)) (pos 1) ∷ Receives B 3 ∷ [];
 }
@@ -76,5 +89,6 @@ abbrev pub expiry_not_listed : Worked
 expiry_not_listed = record {
   items = Sent A (begin None (Some (invoke 45 ∷ []))) ∷ Sent A (Begin (id 3) None (Some (invoke 45 ∷ []))) ∷ [];
   certificate = by_fates (Gap 1 ∷ Gap 2 ∷ []);
-  events = begins ∷ Receives B 0 ∷ Expires A (Own (id 1)) (pos 1) ∷ Sends A (Begin (id 3) None (Some (invoke 45 ∷ []))) ∷ Receives B 1 ∷ [];
+  events = begins ∷ Receives B 0 ∷ Expires A (Own (id 1)) (pos 1) ∷ Sends A (Begin (id 3) None (Some (invoke 45 ∷ [])))
+      ∷ Receives B 1 ∷ [];
 }

@@ -47,7 +47,8 @@ abbrev pub two_entries : Worked
 two_entries = record {
   items = Sent A (begin None (Some (invoke 45 ∷ []))) ∷ Sent B (end_to 1 (Some (result ∷ []))) ∷ [];
   certificate = by_fates (Gap 1 ∷ Gap 2 ∷ []);
-  events = Sends A (begin None (Some (invoke 45 ∷ []))) ∷ Receives B 0 ∷ Sends B (end_to 1 (Some (result ∷ []))) ∷ Receives A 1 ∷ [];
+  events = Sends A (begin None (Some (invoke 45 ∷ []))) ∷ Receives B 0 ∷ Sends B (end_to 1 (Some (result ∷ [])))
+      ∷ Receives A 1 ∷ [];
 }
 
 -- a dialogue: a Begin requests it, a Continue accepts it, an End ends it
@@ -55,7 +56,8 @@ abbrev pub three_entries : Worked
 three_entries = record {
   items = dialogue_items;
   certificate = by_fates (Gap 1 ∷ Gap 2 ∷ Gap 3 ∷ []);
-  events = Sends A (begin request (Some (invoke 45 ∷ []))) ∷ Receives B 0 ∷ Sends B (answer accepting (Some (result ∷ []))) ∷ Receives A 1
+  events = Sends A (begin request (Some (invoke 45 ∷ []))) ∷ Receives B 0
+      ∷ Sends B (answer accepting (Some (result ∷ []))) ∷ Receives A 1
       ∷ Sends A (end_to 2 None) ∷ Receives B 2 ∷ [];
 }
 
@@ -64,7 +66,8 @@ abbrev pub crossing : Worked
 crossing = record {
   items = crossing_items;
   certificate = by_fates (Gap 1 ∷ Gap 2 ∷ Gap 4 ∷ By 4 ∷ Gap 5 ∷ []);
-  events = Sends A (begin None None) ∷ Receives B 0 ∷ Sends B (answer None None) ∷ Receives A 1 ∷ Sends A (end_to 2 None)
+  events =
+      Sends A (begin None None) ∷ Receives B 0 ∷ Sends B (answer None None) ∷ Receives A 1 ∷ Sends A (end_to 2 None)
       ∷ Sends B (answer None None) ∷ Receives B 2 ∷ Replies A 3 ∷ Receives B 4 ∷ [];
 }
 
@@ -73,20 +76,24 @@ abbrev pub late_reject : Worked
 late_reject = record {
   items = Sent A (begin None (Some (invoke 45 ∷ []))) ∷ Sent B (answer None (Some (result ∷ [])))
       ∷ Sent A (end_to 2 (Some (rejects_result 0 ∷ []))) ∷ [];
-  certificate = record (by_fates (Gap 1 ∷ Gap 2 ∷ Gap 3 ∷ [])) { expire = record { gap = 2; side = A; entry = 0; component = 0 } ∷ [] };
+  certificate = record (by_fates (Gap 1 ∷ Gap 2 ∷ Gap 3 ∷ []))
+      { expire = record { gap = 2; side = A; entry = 0; component = 0 } ∷ [] };
   events = Sends A (begin None (Some (invoke 45 ∷ []))) ∷ Receives B 0 ∷ Sends B (answer None (Some (result ∷ [])))
-      ∷ Expires A (Own (id 1)) (pos 1) ∷ Receives A 1 ∷ Sends A (end_to 2 (Some (rejects_result 0 ∷ []))) ∷ Receives B 2 ∷ [];
+      ∷ Expires A (Own (id 1)) (pos 1) ∷ Receives A 1 ∷ Sends A (end_to 2 (Some (rejects_result 0 ∷ []))) ∷ Receives B 2
+      ∷ [];
 }
 
 -- B's result comes late: A's invocation has ended, and A uses its ID again for an operation that reports no success, so
 -- A rejects the result
 abbrev pub delayed : Worked
 delayed = record {
-  items = Sent A (begin None (Some (invoke 45 ∷ []))) ∷ Sent B (answer None None) ∷ Sent B (answer None (Some (result ∷ [])))
+  items = Sent A (begin None (Some (invoke 45 ∷ []))) ∷ Sent B (answer None None)
+      ∷ Sent B (answer None (Some (result ∷ [])))
       ∷ Sent A (further (invoke 46)) ∷ Sent A (further (rejects_result 1)) ∷ [];
   certificate = by_fates (Gap 1 ∷ Gap 2 ∷ Gap 4 ∷ Gap 4 ∷ Gap 5 ∷ []);
   events = Sends A (begin None (Some (invoke 45 ∷ []))) ∷ Receives B 0 ∷ Sends B (answer None None) ∷ Receives A 1
-      ∷ Sends B (answer None (Some (result ∷ []))) ∷ Expires A (Own (id 1)) (pos 1) ∷ Sends A (further (invoke 46)) ∷ Receives A 2
+      ∷ Sends B (answer None (Some (result ∷ []))) ∷ Expires A (Own (id 1)) (pos 1) ∷ Sends A (further (invoke 46))
+      ∷ Receives A 2
       ∷ Receives B 3 ∷ Sends A (further (rejects_result 1)) ∷ Receives B 4 ∷ [];
 }
 
@@ -95,7 +102,8 @@ abbrev pub closed_half : Worked
 closed_half = record {
   items = Sent A (begin None None) ∷ Sent B (answer None None) ∷ Sent A (provider_abort (id 2) 1) ∷ [];
   certificate = record (by_fates (Gap 1 ∷ By 2 ∷ Gap 3 ∷ [])) { close = record { gap = 2; side = A; entry = 0 } ∷ [] };
-  events = Sends A (begin None None) ∷ Receives B 0 ∷ Sends B (answer None None) ∷ Closes A (Own (id 1)) ∷ Replies A 1 ∷ Receives B 2 ∷ [];
+  events = Sends A (begin None None) ∷ Receives B 0 ∷ Sends B (answer None None) ∷ Closes A (Own (id 1)) ∷ Replies A 1
+      ∷ Receives B 2 ∷ [];
 }
 
 -- B's provider answers A's Begin with an Abort of cause 4
@@ -119,8 +127,10 @@ abbrev pub over_a_mark : Worked
 over_a_mark = record {
   items = over_a_mark_items;
   certificate = by_fates (Gap 1 ∷ Gap 2 ∷ Gap 3 ∷ Gap 4 ∷ Gap 5 ∷ []);
-  events = Sends A (begin None (Some (invoke 45 ∷ []))) ∷ Receives B 0 ∷ Sends B (end_to 1 (Some (result ∷ []))) ∷ Receives A 1 ∷ Quiet
-      ∷ Sends A (begin None (Some (invoke 45 ∷ []))) ∷ Receives B 3 ∷ Sends B (end_to 1 (Some (result ∷ []))) ∷ Receives A 4 ∷ [];
+  events = Sends A (begin None (Some (invoke 45 ∷ []))) ∷ Receives B 0 ∷ Sends B (end_to 1 (Some (result ∷ [])))
+      ∷ Receives A 1 ∷ Quiet
+      ∷ Sends A (begin None (Some (invoke 45 ∷ []))) ∷ Receives B 3 ∷ Sends B (end_to 1 (Some (result ∷ [])))
+      ∷ Receives A 4 ∷ [];
 }
 
 -- after a quiet mark, both ends use their transaction IDs again
@@ -129,8 +139,10 @@ both_again = record {
   items = Sent A (begin None None) ∷ Sent B (answer None None) ∷ Sent A (end_to 2 None) ∷ Item.Quiet
       ∷ Sent A (begin None None) ∷ Sent B (answer None None) ∷ Sent A (end_to 2 None) ∷ [];
   certificate = by_fates (Gap 1 ∷ Gap 2 ∷ Gap 3 ∷ Gap 4 ∷ Gap 5 ∷ Gap 6 ∷ Gap 7 ∷ []);
-  events = Sends A (begin None None) ∷ Receives B 0 ∷ Sends B (answer None None) ∷ Receives A 1 ∷ Sends A (end_to 2 None) ∷ Receives B 2
-      ∷ Quiet ∷ Sends A (begin None None) ∷ Receives B 4 ∷ Sends B (answer None None) ∷ Receives A 5 ∷ Sends A (end_to 2 None)
+  events = Sends A (begin None None) ∷ Receives B 0 ∷ Sends B (answer None None) ∷ Receives A 1
+      ∷ Sends A (end_to 2 None) ∷ Receives B 2
+      ∷ Quiet ∷ Sends A (begin None None) ∷ Receives B 4 ∷ Sends B (answer None None) ∷ Receives A 5
+      ∷ Sends A (end_to 2 None)
       ∷ Receives B 6 ∷ [];
 }
 
@@ -145,7 +157,8 @@ in_a_row = record {
 -- B's End invokes an ID again, which implies an expiry in the half with this peer ID
 abbrev pub end_implies : Worked
 end_implies = record {
-  items = Sent A (begin None None) ∷ Sent B (answer None (Some (invoke 45 ∷ []))) ∷ Sent B (end_to 1 (Some (invoke 45 ∷ []))) ∷ [];
+  items = Sent A (begin None None) ∷ Sent B (answer None (Some (invoke 45 ∷ [])))
+      ∷ Sent B (end_to 1 (Some (invoke 45 ∷ []))) ∷ [];
   certificate = by_fates (Gap 1 ∷ Gap 2 ∷ Gap 3 ∷ []);
   events = Sends A (begin None None) ∷ Receives B 0 ∷ Sends B (answer None (Some (invoke 45 ∷ []))) ∷ Receives A 1
       ∷ Expires B (Peer (id 1)) (pos 1) ∷ Sends B (end_to 1 (Some (invoke 45 ∷ []))) ∷ Receives A 2 ∷ [];
@@ -155,12 +168,14 @@ end_implies = record {
 -- before.
 abbrev pub both_close : Worked
 both_close = record {
-  items = Sent A (begin None None) ∷ Sent B (answer None None) ∷ Sent B (Unidirectional None (invoke 48 ∷ [])) ∷ Item.Quiet ∷ [];
+  items = Sent A (begin None None) ∷ Sent B (answer None None) ∷ Sent B (Unidirectional None (invoke 48 ∷ []))
+      ∷ Item.Quiet ∷ [];
   certificate = record (by_fates (Gap 1 ∷ Gap 2 ∷ Gap 3 ∷ Gap 4 ∷ [])) {
     close = record { gap = 3; side = A; entry = 0 } ∷ record { gap = 3; side = B; entry = 0 } ∷ [];
   };
   events = Sends A (begin None None) ∷ Receives B 0 ∷ Sends B (answer None None) ∷ Receives A 1
-      ∷ Sends B (Unidirectional None (invoke 48 ∷ [])) ∷ Closes A (Own (id 1)) ∷ Closes B (Peer (id 1)) ∷ Receives A 2 ∷ Quiet ∷ [];
+      ∷ Sends B (Unidirectional None (invoke 48 ∷ [])) ∷ Closes A (Own (id 1)) ∷ Closes B (Peer (id 1)) ∷ Receives A 2
+      ∷ Quiet ∷ [];
 }
 
 -- A's Continue invokes an ID again, and the run names the half in which the earlier invocation expires by its peer's
@@ -198,7 +213,8 @@ continues_behind_its_end = record {
   side = A;
   items = Sent B (begin None None) ∷ Sent A (answer None None) ∷ Sent B (end_to 2 None)
       ∷ Sent B (Continue (id 1) (id 2) None None) ∷ Sent A (provider_abort (id 1) 1) ∷ [];
-  events = Tells B (begin None None) ∷ Receives A 0 ∷ Sends A (answer None None) ∷ Tells B (end_to 2 None) ∷ Receives A 2
+  events =
+      Tells B (begin None None) ∷ Receives A 0 ∷ Sends A (answer None None) ∷ Tells B (end_to 2 None) ∷ Receives A 2
       ∷ Tells B (Continue (id 1) (id 2) None None) ∷ Replies A 3 ∷ [];
 }
 

@@ -35,10 +35,12 @@ use Rattle.tcap_certificate.specs.LossCounts.{steps_of, unheard_of}
 -- the replay after one more entry
 abbrev pub taken_next : Option Side → Table → Certificate → Result Item Reason → Replay → Result Replay CheckFault
 taken_next judged table c entry r =
-    ok_or (slice_get c.fates (next_entry r)) (fault_at FateCount (next_entry r)) >>= λ fate. entry_by judged table c fate entry r
+    ok_or (slice_get c.fates (next_entry r)) (fault_at FateCount (next_entry r))
+    >>= λ fate. entry_by judged table c fate entry r
 
 -- the replay after these further entries
-abbrev pub taken_from : Option Side → Table → Certificate → List (Result Item Reason) → Replay → Result Replay CheckFault
+abbrev pub taken_from : Option Side → Table → Certificate → List (Result Item Reason) → Replay
+    → Result Replay CheckFault
 taken_from judged table c [] r = Ok r
 taken_from judged table c (entry ∷ entries) r = taken_next judged table c entry r >>= taken_from judged table c entries
 
@@ -176,7 +178,8 @@ tied_now (Some judged) c k = sent_among (other judged) k.entries (taken_by (leng
 -- the progress after the next entry, with this fate, and the gap before it
 abbrev pub item_kept : Option Side → Table → Certificate → Fate → Item → ReplayState → Result Progress CheckFault
 item_kept judged table c fate (Sent side message) k =
-    needs (is_alone judged side || not (overtakes fate (side_at side k.progress))) (fault_at OutOfOrder (length k.entries))
+    needs (is_alone judged side || not (overtakes fate (side_at side k.progress)))
+    (fault_at OutOfOrder (length k.entries))
     >> gap_before judged table c k
     >>= message_taken judged table side fate (length k.entries) message (tied_now judged c k)
 item_kept judged table c fate Item.Quiet k =

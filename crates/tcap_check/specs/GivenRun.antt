@@ -88,13 +88,15 @@ IsOutside count entry gap = (gap ≤ entry) ⊎ (count < gap)
 -- quiet mark comes between.
 abbrev pub IsNoClosing : Option Side → ℕ → List Entry → Closing → Type 0
 IsNoClosing judged count entries x = IsOutside count x.entry x.gap
-    ⊎ ((items : List Item) × AreItems (take x.gap entries) items × (is_judged judged x.side ≡ true) × (closing_event items x ≡ None))
+    ⊎ ((items : List Item) × AreItems (take x.gap entries) items × (is_judged judged x.side ≡ true)
+    × (closing_event items x ≡ None))
 
 -- An expiry is out of range. Or it is of a judged end and, after the items before its gap, it names no Invoke in a
 -- Begin or Continue of its end, or a quiet mark comes between.
 abbrev pub IsNoExpiry : Option Side → ℕ → List Entry → Expiry → Type 0
 IsNoExpiry judged count entries x = IsOutside count x.entry x.gap
-    ⊎ ((items : List Item) × AreItems (take x.gap entries) items × (is_judged judged x.side ≡ true) × (expiry_event items x ≡ None))
+    ⊎ ((items : List Item) × AreItems (take x.gap entries) items × (is_judged judged x.side ≡ true)
+    × (expiry_event items x ≡ None))
 
 -- A fate is out of range, or it is the fate of a quiet mark and is not the next gap.
 abbrev pub IsNoFate : ℕ → List Entry → ℕ → Fate → Type 0
@@ -204,6 +206,7 @@ SaysLawful (Some judged) items table report = IsLawfulUnheard judged items table
 -- and one for each listed event. A run of one end has at most three steps for each item and one for each component, and
 -- at most as many unheard messages as items.
 abbrev pub IsBounded : Option Side → Certificate → List Item → Report → Type 0
-IsBounded None c items report = report.moves ≤ 2 * length items + count_components items + length c.expire + length c.close
+IsBounded None c items report =
+    report.moves ≤ 2 * length items + count_components items + length c.expire + length c.close
 IsBounded (Some judged) c items report =
     (report.moves ≤ 3 * length items + count_components items) × (report.unheard ≤ length items)

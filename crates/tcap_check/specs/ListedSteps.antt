@@ -33,7 +33,8 @@ entry_of (listings.Expires x) = x.entry
 -- the events listed for a gap: its closings, then its expiries, each in listed order
 abbrev pub listed_in : Certificate → ℕ → List ListedStep
 listed_in c gap =
-    map listings.Closes (filter (λ x. x.gap == gap) c.close) ++ map listings.Expires (filter (λ x. x.gap == gap) c.expire)
+    map listings.Closes (filter (λ x. x.gap == gap) c.close)
+    ++ map listings.Expires (filter (λ x. x.gap == gap) c.expire)
 
 -- the listed events of judged ends
 abbrev pub listed_judged : Option Side → List ListedStep → List ListedStep

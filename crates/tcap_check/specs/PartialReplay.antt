@@ -34,7 +34,8 @@ as_far step (x ∷ more) a = behind_or (step x a) a (as_far step more)
 
 -- the replay after the losses before a message, if the message is due in the gap
 abbrev pub losses_before : Option Side → Certificate → ℕ → Fate → Item → Replay → Replay
-losses_before judged c gap (Gap g) (Sent sender message) r = cond (is_due judged gap g sender) (lost_from_front c sender r) r
+losses_before judged c gap (Gap g) (Sent sender message) r =
+    cond (is_due judged gap g sender) (lost_from_front c sender r) r
 losses_before judged c gap _ _ r = r
 
 -- the replay after the deliveries of a gap, up to the first that cannot happen, with the losses before that one
@@ -59,7 +60,8 @@ gap_so_far judged table c r =
 
 -- the replay after the expiries that a message implies, or after the losses before the message that a provider answers
 abbrev pub message_so_far : Table → Certificate → Side → Message → Option Event → Replay → Replay
-message_so_far table c side message (Some (Sends sender sent)) r = implied_over table side message (invoking_half message) r
+message_so_far table c side message (Some (Sends sender sent)) r =
+    implied_over table side message (invoking_half message) r
 message_so_far table c side message (Some (Replies replier number)) r = lost_from_front c (other side) r
 message_so_far table c side message _ r = r
 
@@ -93,7 +95,8 @@ item_so_far judged table c fate (Sent sender message) r =
     cond (is_alone judged sender || not (is_overtaking sender fate c.fates r.world.sent))
     (behind_or (gap_by judged table c r) (gap_so_far judged table c r) (sending_so_far judged table c sender message)) r
 item_so_far judged table c fate Item.Quiet r =
-    cond (is_gap (next_entry r + 1) fate) (behind_or (gap_by judged table c r) (gap_so_far judged table c r) (mark_so_far judged table c)) r
+    cond (is_gap (next_entry r + 1) fate)
+    (behind_or (gap_by judged table c r) (gap_so_far judged table c r) (mark_so_far judged table c)) r
 
 -- the replay before the next entry, if it has a fate
 abbrev pub fated_so_far : Option Side → Table → Certificate → Option Fate → Item → Replay → Replay

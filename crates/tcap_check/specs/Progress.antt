@@ -194,7 +194,8 @@ invocation_ends table x invocation p =
 -- the progress after a listed expiry
 abbrev pub expiry_kept : Table → List Outline → ℕ → Expiry → Progress → Result Progress CheckFault
 expiry_kept table entries since x p =
-    ok_or (invocation_ended entries since x) (fault_at FateRange x.entry) >>= λ invocation. invocation_ends table x invocation p
+    ok_or (invocation_ended entries since x) (fault_at FateRange x.entry)
+    >>= λ invocation. invocation_ends table x invocation p
 
 -- the progress after a listed event
 abbrev pub listed_kept : Table → List Outline → ℕ → ListedStep → Progress → Result Progress CheckFault
@@ -243,7 +244,8 @@ sending (ways.Replies number) side message = Replies side number
 
 -- the progress after this event sends a message
 abbrev pub sent_by : Event → Side → Fate → ℕ → Message → Progress → Progress
-sent_by event side fate number message p = moved event (with_side side (side_with fate number message (side_at side p)) p)
+sent_by event side fate number message p =
+    moved event (with_side side (side_with fate number message (side_at side p)) p)
 
 -- the progress after a step with this result, or unchanged if the end refuses the step
 abbrev pub or_still : Side → Event → Progress → Result End EndFault → Progress
@@ -272,7 +274,8 @@ ids_ended_over table side (Some name) ids p = ids_ended table side name ids p
 
 -- the progress after an end sends a message with this result, or the reason why it may not
 abbrev pub sent_or_not : Side → Fate → ℕ → Message → Progress → Result End EndFault → Result Progress CheckFault
-sent_or_not side fate number message p (Ok e) = Ok (sent_by (Sends side message) side fate number message (with_side_end side e p))
+sent_or_not side fate number message p (Ok e) =
+    Ok (sent_by (Sends side message) side fate number message (with_side_end side e p))
 sent_or_not side fate number message p (Err reason) = refused (SendRefused reason) number
 
 -- the progress after an end sends a message, and after the expiries that the message implies
@@ -307,7 +310,8 @@ reply_kept judged side fate number abort taken p =
 
 -- The progress after a message that takes these messages. A provider's Abort takes exactly one message; any other
 -- message takes none.
-abbrev pub message_kept : Option Side → Table → Side → Fate → ℕ → Message → List ℕ → Progress → Result Progress CheckFault
+abbrev pub message_kept : Option Side → Table → Side → Fate → ℕ → Message → List ℕ → Progress
+    → Result Progress CheckFault
 message_kept judged table side fate number (Abort dtid (Some (Cause cause))) (taken ∷ []) p =
     reply_kept judged side fate number (Abort dtid (Some (Cause cause))) taken p
 message_kept judged table side fate number (Abort dtid (Some (Cause cause))) _ p = refused BadReply number

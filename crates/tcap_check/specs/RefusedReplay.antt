@@ -75,12 +75,14 @@ message_left judged table side message (taken ∷ more) p = p
 
 -- the progress before any end sends a message; nothing happens before a message of a peer that is not judged
 abbrev pub taken_left : Option Side → Table → Side → Message → List ℕ → Progress → Progress
-taken_left judged table side message takes p = cond (is_judged judged side) (message_left judged table side message takes p) p
+taken_left judged table side message takes p =
+    cond (is_judged judged side) (message_left judged table side message takes p) p
 
 -- the progress after these halves close before a quiet mark, up to the first that cannot close
 abbrev pub halves_left : Side → Table → ℕ → List HalfName → Progress → Progress
 halves_left side table number =
-    as_far (λ name p. end_moved side (Closes side name) (fault_at NotQuiet number) p (close table (side_at side p).end name))
+    as_far (λ name p.
+    end_moved side (Closes side name) (fault_at NotQuiet number) p (close table (side_at side p).end name))
 
 -- the progress after the closings and losses before a quiet mark, up to the first closing that cannot happen
 abbrev pub quiet_left : Option Side → Table → ℕ → Progress → Progress
@@ -118,7 +120,8 @@ entry_left judged table c (Err reason) k = k.progress
 -- the progress after the last gap and the losses after it, up to the first step that cannot happen
 abbrev pub end_left : Option Side → Table → Certificate → ReplayState → Progress
 end_left judged table c k = cond (length k.entries == length c.fates)
-    (behind_or (gap_before judged table c k) (gap_left judged table c k.entries k.since k.progress) (last_lost judged)) k.progress
+    (behind_or (gap_before judged table c k) (gap_left judged table c k.entries k.since k.progress) (last_lost judged))
+    k.progress
 
 -- The steps are listed.
 abbrev pub IsListing : Progress → Type 0

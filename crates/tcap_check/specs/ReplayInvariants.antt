@@ -11,7 +11,8 @@ kept_in x = record { progress = x.progress; entries = x.entries.items; since = x
 
 -- the `CheckerState` that this replay implements
 abbrev pub checking_of : Replaying → CheckerState
-checking_of x = record { judged = x.judged; table = x.table.now; certificate = x.certificate.now; so_far = Ok (kept_in x) }
+checking_of x =
+    record { judged = x.judged; table = x.table.now; certificate = x.certificate.now; so_far = Ok (kept_in x) }
 
 -- The replay follows its certificate's plan. Each entry so far has a fate, and there are at most 100,000 fates. The
 -- steps and unheard messages, with those that may still come, are bounded by the number of entries.

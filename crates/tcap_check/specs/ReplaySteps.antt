@@ -125,7 +125,8 @@ peer_message_taken side fate number message takes p =
     needs (is_nothing takes) (fault_at BadReply number) >> Ok (sent_by (Tells side message) side fate number message p)
 
 -- the progress after a message with this number and fate, which takes these messages
-abbrev pub message_taken : Option Side → Table → Side → Fate → ℕ → Message → List ℕ → Progress → Result Progress CheckFault
+abbrev pub message_taken : Option Side → Table → Side → Fate → ℕ → Message → List ℕ → Progress
+    → Result Progress CheckFault
 message_taken judged table side fate number message takes p =
     cond (is_judged judged side) (own_taken judged table side fate number message takes p)
     (peer_message_taken side fate number message takes p)
@@ -163,7 +164,8 @@ halves_shut side table number (name ∷ more) p =
 -- quiet
 abbrev pub alone_marked : Side → Table → ℕ → Progress → Result Progress CheckFault
 alone_marked side table number p =
-    halves_shut side table number (open_halves (side_at side p).end) p >>= λ closed. quiet_kept number (last_lost (Some side) closed)
+    halves_shut side table number (open_halves (side_at side p).end) p
+    >>= λ closed. quiet_kept number (last_lost (Some side) closed)
 
 -- the progress after a quiet mark, which takes no message: after the closings and losses before it, all is quiet
 abbrev pub mark_taken : Option Side → Table → ℕ → List ℕ → Progress → Result Progress CheckFault

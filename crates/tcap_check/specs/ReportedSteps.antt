@@ -78,7 +78,8 @@ MayAllBeDiscarded judged c discards = AllByRecursion (λ x. MayBeDiscarded judge
 
 -- These events lose the peer's message with this number when it is the oldest on its way to this end. The end cannot
 -- receive the message then, for this reason.
-pub record IsDiscarded (side : Side) (table : Table) (events : List Event) (number : ℕ) (reason : EndFault) : Type 0 where
+pub record IsDiscarded (side : Side) (table : Table) (events : List Event) (number : ℕ) (reason : EndFault) : Type
+    0 where
   pub before : List Event
   pub behind : List Event
   pub world : World

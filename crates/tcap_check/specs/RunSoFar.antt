@@ -66,7 +66,8 @@ refusal_to_send reason = None
 abbrev pub ShowsSend : Table → Side → ℕ → Message → Result (Unit {0}) CheckFault → Progress → Type 0
 ShowsSend table side number message (Ok done) left = Unit {0}
 ShowsSend table side number message (Err fault) left =
-    IfSome (refusal_to_send fault.reason) (λ reason. (fault.entry ≡ number) × (send table (side_at side left).end message ≡ Err reason))
+    IfSome (refusal_to_send fault.reason)
+    (λ reason. (fault.entry ≡ number) × (send table (side_at side left).end message ≡ Err reason))
 
 -- `ShowsSend` for an entry that may be no message. If it is no message, no send is refused.
 abbrev pub ShowsItem : Table → ℕ → Result Item Reason → Result (Unit {0}) CheckFault → Progress → Type 0
@@ -85,7 +86,8 @@ pub record TakesFirst (judged : Option Side) (table : Table) (c : Certificate) (
   pub within : count ≤ length entries
   pub front : Replay
   pub takes : taken judged table c (map item_of (take count entries)) ≡ Ok front
-  pub no_more : count < length entries → (fault : CheckFault) × (taken judged table c (map item_of (take (count + 1) entries)) ≡ Err fault)
+  pub no_more : count < length entries → (fault : CheckFault)
+      × (taken judged table c (map item_of (take (count + 1) entries)) ≡ Err fault)
 
 -- the replay after the entries that it takes, and after the next one up to the first step that cannot happen
 abbrev pub stopped_at : Option Side → Table → Certificate → List Entry → ℕ → Replay → Replay
@@ -108,7 +110,8 @@ of_side sides.B a b = b
 -- If a certificate is refused since an end may not send an entry, that end, as returned, refuses to send the message
 -- for the same reason.
 abbrev pub IsRefusedThere : Table → List Entry → CheckFault → End → End → Type 0
-IsRefusedThere table entries fault a b = IfSome (refusal_to_send fault.reason) (λ reason. (side : Side) × (message : Message)
+IsRefusedThere table entries fault a b =
+    IfSome (refusal_to_send fault.reason) (λ reason. (side : Side) × (message : Message)
     × IsAt entries fault.entry (Sent side message) × (send table (of_side side a b) message ≡ Err reason))
 
 -- If a call is refused since an end may not send an entry, the kept ends show it (`IsRefusedThere`).
@@ -123,7 +126,8 @@ answered (Some fault) run = Err fault
 
 -- The answer is the steps of a run that sends these entries, with its discards, or the first reason why the certificate
 -- gives none.
-pub record IsAnswered (judged : Option Side) (table : Table) (c : Certificate) (entries : List Entry) (answer : Result (List Step) CheckFault) : Type 0 where
+pub record IsAnswered (judged : Option Side) (table : Table) (c : Certificate) (entries : List Entry)
+    (answer : Result (List Step) CheckFault) : Type 0 where
   pub given : IfOk answer (λ steps. IsGivenTo judged table c entries (events_of steps))
   pub exact : map_ok events_of answer ≡ replayed_by judged table c entries
   pub discards : map_ok discards_of answer ≡ discards_by judged table c (map item_of entries)
@@ -131,7 +135,8 @@ pub record IsAnswered (judged : Option Side) (table : Table) (c : Certificate) (
 
 -- If the replay of these entries ends with this result and lists these steps, then the answer is these steps, or the
 -- fault of the result.
-abbrev pub EndsListed : Option Side → Table → Certificate → List Entry → Result (Unit {0}) CheckFault → Progress → Type 0
+abbrev pub EndsListed : Option Side → Table → Certificate → List Entry → Result (Unit {0}) CheckFault → Progress
+    → Type 0
 EndsListed judged table c entries result p = (steps : List Step) → p.steps ≡ Some (listed_run_of steps)
     → IsAnswered judged table c entries (map_ok (λ done. steps) result)
 
@@ -139,7 +144,8 @@ EndsListed judged table c entries result p = (steps : List Step) → p.steps ≡
 -- that the replay takes, which come first, and then those before the next entry, or before the end of the record. The
 -- run sends exactly the entries that are taken. The discards account for its losses. `a` and `b` are the ends after
 -- these steps.
-pub record IsSoFar (judged : Option Side) (table : Table) (c : Certificate) (entries : List Entry) (steps : List Step) (a b : End) : Type 0 where
+pub record IsSoFar (judged : Option Side) (table : Table) (c : Certificate) (entries : List Entry) (steps : List Step)
+    (a b : End) : Type 0 where
   pub count : ℕ
   pub goes : TakesFirst judged table c entries count
   pub left : Replay

@@ -52,7 +52,8 @@ expiry_after_a_refused_one = record {
   judged = None;
   items = Sent A two_invokes ∷ Sent B (end_to 1 None) ∷ [];
   certificate = record (by_fates (Gap 1 ∷ Gap 2 ∷ [])) {
-    expire = record { gap = 1; side = A; entry = 0; component = 0 } ∷ record { gap = 1; side = A; entry = 0; component = 0 }
+    expire =
+        record { gap = 1; side = A; entry = 0; component = 0 } ∷ record { gap = 1; side = A; entry = 0; component = 0 }
         ∷ record { gap = 1; side = A; entry = 0; component = 1 } ∷ [];
   };
   count = 1;
@@ -68,7 +69,8 @@ expiry_after_a_refused_closing = record {
   items = Sent A (begin None None) ∷ Sent A (Begin (id 3) None (Some (invoke 45 ∷ []))) ∷ [];
   certificate = record {
     fates = Gap 2 ∷ Gap 2 ∷ [];
-    close = record { gap = 2; side = A; entry = 0 } ∷ record { gap = 2; side = A; entry = 0 } ∷ record { gap = 2; side = A; entry = 1 } ∷ [];
+    close = record { gap = 2; side = A; entry = 0 } ∷ record { gap = 2; side = A; entry = 0 }
+        ∷ record { gap = 2; side = A; entry = 1 } ∷ [];
     expire = record { gap = 2; side = A; entry = 1; component = 0 } ∷ [];
   };
   count = 2;
@@ -81,10 +83,12 @@ expiry_after_a_refused_closing = record {
 abbrev pub delivery_after_its_losses : WorkedSoFar
 delivery_after_its_losses = record {
   judged = None;
-  items = Sent A (begin None None) ∷ Sent B (answer None None) ∷ Sent A (end_to 2 None) ∷ Sent B (answer None None) ∷ Sent B (answer None None) ∷ [];
+  items = Sent A (begin None None) ∷ Sent B (answer None None) ∷ Sent A (end_to 2 None) ∷ Sent B (answer None None)
+      ∷ Sent B (answer None None) ∷ [];
   certificate = by_fates (Gap 1 ∷ Gap 2 ∷ Gap 5 ∷ Lost ∷ Gap 5 ∷ []);
   count = 5;
-  events = Sends A (begin None None) ∷ Receives B 0 ∷ Sends B (answer None None) ∷ Receives A 1 ∷ Sends A (end_to 2 None)
+  events =
+      Sends A (begin None None) ∷ Receives B 0 ∷ Sends B (answer None None) ∷ Receives A 1 ∷ Sends A (end_to 2 None)
       ∷ Sends B (answer None None) ∷ Sends B (answer None None) ∷ Receives B 2 ∷ Loses B 3 ∷ [];
   discards = [];
 }
@@ -111,7 +115,8 @@ reply_after_its_losses = record {
       ∷ Sent A (provider_abort (id 2) 1) ∷ [];
   certificate = by_fates (Gap 1 ∷ Gap 2 ∷ Lost ∷ By 4 ∷ Gap 5 ∷ []);
   count = 4;
-  events = Sends A (begin None None) ∷ Receives B 0 ∷ Sends B (answer None None) ∷ Receives A 1 ∷ Sends B (answer None None)
+  events =
+      Sends A (begin None None) ∷ Receives B 0 ∷ Sends B (answer None None) ∷ Receives A 1 ∷ Sends B (answer None None)
       ∷ Sends B (answer None None) ∷ Loses B 2 ∷ [];
   discards = [];
 }
@@ -146,11 +151,13 @@ send_after_a_discard = record {
 abbrev pub mark_after_a_half : WorkedSoFar
 mark_after_a_half = record {
   judged = Some A;
-  items = Sent A (begin None None) ∷ Sent A (Begin (id 3) None None) ∷ Sent B (Continue (id 2) (id 3) None None) ∷ Sent B (Begin (id 4) None None)
+  items = Sent A (begin None None) ∷ Sent A (Begin (id 3) None None) ∷ Sent B (Continue (id 2) (id 3) None None)
+      ∷ Sent B (Begin (id 4) None None)
       ∷ Item.Quiet ∷ [];
   certificate = by_fates (Gap 1 ∷ Gap 2 ∷ Gap 3 ∷ Lost ∷ Gap 5 ∷ []);
   count = 4;
-  events = Sends A (begin None None) ∷ Loses A 0 ∷ Sends A (Begin (id 3) None None) ∷ Loses A 1 ∷ Tells B (Continue (id 2) (id 3) None None)
+  events = Sends A (begin None None) ∷ Loses A 0 ∷ Sends A (Begin (id 3) None None) ∷ Loses A 1
+      ∷ Tells B (Continue (id 2) (id 3) None None)
       ∷ Receives A 2 ∷ Tells B (Begin (id 4) None None) ∷ Closes A (Own (id 1)) ∷ [];
   discards = [];
 }

@@ -235,7 +235,8 @@ impl<'a> Checker<'a> {
         ensures for_ever { (f : Refusal) → self.entry.so_far ≡ Err f → result ≡ Err f }
         ensures finished { (entries : List (Result Item Why)) → HasTaken self.entry entries
             → result ≢ Err (fault_at reasons.Memory 0)
-            → result ≡ map_ok (reported self.entry.judged) (run_by self.entry.judged self.entry.table self.entry.certificate entries) }
+            → result ≡ map_ok (reported self.entry.judged)
+            (run_by self.entry.judged self.entry.table self.entry.certificate entries) }
         ensures lawful { (entries : List (Result Item Why)) (report : Reported) → HasTaken self.entry entries
             → result ≡ Ok report
             → (items : List Item) × (map (λ item. Ok item) items ≡ entries)
@@ -246,7 +247,8 @@ impl<'a> Checker<'a> {
             → self.entry.judged ≡ None → result ≢ Err (fault_at reasons.Memory 0) → result ≡ Ok (reported None events) }
         ensures refuses { (entries : List Recorded) (f : Refusal) → HasTaken self.entry (map item_of entries)
             → result ≡ Err f
-            → f ≢ fault_at reasons.Memory 0 → ShowsReason self.entry.judged self.entry.table self.entry.certificate entries f }
+            → f ≢ fault_at reasons.Memory 0
+            → ShowsReason self.entry.judged self.entry.table self.entry.certificate entries f }
         ensures bound { (items : List Item) (report : Reported) → HasTaken self.entry (map (λ item. Ok item) items)
             → result ≡ Ok report
             → IsBounded self.entry.judged self.entry.certificate items report }

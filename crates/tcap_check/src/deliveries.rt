@@ -104,7 +104,8 @@ impl<'r> Progress<'r> {
     ) -> Result<(), CheckFault>
         requires no_overflow { self.old.moves + 1 < 2 ^ 128 }
         requires count { self.old.unheard + 1 < 2 ^ 64 }
-        ensures delivered { YieldsInMemory (first_received judged table.now sender number (side_at sender self.old).waiting self.old)
+        ensures delivered { YieldsInMemory
+            (first_received judged table.now sender number (side_at sender self.old).waiting self.old)
             result self.new }
         ensures left { Leaves self.old result self.new }
     {
@@ -159,7 +160,8 @@ impl<'r> Progress<'r> {
     ) -> Result<(), CheckFault>
         requires no_overflow { load self.old + 1 < 2 ^ 128 }
         requires count { unheard_load self.old + 1 < 2 ^ 64 }
-        ensures delivered { YieldsInMemory (deliveries_kept judged table.now entries.now numbers.now self.old) result self.new }
+        ensures delivered { YieldsInMemory (deliveries_kept judged table.now entries.now numbers.now self.old) result
+            self.new }
         ensures left { Leaves (deliveries_left judged table.now entries.now numbers.now self.old) result self.new }
         ensures grows { OnOk result (HasNoMore self.old self.new) }
     {
@@ -188,7 +190,8 @@ impl<'r> Progress<'r> {
         requires few { length certificate.now.fates ≤ 100000 }
         requires no_overflow { load self.old < 2 ^ 127 }
         requires count { unheard_load self.old < 2 ^ 63 }
-        ensures passed { YieldsInMemory (gap_kept judged table.now certificate.now entries.now since self.old) result self.new }
+        ensures passed { YieldsInMemory (gap_kept judged table.now certificate.now entries.now since self.old) result
+            self.new }
         ensures left { Leaves (gap_left judged table.now certificate.now entries.now since self.old) result self.new }
         ensures grows { OnOk result (GrewBy (2 ^ 66) 0 self.old self.new) }
     {

@@ -64,9 +64,11 @@ impl<'r> Progress<'r> {
         requires no_overflow { load self.old < 2 ^ 127 }
         requires count { unheard_load self.old < 2 ^ 63 }
         requires same { IfSome lent (λ lent. lent.now ≡ M.meaning message.now) }
-        ensures taken { YieldsInMemory (message_taken judged table.now side fate number (M.meaning message.now) takes.now self.old)
+        ensures taken { YieldsInMemory
+            (message_taken judged table.now side fate number (M.meaning message.now) takes.now self.old)
             result self.new }
-        ensures left { Leaves (taken_left judged table.now side (M.meaning message.now) takes.now self.old) result self.new }
+        ensures left { Leaves (taken_left judged table.now side (M.meaning message.now) takes.now self.old) result
+            self.new }
         ensures shows { ShowsSend table.now side number (M.meaning message.now) result self.new }
         ensures grows { OnOk result (GrewBy (2 ^ 65) 1 self.old self.new) }
     {

@@ -160,7 +160,8 @@ impl Progress<'_> {
         requires no_overflow { load self.old < 2 ^ 126 }
         requires count { unheard_load self.old < 2 ^ 63 }
         ensures taken { YieldsInMemory (mark_taken judged table.now number takes.now self.old) result self.new }
-        ensures left { IsListing self.old → Leaves (mark_left judged table.now number takes.now self.old) result self.new }
+        ensures left { IsListing self.old
+            → Leaves (mark_left judged table.now number takes.now self.old) result self.new }
         ensures grows { OnOk result (GrewBy (2 ^ 66) 0 self.old self.new) }
     {
         if !takes.is_empty() {

@@ -48,15 +48,19 @@ pub fn what_one_end_is_given_is_lawful()
 /// States that the run discards a message only when the message is the oldest on its way to the end. The end cannot
 /// receive the message then, for the reason that the discard gives.
 pub fn discards_have_reasons()
-    ensures { (side : Side) (table : Table) (c : Certificate) (entries : List Entry) (events : List Event) (discards : List (ℕ × EndFault))
-        → replayed_by (Some side) table c entries ≡ Ok events → discards_by (Some side) table c (map item_of entries) ≡ Ok discards
+    ensures { (side : Side) (table : Table) (c : Certificate) (entries : List Entry) (events : List Event)
+        (discards : List (ℕ × EndFault))
+        → replayed_by (Some side) table c entries ≡ Ok events
+        → discards_by (Some side) table c (map item_of entries) ≡ Ok discards
         → AllByRecursion (λ x. IsDiscarded side table events x.0 x.1) discards }
 {}
 
 /// States that each message of the peer that the run loses has a loss as its fate, or is among the discards.
 pub fn losses_are_reported()
-    ensures { (side : Side) (table : Table) (c : Certificate) (entries : List Entry) (events : List Event) (discards : List (ℕ × EndFault))
-        → replayed_by (Some side) table c entries ≡ Ok events → discards_by (Some side) table c (map item_of entries) ≡ Ok discards
+    ensures { (side : Side) (table : Table) (c : Certificate) (entries : List Entry) (events : List Event)
+        (discards : List (ℕ × EndFault))
+        → replayed_by (Some side) table c entries ≡ Ok events
+        → discards_by (Some side) table c (map item_of entries) ≡ Ok discards
         → (number : ℕ) → Contains events (Loses (other side) number) → IsReportedLoss c discards number }
 {}
 

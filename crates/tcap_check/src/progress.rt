@@ -269,8 +269,10 @@ impl<'r> Progress<'r> {
         listed: &[ListedStep],
     ) -> Result<(), CheckFault>
         requires no_overflow { self.old.moves + length listed.now < 2 ^ 128 }
-        ensures hidden { YieldsInMemory (all_kept table.now entries.now since (listed_judged judged listed.now) self.old) result self.new }
-        ensures left { Leaves (listed_left table.now entries.now since (listed_judged judged listed.now) self.old) result self.new }
+        ensures hidden { YieldsInMemory
+            (all_kept table.now entries.now since (listed_judged judged listed.now) self.old) result self.new }
+        ensures left { Leaves (listed_left table.now entries.now since (listed_judged judged listed.now) self.old)
+            result self.new }
     {
         for x in listed {
             if is_judged(judged, x.side()) {

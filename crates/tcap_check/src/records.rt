@@ -61,9 +61,11 @@ impl<'r> Replaying<'_, 'r> {
         requires ready { IsReady self.old }
         ensures taken { YieldsInMemory (kept_next self.old.judged self.old.table.now self.old.certificate.now
             (item_of entry.now) (kept_in self.old)) result (kept_in self.new) }
-        ensures left { IsListed self.old → Leaves (entry_left self.old.judged self.old.table.now self.old.certificate.now (item_of entry.now)
+        ensures left { IsListed self.old
+            → Leaves (entry_left self.old.judged self.old.table.now self.old.certificate.now (item_of entry.now)
             (kept_in self.old)) result self.new.progress }
-        ensures shows { ShowsItem self.old.table.now (length self.old.entries.items) (item_of entry.now) result self.new.progress }
+        ensures shows { ShowsItem self.old.table.now (length self.old.entries.items) (item_of entry.now) result
+            self.new.progress }
         ensures ready { OnOk result (IsReady self.new) }
         ensures judged { self.new.judged ≡ self.old.judged }
         ensures table { self.new.table ≡ self.old.table }
@@ -145,16 +147,20 @@ pub fn check(
     certificate: &Certificate,
     judged: Option<End>,
 ) -> Result<Report, CheckFault>
-    ensures lawful { (report : Reported) → result ≡ Ok report → (items : List Item) × AreItems «record».now.entries.items items
+    ensures lawful { (report : Reported) → result ≡ Ok report → (items : List Item)
+        × AreItems «record».now.entries.items items
         × SaysLawful judged items table.now report }
     ensures exact { result ≢ Err (fault_at reasons.Memory 0)
         → result ≡ map_ok (reported judged) (replayed_by judged table.now certificate.now «record».now.entries.items) }
-    ensures described { (items : List Item) (events : List Event) → AreItems «record».now.entries.items items → IsRunOf items table.now events
-        → IsDescribedBy table.now certificate.now items events → judged ≡ None → result ≢ Err (fault_at reasons.Memory 0)
+    ensures described { (items : List Item) (events : List Event) → AreItems «record».now.entries.items items
+        → IsRunOf items table.now events
+        → IsDescribedBy table.now certificate.now items events → judged ≡ None
+        → result ≢ Err (fault_at reasons.Memory 0)
         → result ≡ Ok (reported None events) }
     ensures refuses { (f : Refusal) → result ≡ Err f → f ≢ fault_at reasons.Memory 0
         → ShowsReason judged table.now certificate.now «record».now.entries.items f }
-    ensures bound { (items : List Item) (report : Reported) → AreItems «record».now.entries.items items → result ≡ Ok report
+    ensures bound { (items : List Item) (report : Reported) → AreItems «record».now.entries.items items
+        → result ≡ Ok report
         → IsBounded judged certificate.now items report }
 {
     replay(alloc, record, table, certificate, judged)

@@ -122,7 +122,8 @@ impl<'a, 'r> Replaying<'a, 'r> {
     fn tied_to(&self, judged: End) -> Result<Vec<u32>, CheckFault>
         requires plan { IsPlan self.now.certificate.now self.now.plan }
         requires within { length self.now.entries.items ≤ length self.now.certificate.now.fates }
-        ensures tied { IfOk result (λ tied. tied.items ≡ tied_now (Some judged) self.now.certificate.now (kept_in self.now)) }
+        ensures tied { IfOk result
+            (λ tied. tied.items ≡ tied_now (Some judged) self.now.certificate.now (kept_in self.now)) }
         ensures memory { (f : Refusal) → result ≡ Err f → f ≡ fault_at reasons.Memory 0 }
     {
         let takes = self.plan.taken.get(self.entries.len());
@@ -137,7 +138,8 @@ impl<'a, 'r> Replaying<'a, 'r> {
         requires ready { IsReady self.old }
         ensures passed { YieldsInMemory (gap_before self.old.judged self.old.table.now self.old.certificate.now
             (kept_in self.old)) result self.new.progress }
-        ensures left { Leaves (gap_left self.old.judged self.old.table.now self.old.certificate.now self.old.entries.items self.old.since
+        ensures left { Leaves
+            (gap_left self.old.judged self.old.table.now self.old.certificate.now self.old.entries.items self.old.since
             self.old.progress) result self.new.progress }
         ensures grows { OnOk result (GrewBy (2 ^ 66) 0 self.old.progress self.new.progress) }
         ensures others { IsSameBesideProgress self.old self.new }
@@ -193,12 +195,16 @@ impl<'a, 'r> Replaying<'a, 'r> {
         requires no_overflow { load self.old.progress < 2 ^ 127 }
         requires count { unheard_load self.old.progress < 2 ^ 63 }
         requires same { IfSome lent (λ lent. lent.now ≡ M.meaning message.now) }
-        ensures taken { YieldsInMemory (message_taken self.old.judged self.old.table.now side fate (length self.old.entries.items)
-            (M.meaning message.now) (tied_now self.old.judged self.old.certificate.now (kept_in self.old)) self.old.progress) result
+        ensures taken { YieldsInMemory
+            (message_taken self.old.judged self.old.table.now side fate (length self.old.entries.items)
+            (M.meaning message.now) (tied_now self.old.judged self.old.certificate.now (kept_in self.old))
+            self.old.progress) result
             self.new.progress }
         ensures left { Leaves (taken_left self.old.judged self.old.table.now side (M.meaning message.now)
-            (tied_now self.old.judged self.old.certificate.now (kept_in self.old)) self.old.progress) result self.new.progress }
-        ensures shows { ShowsSend self.old.table.now side (length self.old.entries.items) (M.meaning message.now) result self.new.progress }
+            (tied_now self.old.judged self.old.certificate.now (kept_in self.old)) self.old.progress) result
+            self.new.progress }
+        ensures shows { ShowsSend self.old.table.now side (length self.old.entries.items) (M.meaning message.now) result
+            self.new.progress }
         ensures grows { OnOk result (GrewBy (2 ^ 65) 1 self.old.progress self.new.progress) }
         ensures others { IsSameBesideProgress self.old self.new }
     {
@@ -230,9 +236,11 @@ impl<'a, 'r> Replaying<'a, 'r> {
         requires same { IfSome lent (λ lent. lent.now ≡ M.meaning message.now) }
         ensures taken { YieldsInMemory (kept_next self.old.judged self.old.table.now self.old.certificate.now
             (Ok (Sent side (M.meaning message.now))) (kept_in self.old)) result (kept_in self.new) }
-        ensures left { Leaves (entry_left self.old.judged self.old.table.now self.old.certificate.now (Ok (Sent side (M.meaning message.now)))
+        ensures left { Leaves (entry_left self.old.judged self.old.table.now self.old.certificate.now
+            (Ok (Sent side (M.meaning message.now)))
             (kept_in self.old)) result self.new.progress }
-        ensures shows { ShowsSend self.old.table.now side (length self.old.entries.items) (M.meaning message.now) result self.new.progress }
+        ensures shows { ShowsSend self.old.table.now side (length self.old.entries.items) (M.meaning message.now) result
+            self.new.progress }
         ensures ready { OnOk result (IsReady self.new) }
         ensures judged { self.new.judged ≡ self.old.judged }
         ensures table { self.new.table ≡ self.old.table }
@@ -252,9 +260,11 @@ impl<'a, 'r> Replaying<'a, 'r> {
         requires ready { IsReady self.old }
         ensures taken { YieldsInMemory (kept_next self.old.judged self.old.table.now self.old.certificate.now
             (Ok (Sent side message.now)) (kept_in self.old)) result (kept_in self.new) }
-        ensures left { Leaves (entry_left self.old.judged self.old.table.now self.old.certificate.now (Ok (Sent side message.now)) (kept_in self.old))
+        ensures left { Leaves (entry_left self.old.judged self.old.table.now self.old.certificate.now
+            (Ok (Sent side message.now)) (kept_in self.old))
             result self.new.progress }
-        ensures shows { ShowsSend self.old.table.now side (length self.old.entries.items) message.now result self.new.progress }
+        ensures shows { ShowsSend self.old.table.now side (length self.old.entries.items) message.now result
+            self.new.progress }
         ensures ready { OnOk result (IsReady self.new) }
         ensures judged { self.new.judged ≡ self.old.judged }
         ensures table { self.new.table ≡ self.old.table }
@@ -271,9 +281,12 @@ impl<'a, 'r> Replaying<'a, 'r> {
         requires no_overflow { load self.old.progress < 2 ^ 126 }
         requires count { unheard_load self.old.progress < 2 ^ 63 }
         ensures quiet { YieldsInMemory (mark_taken self.old.judged self.old.table.now (length self.old.entries.items)
-            (tied_now self.old.judged self.old.certificate.now (kept_in self.old)) self.old.progress) result self.new.progress }
-        ensures left { IsListing self.old.progress → Leaves (mark_left self.old.judged self.old.table.now (length self.old.entries.items)
-            (tied_now self.old.judged self.old.certificate.now (kept_in self.old)) self.old.progress) result self.new.progress }
+            (tied_now self.old.judged self.old.certificate.now (kept_in self.old)) self.old.progress) result
+            self.new.progress }
+        ensures left { IsListing self.old.progress
+            → Leaves (mark_left self.old.judged self.old.table.now (length self.old.entries.items)
+            (tied_now self.old.judged self.old.certificate.now (kept_in self.old)) self.old.progress) result
+            self.new.progress }
         ensures grows { OnOk result (GrewBy (2 ^ 66) 0 self.old.progress self.new.progress) }
         ensures others { IsSameBesideProgress self.old self.new }
     {
@@ -295,7 +308,8 @@ impl<'a, 'r> Replaying<'a, 'r> {
         requires ready { IsReady self.old }
         ensures taken { YieldsInMemory (kept_next self.old.judged self.old.table.now self.old.certificate.now
             (Ok Item.Quiet) (kept_in self.old)) result (kept_in self.new) }
-        ensures left { IsListed self.old → Leaves (entry_left self.old.judged self.old.table.now self.old.certificate.now (Ok Item.Quiet)
+        ensures left { IsListed self.old
+            → Leaves (entry_left self.old.judged self.old.table.now self.old.certificate.now (Ok Item.Quiet)
             (kept_in self.old)) result self.new.progress }
         ensures ready { OnOk result (IsReady self.new) }
         ensures judged { self.new.judged ≡ self.old.judged }
@@ -315,7 +329,8 @@ impl<'a, 'r> Replaying<'a, 'r> {
 
     /// Returns the refusal of the next entry, which is no item, for this reason, or `FateCount` if it has no fate.
     pub(crate) fn refuse(&self, reason: Reason) -> CheckFault
-        ensures { kept_next self.now.judged self.now.table.now self.now.certificate.now (Err reason) (kept_in self.now) ≡ Err result }
+        ensures { kept_next self.now.judged self.now.table.now self.now.certificate.now (Err reason) (kept_in self.now)
+            ≡ Err result }
     {
         match self.fate() {
             Ok(_) => self.refusal(reason),
@@ -348,7 +363,8 @@ impl<'a, 'r> Replaying<'a, 'r> {
     /// `FateCount` if a fate is left, with the first step that cannot happen, or with `Memory`.
     pub(crate) fn end(&mut self) -> Result<(), CheckFault>
         requires ready { IsReady self.old }
-        ensures ended { YieldsInMemory (kept_ended self.old.judged self.old.table.now self.old.certificate.now (kept_in self.old)) result
+        ensures ended { YieldsInMemory
+            (kept_ended self.old.judged self.old.table.now self.old.certificate.now (kept_in self.old)) result
             self.new.progress }
         ensures left { UnlessMemory result (self.new.progress
             ≡ end_left self.old.judged self.old.table.now self.old.certificate.now (kept_in self.old)) }

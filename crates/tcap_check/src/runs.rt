@@ -39,7 +39,8 @@ fn go_through<'r>(replaying: &mut Replaying<'_, 'r>, record: &'r Record) -> Resu
     requires ready { IsReady replaying.old }
     ensures answer { HasTakenListing true (checking_of replaying.old) []
         → UnlessMemory result (EndsListed replaying.old.judged
-        replaying.old.table.now replaying.old.certificate.now «record».now.entries.items result replaying.new.progress) }
+        replaying.old.table.now replaying.old.certificate.now «record».now.entries.items result
+        replaying.new.progress) }
     ensures so_far { HasTakenListing true (checking_of replaying.old) []
         → UnlessMemory result (IsPartialReplay replaying.old.table.now
         replaying.old.certificate.now replaying.old.judged «record».now.entries.items replaying.new.progress) }
@@ -99,10 +100,13 @@ pub fn run_until(
 ) -> Result<Partial, AllocError>
     ensures answer { IfOk result (λ run. IsAnswered judged table.now certificate.now «record».now.entries.items
         (answered run.refused run.steps.items)) }
-    ensures so_far { certificate_fits certificate.now ≡ Ok tt → IfOk result (λ run. IsSoFar judged table.now certificate.now
+    ensures so_far { certificate_fits certificate.now ≡ Ok tt
+        → IfOk result (λ run. IsSoFar judged table.now certificate.now
         «record».now.entries.items run.steps.items run.a run.b) }
-    ensures stopped { IfOk result (λ run. IfSome run.refused (λ fault. IsRefusedThere table.now «record».now.entries.items fault run.a run.b)) }
-    ensures none { (fault : Refusal) → certificate_fits certificate.now ≡ Err fault → IfOk result (λ run. (run.steps.items ≡ [])
+    ensures stopped { IfOk result
+        (λ run. IfSome run.refused (λ fault. IsRefusedThere table.now «record».now.entries.items fault run.a run.b)) }
+    ensures none { (fault : Refusal) → certificate_fits certificate.now ≡ Err fault
+        → IfOk result (λ run. (run.steps.items ≡ [])
         × (run.a ≡ nothing) × (run.b ≡ nothing)) }
 {
     let mut replaying = match Replaying::new(alloc, table, certificate, judged, true) {

@@ -375,7 +375,8 @@ impl<'r> Progress<'r> {
         requires no_overflow { load self.old < 2 ^ 127 }
         requires count { unheard_load self.old < 2 ^ 63 }
         requires same { IfSome lent (λ lent. lent.now ≡ A.meaning abort.now) }
-        ensures answered { YieldsInMemory (reply_kept judged side fate number (A.meaning abort.now) taken self.old) result self.new }
+        ensures answered { YieldsInMemory (reply_kept judged side fate number (A.meaning abort.now) taken self.old)
+            result self.new }
         ensures left { Leaves (front_lost judged (other side) self.old) result self.new }
         ensures grows { OnOk result (GrewBy 2 1 self.old self.new) }
     {
@@ -402,9 +403,11 @@ impl<'r> Progress<'r> {
         requires no_overflow { load self.old < 2 ^ 127 }
         requires count { unheard_load self.old < 2 ^ 63 }
         requires same { IfSome lent (λ lent. lent.now ≡ M.meaning message.now) }
-        ensures taken { YieldsInMemory (message_kept judged table.now side fate number (M.meaning message.now) taken.now self.old)
+        ensures taken { YieldsInMemory
+            (message_kept judged table.now side fate number (M.meaning message.now) taken.now self.old)
             result self.new }
-        ensures left { Leaves (message_left judged table.now side (M.meaning message.now) taken.now self.old) result self.new }
+        ensures left { Leaves (message_left judged table.now side (M.meaning message.now) taken.now self.old) result
+            self.new }
         ensures shows { ShowsSend table.now side number (M.meaning message.now) result self.new }
         ensures grows { OnOk result (GrewBy (2 ^ 65) 1 self.old self.new) }
     {

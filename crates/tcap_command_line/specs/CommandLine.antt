@@ -71,13 +71,15 @@ pack_shape = record (new_shape (codes "pack")) { rules = left_out_rule (codes "L
 -- `check`: three required paths, and an end
 abbrev pub check_shape : Shape
 check_shape = record (new_shape (codes "check")) {
-  rules = needed_rule (codes "RECORD") ∷ needed_rule (codes "TABLE") ∷ needed_rule (codes "CERT") ∷ end_rule (codes "end") ∷ [];
+  rules = needed_rule (codes "RECORD") ∷ needed_rule (codes "TABLE") ∷ needed_rule (codes "CERT")
+      ∷ end_rule (codes "end") ∷ [];
 }
 
 -- `judge`: two required paths, a flag and an end
 abbrev pub judge_shape : Shape
 judge_shape = record (new_shape (codes "judge")) {
-  rules = needed_rule (codes "RECORD") ∷ needed_rule (codes "TABLE") ∷ flag_rule (codes "cert") ∷ end_rule (codes "end") ∷ [];
+  rules = needed_rule (codes "RECORD") ∷ needed_rule (codes "TABLE") ∷ flag_rule (codes "cert") ∷ end_rule (codes "end")
+      ∷ [];
 }
 
 -- `explain`: two required paths, an optional path, an end and the file for a chart
@@ -134,8 +136,10 @@ traces_rule = record (new_rule (codes "TRACE")) { action = Some Append; required
 -- `test`: traces, an end, tables, a rule for reused IDs, a number, three files and three flags
 abbrev pub test_shape : Shape
 test_shape = record (new_shape (codes "test")) {
-  rules = traces_rule ∷ end_rule (codes "of") ∷ tables_rule ∷ ids_rule ∷ flag_rule (codes "complete") ∷ flag_rule (codes "heard") ∷ linger_rule
-      ∷ file_rule (codes "json") ∷ file_rule (codes "junit") ∷ file_rule (codes "html") ∷ flag_rule (codes "progress") ∷ [];
+  rules = traces_rule ∷ end_rule (codes "of") ∷ tables_rule ∷ ids_rule ∷ flag_rule (codes "complete")
+      ∷ flag_rule (codes "heard") ∷ linger_rule
+      ∷ file_rule (codes "json") ∷ file_rule (codes "junit") ∷ file_rule (codes "html") ∷ flag_rule (codes "progress")
+      ∷ [];
 }
 
 -- the program with its eight subcommands

@@ -210,7 +210,8 @@ fn judge_command<'a>(alloc: Global) -> Result<Command<'a>, AllocError>
 
 /// Creates the subcommand `explain`, or fails if memory runs out.
 fn explain_command<'a>(alloc: Global) -> Result<Command<'a>, AllocError>
-    ensures { IfOk result (λ c. (placeless_shape (shape_of c) ≡ explain_shape) × ((out-Command c).has_globals ≡ false)) }
+    ensures { IfOk result
+        (λ c. (placeless_shape (shape_of c) ≡ explain_shape) × ((out-Command c).has_globals ≡ false)) }
 {
     let record = needed_arg(alloc, "RECORD", RECORD_HELP);
     let table = needed_arg(alloc, "TABLE", TABLE_HELP);

@@ -126,14 +126,16 @@ pub record HoldsLive (live : List Course) (name : Course → ℕ) (lives : BTree
 
 -- The names of the live dialogues that are over are kept, by the number of the first entry with which each is over.
 pub record HoldsOver (live : List Course) (name : Course → ℕ) (overs : BTreeMap ℕ ℕ) : Type 0 where
-  pub there : (d : Course) (number : ℕ) → Contains live d → d.over ≡ Some number → tree.get nat_cmp overs number ≡ Some (name d)
+  pub there : (d : Course) (number : ℕ) → Contains live d → d.over ≡ Some number
+      → tree.get nat_cmp overs number ≡ Some (name d)
   pub back : (number found : ℕ) → tree.get nat_cmp overs number ≡ Some found
       → (d : Course) × Contains live d × (d.over ≡ Some number) × (name d ≡ found)
 
 -- The knowledge of an ID: which live dialogue has it, whether a dialogue that is done had it, whether it is firm then,
 -- and whether its owner sent a message from it.
 abbrev pub IsOwned : List Course → (Course → ℕ) → IdOf → Option ℕ → Bool → Bool → Type 0
-IsOwned live name id None used begun = ((d : Course) → Contains live d → is_among d.ids id ≡ false) × (used ≡ false) × (begun ≡ false)
+IsOwned live name id None used begun =
+    ((d : Course) → Contains live d → is_among d.ids id ≡ false) × (used ≡ false) × (begun ≡ false)
 IsOwned live name id (Some number) used begun =
     (d : Course) × Contains live d × (is_among d.ids id ≡ true) × (name d ≡ number) × (used ≡ is_among d.used id)
     × (begun ≡ is_among d.begun id)
@@ -171,8 +173,10 @@ IsCut reuse headings kept =
 
 -- No two live dialogues share an ID or an entry, and the values of each come from its entries and IDs.
 pub record AreApart (live : List Course) : Type 0 where
-  pub one_id : (d e : Course) (id : IdOf) → Contains live d → Contains live e → is_among d.ids id ≡ true → is_among e.ids id ≡ true → d ≡ e
-  pub one_number : (d e : Course) (i : ℕ) → Contains live d → Contains live e → has_entry d i ≡ true → has_entry e i ≡ true → d ≡ e
+  pub one_id : (d e : Course) (id : IdOf) → Contains live d → Contains live e → is_among d.ids id ≡ true
+      → is_among e.ids id ≡ true → d ≡ e
+  pub one_number : (d e : Course) (i : ℕ) → Contains live d → Contains live e → has_entry d i ≡ true
+      → has_entry e i ≡ true → d ≡ e
   pub over_in : (d : Course) (number : ℕ) → Contains live d → d.over ≡ Some number → has_entry d number ≡ true
   pub used_in : (d : Course) (id : IdOf) → Contains live d → is_among d.used id ≡ true → is_among d.ids id ≡ true
   pub begun_in : (d : Course) (id : IdOf) → Contains live d → is_among d.begun id ≡ true → is_among d.ids id ≡ true

@@ -78,7 +78,8 @@ pub record IsJoined (n : ℕ) (ds : List Course) (old new : Cut) (l : LiveDialog
   pub kept : HasValuesOf ds l
   pub entry : (l.name ≡ n) ⊎ (list_any (λ d. has_entry d l.name) ds ≡ true)
   pub ids : (id : IdOf) → known_at new.ids id
-      ≡ cond (list_any (λ d. is_among d.ids id) ds) (changed (changes.JoinTo l.name) (known_at old.ids id)) (known_at old.ids id)
+      ≡ cond (list_any (λ d. is_among d.ids id) ds) (changed (changes.JoinTo l.name) (known_at old.ids id))
+      (known_at old.ids id)
   pub rest : new ≡ record old { ids = new.ids }
 
 -- The dialogue is put back under its name, and under the number with which it is over.
@@ -88,7 +89,8 @@ is_over_at (Some over) number = over == number
 
 -- This live dialogue is in the cut, and the others stay.
 pub record IsAdded (l : LiveDialogue) (old new : Cut) : Type 0 where
-  pub lives : (number : ℕ) → tree.get nat_cmp new.live number ≡ cond (l.name == number) (Some l) (tree.get nat_cmp old.live number)
+  pub lives : (number : ℕ)
+      → tree.get nat_cmp new.live number ≡ cond (l.name == number) (Some l) (tree.get nat_cmp old.live number)
   pub overs : (number : ℕ) → tree.get nat_cmp new.overs number
       ≡ cond (is_over_at l.over number) (Some l.name) (tree.get nat_cmp old.overs number)
   pub rest : new ≡ record old { live = new.live; overs = new.overs }

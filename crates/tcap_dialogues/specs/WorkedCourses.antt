@@ -114,7 +114,8 @@ pub never_used : doubts again only_named ≡ (0 ∷ [], false, false) ∷ (1 ∷
 never_used = refl
 
 -- It is not unsettled if the first dialogue began after the under-way directive.
-pub never_used_after : doubts again (map after_word only_named) ≡ (0 ∷ [], false, false) ∷ (1 ∷ 2 ∷ [], true, false) ∷ []
+pub never_used_after : doubts again (map after_word only_named)
+    ≡ (0 ∷ [], false, false) ∷ (1 ∷ 2 ∷ [], true, false) ∷ []
 never_used_after = refl
 
 -- It is unsettled if the directive came later; the third dialogue is not.
@@ -143,7 +144,8 @@ pub not_under_way : doubts again (goes_on (continue A 2 1)) ≡ (0 ∷ 1 ∷ 2 �
 not_under_way = refl
 
 -- It is a new dialogue if B sent a message from this ID in an earlier segment.
-pub known_before : doubts again (goes_on (known (continue A 2 1))) ≡ (0 ∷ 1 ∷ [], false, false) ∷ (2 ∷ 3 ∷ [], true, false) ∷ []
+pub known_before : doubts again (goes_on (known (continue A 2 1)))
+    ≡ (0 ∷ 1 ∷ [], false, false) ∷ (2 ∷ 3 ∷ [], true, false) ∷ []
 known_before = refl
 
 -- With `Once`, the entry belongs to the first dialogue.

@@ -27,7 +27,8 @@ unfolding heading_in some_at next_at opening_at tag_at length_at begin_heading_a
 behind_the_id = refl
 
 -- Both IDs of a Continue from 01 to 02 are read, though the octets after them are no element.
-pub behind_both : heading_at A (0x65 ∷ 7 ∷ from 1 ++ to 2 ++ 0xFF ∷ []) ≡ heading_with A kinds.Continue (Some (id 1)) (Some (id 2))
+pub behind_both : heading_at A (0x65 ∷ 7 ∷ from 1 ++ to 2 ++ 0xFF ∷ [])
+    ≡ heading_with A kinds.Continue (Some (id 1)) (Some (id 2))
 unfolding heading_in some_at next_at opening_at tag_at length_at continue_heading_at otid_at dtid_at required_at transaction_id_of
 behind_both = refl
 

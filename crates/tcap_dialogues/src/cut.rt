@@ -100,7 +100,8 @@ impl Cut {
         ensures takes { (reuse : Reuse) (headings : List Heading) → IsCut reuse headings self.old
             → let s = courses_so_far reuse headings in OnOk result (
             IsCut reuse (headings ++ heading_read heading.entry ∷ []) self.new
-            × HandsOver (filter (is_free reuse (length headings) s (heading_read heading.entry)) s.live) done.old.items done.new.items) }
+            × HandsOver (filter (is_free reuse (length headings) s (heading_read heading.entry)) s.live) done.old.items
+            done.new.items) }
         ensures begins { (reuse : Reuse) (headings : List Heading) → IsCut reuse headings self.old
             → IfOk result (λ begins. begins
             ≡ begins_new reuse (length headings) (courses_so_far reuse headings) (heading_read heading.entry)) }
@@ -127,7 +128,8 @@ impl Cut {
     pub fn sent_from(&self, end: End, ids: &mut BTreeSet<TransactionId>) -> Result<(), AllocError>
         ensures { (reuse : Reuse) (headings : List Heading) → IsCut reuse headings self.now
             → OnOk result ((octets : List ℕ) → set.contains octets_cmp ids.new octets
-            ≡ set.contains octets_cmp ids.old octets || is_among (flat_map own_ids headings) (record { end = «end»; octets = octets })) }
+            ≡ set.contains octets_cmp ids.old octets
+            || is_among (flat_map own_ids headings) (record { end = «end»; octets = octets })) }
     {
         self.ids.sent_from(end, ids)
     }

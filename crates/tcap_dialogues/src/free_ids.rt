@@ -42,7 +42,8 @@ impl Cut {
     pub(crate) fn long_over(&self) -> Option<u64>
         ensures { (live : List Course) (names : Course → ℕ) → AreApart live → HoldsLive live names self.now.live
             → HoldsOver live names self.now.overs
-            → ((d : Course) → Contains live d → Lingers self.now.reuse self.now.count d.over) → (d : Course) → Contains live d
+            → ((d : Course) → Contains live d → Lingers self.now.reuse self.now.count d.over) → (d : Course)
+            → Contains live d
             → is_past_by self.now.reuse self.now.count d ≡ is_named names result d }
     {
         let Reuse::Again(linger) = self.reuse else {
@@ -95,7 +96,8 @@ impl Cut {
             → IsCutState s names sent self.now → Contains s.live d → names d ≡ name
             → share_id (own_ids (heading_read heading.entry)) d.ids ≡ true
             → is_continue (heading_read heading.entry).kind ≡ true
-            → result ≡ gives_to_another s.live (heading_read heading.entry) d || goes_on_with_another s (heading_read heading.entry) d }
+            → result ≡ gives_to_another s.live (heading_read heading.entry) d
+            || goes_on_with_another s (heading_read heading.entry) d }
     {
         let known = self.ids.get_some(heading.sender.other(), heading.dtid);
         match known.dialogue {

@@ -126,7 +126,8 @@ impl Cut {
     pub(crate) fn join(&mut self, heading: HeadingView) -> Result<bool, AllocError>
         ensures { (s : Courses) (names : Course → ℕ) (sent : IdOf → Bool) → AreApart s.live
             → IsCutState s names sent self.old
-            → let h = heading_read heading.entry in let new = joined_by self.old.count h s.done s.live in AreApart new.live
+            → let h = heading_read heading.entry in
+            let new = joined_by self.old.count h s.done s.live in AreApart new.live
             → ((d : Course) (i : ℕ) → Contains s.live d → has_entry d i ≡ true → i < self.old.count)
             → IfOk result (λ begins.
             IsCutOf self.old.reuse (self.old.count + 1) new (λ id. sent id || is_among (own_ids h) id) self.new

@@ -160,7 +160,8 @@ impl EndIds {
     /// Frees an ID, whose dialogue is done. Fails if memory runs out.
     fn free(&mut self, id: TransactionIdView, first: u64, early: bool) -> Result<(), AllocError>
         ensures { OnOk result ((octets : List ℕ) → known_in self.new octets
-            ≡ cond (bytes_eq octets id.entry.octets.now) (free_since first early (known_in self.old id.entry.octets.now))
+            ≡ cond (bytes_eq octets id.entry.octets.now)
+            (free_since first early (known_in self.old id.entry.octets.now))
             (known_in self.old octets)) }
     {
         let known = match self.live.remove(&id.to_transaction_id()) {
@@ -248,7 +249,8 @@ impl Ids {
         known: IdState,
     ) -> Result<(), AllocError>
         ensures { OnOk result ((other : IdOf) → known_at self.new other
-            ≡ cond (is_same other (record { end = «end»; octets = id.entry.octets.now })) known (known_at self.old other)) }
+            ≡ cond (is_same other (record { end = «end»; octets = id.entry.octets.now })) known
+            (known_at self.old other)) }
     {
         match end {
             End::A => self.a.set(id, known),
@@ -258,7 +260,8 @@ impl Ids {
 
     /// Changes what is known of an ID of an end. Fails if memory runs out.
     fn change(&mut self, end: End, id: TransactionIdView, change: Change) -> Result<(), AllocError>
-        ensures { let it : IdOf = record { end = «end»; octets = id.entry.octets.now } in OnOk result ((other : IdOf) → known_at self.new other
+        ensures { let it : IdOf = record { end = «end»; octets = id.entry.octets.now }
+            in OnOk result ((other : IdOf) → known_at self.new other
             ≡ cond (is_same other it) (changed change (known_at self.old it)) (known_at self.old other)) }
     {
         match change {
@@ -281,7 +284,8 @@ impl Ids {
         ids: &mut BTreeSet<TransactionId>,
     ) -> Result<(), AllocError>
         ensures { OnOk result ((octets : List ℕ) → set.contains octets_cmp ids.new octets
-            ≡ set.contains octets_cmp ids.old octets || (known_at self.now (record { end = «end»; octets = octets })).sent) }
+            ≡ set.contains octets_cmp ids.old octets
+            || (known_at self.now (record { end = «end»; octets = octets })).sent) }
     {
         match end {
             End::A => self.a.sent_from(ids),
@@ -297,7 +301,8 @@ impl Ids {
         change: Change,
     ) -> Result<(), AllocError>
         ensures { OnOk result ((id : IdOf) → known_at self.new id
-            ≡ cond (is_side id.end «end» && set.contains octets_cmp ids.now id.octets) (changed change (known_at self.old id)) (known_at self.old id)) }
+            ≡ cond (is_side id.end «end» && set.contains octets_cmp ids.now id.octets)
+            (changed change (known_at self.old id)) (known_at self.old id)) }
     {
         for id in ids {
             self.change(end, id.view(), change)?;

@@ -69,7 +69,8 @@ pub fn each_entry_has_one()
 
 /// Shows that a dialogue without reused IDs shares no ID with the rest of the segment up to each of its entries.
 pub fn course_is_closed()
-    ensures { (reuse : Reuse) (items : List Item) (headings : List Heading) (d : Course) (n : ℕ) → has_quiet items ≡ false
+    ensures { (reuse : Reuse) (items : List Item) (headings : List Heading) (d : Course) (n : ℕ)
+        → has_quiet items ≡ false
         → map bare headings ≡ headings_of items → Contains (courses_of reuse headings) d → d.again ≡ false
         → has_entry d n ≡ true → IsClosed (has_entry d) (take (n + 1) items) }
 {}
@@ -77,7 +78,8 @@ pub fn course_is_closed()
 /// Shows that a lawful end may have sent its part of a dialogue without reused IDs, up to each of its entries. So a
 /// fault in the dialogue is a fault in the segment.
 pub fn course_keeps_rules()
-    ensures { (side : Side) (reuse : Reuse) (items : List Item) (headings : List Heading) (table : Table) (d : Course) (n : ℕ)
+    ensures { (side : Side) (reuse : Reuse) (items : List Item) (headings : List Heading) (table : Table) (d : Course)
+        (n : ℕ)
         → has_quiet items ≡ false → map bare headings ≡ headings_of items → Contains (courses_of reuse headings) d
         → d.again ≡ false → has_entry d n ≡ true → IsLawfulFor side (take (n + 1) items) table
         → IsLawfulFor side (part_of (has_entry d) 0 (take (n + 1) items)) table }
@@ -93,8 +95,10 @@ pub fn again_is_shared()
 
 /// Shows that, if IDs are not reused, the dialogues of a segment are those of the list of its messages.
 pub fn once_is_the_cut()
-    ensures { (items : List Item) (headings : List Heading) → has_quiet items ≡ false → map bare headings ≡ headings_of items
-        → map (λ d. record { numbers = d.numbers; ids = d.ids }) (courses_of reuses.Once headings) ≡ dialogues_of items }
+    ensures { (items : List Item) (headings : List Heading) → has_quiet items ≡ false
+        → map bare headings ≡ headings_of items
+        → map (λ d. record { numbers = d.numbers; ids = d.ids }) (courses_of reuses.Once headings)
+        ≡ dialogues_of items }
 {}
 
 /// Shows that all that a [`Cut`](crate::Cut) hands over represents the dialogues of the segment. The dialogues handed

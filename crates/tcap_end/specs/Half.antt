@@ -32,7 +32,8 @@ pub record Half : Type 0 where
 
 -- a half with no invocations and no answers
 abbrev pub fresh : Phase → Option (List ℕ) → Option (List ℕ) → DialogueState → Half
-fresh phase own peer dialogue_state = record { phase = phase; own = own; peer = peer; dialogue_state = dialogue_state; out = []; inn = []; grants = [] }
+fresh phase own peer dialogue_state =
+    record { phase = phase; own = own; peer = peer; dialogue_state = dialogue_state; out = []; inn = []; grants = [] }
 
 -- A closed half keeps only its transaction IDs.
 abbrev pub closed_half : Half → Half

@@ -64,7 +64,8 @@ abbrev pub undone : Change → HalfState → StoredHalf
 undone (Out id was) h = record (kept_of h) { out = with_out id was (kept_outs h.out) }
 undone (Waits id) h = record (kept_of h) { out = with_state id states.OperationSent (kept_outs h.out) }
 undone (InnTaken id at kind) h = record (kept_of h) { inn = with_place id at (kind_of id kind h.inn) (rows_of h.inn) }
-undone (GrantTaken id at kind) h = record (kept_of h) { grants = with_place id at (kind_of id kind h.grants) (rows_of h.grants) }
+undone (GrantTaken id at kind) h =
+    record (kept_of h) { grants = with_place id at (kind_of id kind h.grants) (rows_of h.grants) }
 undone (InnJoined id) h = record (kept_of h) { inn = one_less id (rows_of h.inn) }
 undone (GrantJoined id) h = record (kept_of h) { grants = one_less id (rows_of h.grants) }
 

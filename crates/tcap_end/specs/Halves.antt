@@ -50,7 +50,8 @@ halves_at slab slot (e ∷ more) = (e.0, half_at slab slot e.0 e.1) ∷ halves_a
 
 -- the end that is stored
 abbrev pub end_of : Halves → End
-end_of s = record { begun = halves_at s.slab Begun s.begun.entries; accepted = halves_at s.slab Accepted s.accepted.entries }
+end_of s =
+    record { begun = halves_at s.slab Begun s.begun.entries; accepted = halves_at s.slab Accepted s.accepted.entries }
 
 -- the places of a slot
 abbrev pub places_of : Slot → Halves → List (List ℕ × Place)

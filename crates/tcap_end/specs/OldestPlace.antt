@@ -8,7 +8,8 @@ use Rattle.tcap_lists.specs.Row.{fits_in}
 pub use Rattle.tcap_lists.specs.Row.{place_of}
 
 -- the place of the oldest invocation or answer that a Reject with this problem rejects, or None
-abbrev pub rejected_place : List (ℤ × List (Option Invocation)) → List (ℤ × List (Option Answer)) → ℤ → Problem → Option ℕ
+abbrev pub rejected_place : List (ℤ × List (Option Invocation)) → List (ℤ × List (Option Answer)) → ℤ → Problem
+    → Option ℕ
 rejected_place inn grants id (problems.General n) = None
 rejected_place inn grants id (problems.Invoke n) = place_of (fits_in (allows n)) (listed id inn)
 rejected_place inn grants id (problems.ReturnResult n) = place_of (fits_in (allows_for true n)) (listed id grants)

@@ -62,7 +62,8 @@ impl Changes {
 
     /// Removes and returns the latest change.
     pub(crate) fn pop(&mut self) -> Option<Change>
-        ensures items { MatchOption result ((self.old ≡ []) × (self.new ≡ [])) (λ change. self.old ≡ change ∷ self.new) }
+        ensures items { MatchOption result ((self.old ≡ []) × (self.new ≡ []))
+            (λ change. self.old ≡ change ∷ self.new) }
     {
         self.made.pop()
     }

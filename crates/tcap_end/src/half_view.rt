@@ -108,8 +108,8 @@ impl<'a> OpenHalf<'a> {
         Ok(codes)
     }
 
-    /// Returns, for each received answer with this invoke ID that was not rejected, whether it is a Return Result, oldest
-    /// first.
+    /// Returns, for each received answer with this invoke ID that was not rejected, whether it is a Return Result,
+    /// oldest first.
     ///
     /// # Errors
     ///

@@ -136,7 +136,8 @@ impl Halves {
         })
     }
 
-    /// Returns the index of a slot: the IDs by which its halves are not kept, each mapped to the ID by which it is kept.
+    /// Returns the index of a slot: the IDs by which its halves are not kept, each mapped to the ID by which it is
+    /// kept.
     fn indexed(&self, slot: Slot) -> &BTreeMap<TransactionId, TransactionId>
         ensures { result.now.entries ≡ index_of slot self.now }
     {

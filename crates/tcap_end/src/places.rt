@@ -154,7 +154,8 @@ pub(crate) fn first_rejectable_answer(
 /// Returns whether there is an invocation of this kind to which the operation may be linked.
 fn links_to_kind(row: &Row<Invocation>, table: &Table, code: CodeView, kind: usize) -> bool
     ensures { result ≡ true
-        → is_some (place_of (fits_in (λ item. links table.now item.code (code_of code.entry))) (row_of row.now)) ≡ true }
+        → is_some (place_of (fits_in (λ item. links table.now item.code (code_of code.entry))) (row_of row.now))
+        ≡ true }
 {
     match row.kinds().get(kind) {
         Some(item) => row.oldest_of(kind).is_some() && table.links(item.code.view(), code),

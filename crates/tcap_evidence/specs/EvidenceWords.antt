@@ -47,7 +47,8 @@ kind_words kinds.MisplacedDialogue = codes "its dialogue portion is one that it 
 kind_words kinds.WrongHalf = codes "its end has no transaction over which it may send it"
 kind_words kinds.WrongDialogue = codes "its dialogue portion does not fit how the dialogue stands"
 kind_words kinds.InvokeIdBusy = codes "it invokes an ID that is in use"
-kind_words kinds.BadLink = codes "it is linked to an invocation that its end did not receive, has answered, or may not link it to"
+kind_words kinds.BadLink =
+    codes "it is linked to an invocation that its end did not receive, has answered, or may not link it to"
 kind_words kinds.AnsweredAlready = codes "it answers an invocation that was answered already"
 kind_words kinds.RejectNotAllowed = codes "it rejects with a problem that nothing received has"
 kind_words kinds.WrongReply = codes "it is an Abort of the provider that answers nothing which is left"
@@ -264,7 +265,8 @@ link_text (Some id) = codes ", linked to " ++ signed_decimal id
 -- the line of an invocation: its ID, its entry, its operation and class, and the ID to which it is linked
 abbrev pub invocation_line : Table → ℤ → Invocation → List ℕ
 invocation_line table id i =
-    codes "  invocation " ++ signed_decimal id ++ codes " in entry " ++ decimal i.entry ++ codes " is of " ++ code_text i.code
+    codes "  invocation " ++ signed_decimal id ++ codes " in entry " ++ decimal i.entry ++ codes " is of "
+    ++ code_text i.code
     ++ class_text (class_of table i.code) ++ link_text i.linked ++ line_end
 
 -- the line with the number of invocations that are not named, if any
@@ -282,8 +284,10 @@ invocation_lines table (Some id) invocations =
 unfoldable pub doubt_words : Kind → List ℕ
 doubt_words kinds.BadMessage = codes "  `tcapjudge show --why RECORD` says what is wrong with its octets\n"
 doubt_words kinds.UnknownTransaction = codes "  it may be, too, that a message of the peer is missing from the record\n"
-doubt_words kinds.ReusedId = codes "  it may be, too, that a quiet mark is missing, behind which IDs are free again, or a message\n"
-doubt_words kinds.OpenAtMark = codes "  it may be, too, that the mark was set too early, or that an End is missing from the record\n"
+doubt_words kinds.ReusedId =
+    codes "  it may be, too, that a quiet mark is missing, behind which IDs are free again, or a message\n"
+doubt_words kinds.OpenAtMark =
+    codes "  it may be, too, that the mark was set too early, or that an End is missing from the record\n"
 doubt_words kind = []
 
 -- whether a component is an Invoke of an operation that the table does not have

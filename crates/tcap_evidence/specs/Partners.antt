@@ -51,7 +51,8 @@ with_pair of id number (Err reason) pairing = pairing
 -- the pairing after several entries, the first of which is entry `number`
 abbrev pub with_pairs : Side → List ℕ → ℕ → List (Result Item Reason) → Pairing → Pairing
 with_pairs of id number [] pairing = pairing
-with_pairs of id number (entry ∷ more) pairing = with_pairs of id (number + 1) more (with_pair of id number entry pairing)
+with_pairs of id number (entry ∷ more) pairing =
+    with_pairs of id (number + 1) more (with_pair of id number entry pairing)
 
 -- the entries before entry `number`, since the last quiet mark
 abbrev pub paired_before : Side → List ℕ → List Entry → ℕ → List ℕ

@@ -43,12 +43,14 @@ unfoldable pub tangle_words : Tangle → List ℕ
 tangle_words TwoIds = codes " is tangled (two IDs of the other end stand with it): "
 tangle_words BegunTwice = codes " is tangled (its end began it twice): "
 tangle_words BothBegan = codes " is tangled (its end began it, and went on from it to an ID that the other end began): "
-tangle_words Guessed = codes " is tangled (its end began it, and went on from it to an ID that the other end had not used): "
+tangle_words Guessed =
+    codes " is tangled (its end began it, and went on from it to an ID that the other end had not used): "
 
 -- the statement that an ID is ambiguous, with its end and the reason
 abbrev pub tangled_text : TangledId → List ℕ
 tangled_text t =
-    codes "  nobody is blamed for it: transaction ID " ++ encode_lower t.id ++ codes " of " ++ letter t.side ++ tangle_words t.why
+    codes "  nobody is blamed for it: transaction ID " ++ encode_lower t.id ++ codes " of " ++ letter t.side
+    ++ tangle_words t.why
 
 -- the line on an ambiguous ID, with the entries that begin it and those that show its partners
 abbrev pub tangled_line : List Entry → ℕ → TangledId → List ℕ

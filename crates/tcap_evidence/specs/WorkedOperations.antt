@@ -17,7 +17,8 @@ use Rattle.tcap_evidence.specs.Operations.{invocations_at}
 
 -- the invocations for an entry that is blamed on that end for that kind
 abbrev found : Table → List Item → Side → ℕ → Kind → List Invocation
-found given items side entry kind = invocations_at true given side (map entry_of items) (record { entry = entry; kind = kind })
+found given items side entry kind =
+    invocations_at true given side (map entry_of items) (record { entry = entry; kind = kind })
 
 -- an invocation in that entry, with its operation and linked ID
 abbrev invoked : ℕ → ℕ → Option ℤ → Invocation
@@ -41,7 +42,8 @@ rejects_link problem = Reject (Some (pos 2)) (problems.Invoke problem)
 
 -- F6: operations of class 2 and 4 allow no Return Result. Invokes of another ID do not count.
 pub of_an_answer : found table
-    (begins (invoke 46 ∷ linked_to 7 ∷ []) ∷ Sent B (answer None None) ∷ Sent A (further (invoke 48)) ∷ ends (result ∷ []) ∷ [])
+    (begins (invoke 46 ∷ linked_to 7 ∷ []) ∷ Sent B (answer None None) ∷ Sent A (further (invoke 48))
+    ∷ ends (result ∷ []) ∷ [])
     B 3 kinds.WrongOperation ≡ invoked 0 46 None ∷ invoked 2 48 None ∷ []
 of_an_answer = refl
 
@@ -50,17 +52,20 @@ pub of_an_invoke : found table (begins (invoke 46 ∷ []) ∷ answers (invoke 49
 of_an_invoke = refl
 
 -- F10: the first invocation of the ID has not ended
-pub in_use : found lasting (begins (invoke 45 ∷ []) ∷ Sent B (answer None None) ∷ Sent A (further (invoke 45)) ∷ []) A 2 kinds.InvokeIdBusy
+pub in_use : found lasting (begins (invoke 45 ∷ []) ∷ Sent B (answer None None) ∷ Sent A (further (invoke 45)) ∷ []) A 2
+    kinds.InvokeIdBusy
     ≡ invoked 0 45 None ∷ []
 in_use = refl
 
 -- F11: operation 48 may not be linked to 45, and no invocation has the ID 7
-pub of_a_link : (found table (begins (invoke 45 ∷ []) ∷ answers (linked_to 1 ∷ []) ∷ []) B 1 kinds.BadLink ≡ invoked 0 45 None ∷ [])
+pub of_a_link : (found table (begins (invoke 45 ∷ []) ∷ answers (linked_to 1 ∷ []) ∷ []) B 1 kinds.BadLink
+    ≡ invoked 0 45 None ∷ [])
     × (found table (begins (invoke 45 ∷ []) ∷ answers (linked_to 7 ∷ []) ∷ []) B 1 kinds.BadLink ≡ [])
 of_a_link = (refl, refl)
 
 -- F12: one invocation is answered twice
-pub answered : found table (begins (invoke 45 ∷ []) ∷ ends (result ∷ result ∷ []) ∷ []) B 1 kinds.AnsweredAlready ≡ invoked 0 45 None ∷ []
+pub answered : found table (begins (invoke 45 ∷ []) ∷ ends (result ∷ result ∷ []) ∷ []) B 1 kinds.AnsweredAlready
+    ≡ invoked 0 45 None ∷ []
 answered = refl
 
 -- F12: A sends a Continue before its Begin, but the half hears the Begin first; the invocations are in the order of
@@ -72,10 +77,12 @@ in_order = refl
 
 -- F13: two Rejects of one link; and two Rejects of one Return Result, with the own invocation that it answers
 pub rejected : (found table
-    (begins (invoke 50 ∷ []) ∷ answers (linked_to 1 ∷ []) ∷ Sent A (further (rejects_link 5)) ∷ Sent A (further (rejects_link 7)) ∷ [])
+    (begins (invoke 50 ∷ []) ∷ answers (linked_to 1 ∷ []) ∷ Sent A (further (rejects_link 5))
+    ∷ Sent A (further (rejects_link 7)) ∷ [])
     A 3 kinds.RejectNotAllowed ≡ invoked 1 48 (Some (pos 1)) ∷ [])
     × (found table
-    (begins (invoke 45 ∷ []) ∷ answers (result ∷ []) ∷ Sent A (further (rejects_result 1)) ∷ Sent A (further (rejects_result 2)) ∷ [])
+    (begins (invoke 45 ∷ []) ∷ answers (result ∷ []) ∷ Sent A (further (rejects_result 1))
+    ∷ Sent A (further (rejects_result 2)) ∷ [])
     A 3 kinds.RejectNotAllowed ≡ invoked 0 45 None ∷ [])
 rejected = (refl, refl)
 

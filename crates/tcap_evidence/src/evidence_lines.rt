@@ -121,7 +121,8 @@ fn push_message(
 
 /// Appends the own ID of a half, if it is known.
 fn push_own(text: &mut String, own: Option<&TransactionId>) -> Result<(), AllocError>
-    ensures { OnOk result (string_bytes text.new ≡ string_bytes text.old ++ own_words (option_map (λ id. id.now) own.entry)) }
+    ensures { OnOk result
+        (string_bytes text.new ≡ string_bytes text.old ++ own_words (option_map (λ id. id.now) own.entry)) }
 {
     match own {
         Some(id) => {

@@ -52,7 +52,8 @@ fn push_anew(
     number: u64,
     partner: TransactionIdView,
 ) -> Result<(), AllocError>
-    ensures noted { OnOk result (entries.new.items ≡ entries.old.items ++ anew number partner.entry.octets.now last.old) }
+    ensures noted { OnOk result
+        (entries.new.items ≡ entries.old.items ++ anew number partner.entry.octets.now last.old) }
     ensures last { OnOk result (last.new ≡ Some partner.entry.octets.now) }
 {
     if !is_same_id(last.as_ref(), Some(partner)) {
@@ -71,7 +72,8 @@ impl Pairs {
         partner: TransactionIdView,
     ) -> Result<(), AllocError>
         ensures { OnOk result ((self.new.entries.items, self.new.from, self.new.to)
-            ≡ with_partner number is_from (Some partner.entry.octets.now) (self.old.entries.items, self.old.from, self.old.to)) }
+            ≡ with_partner number is_from (Some partner.entry.octets.now)
+            (self.old.entries.items, self.old.from, self.old.to)) }
     {
         if is_from {
             push_anew(&mut self.entries, &mut self.from, number, partner)

@@ -215,7 +215,8 @@ impl<'a> Scene<'a> {
 
     /// Returns the entries of the components of the invoke ID and this sort in these messages.
     fn with_sort(&self, alloc: Global, sent: &[Sent], sort: Sort) -> Result<Vec<u64>, AllocError>
-        ensures { (s : Known) → IsScene s self.now → IfOk result (λ v. v.items ≡ with_sort s sort (numbered_of sent.now)) }
+        ensures { (s : Known) → IsScene s self.now
+            → IfOk result (λ v. v.items ≡ with_sort s sort (numbered_of sent.now)) }
     {
         match self.id {
             Some(id) => entries_with(alloc, self.table, sent, id, sort),

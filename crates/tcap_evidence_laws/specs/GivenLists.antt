@@ -139,7 +139,8 @@ invokes_listed kind c = None
 
 -- The invocation is an Invoke of the ID in its entry, with its operation and its linked ID. This end sent the entry,
 -- before the one at fault.
-pub record IsInvoke (entries : List Entry) (number : ℕ) (sender : Side) (asked : Option ℤ) (i : Invocation) : Type 0 where
+pub record IsInvoke (entries : List Entry) (number : ℕ) (sender : Side) (asked : Option ℤ) (i : Invocation) : Type
+    0 where
   pub message : Message
   pub id : ℤ
   pub parameter : Option (List ℕ)

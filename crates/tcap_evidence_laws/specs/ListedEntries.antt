@@ -53,7 +53,8 @@ component_with of_one table side entries number m kind =
 -- from the ID. Heard: in those that the half heard. Before and Whole: in the end's messages to the ID, with the
 -- message's components before the one at fault, or all of them. If there is a half, the end's messages to the ID are
 -- the half's, and Invoked counts the half's own invocations.
-pub record AreCounted (side : Side) (items : List Item) (id : List ℕ) (m : Message) (s : Scene) (sort : Sort) (is_so : Component → Bool) : Type 0 where
+pub record AreCounted (side : Side) (items : List Item) (id : List ℕ) (m : Message) (s : Scene) (sort : Sort)
+    (is_so : Component → Bool) : Type 0 where
   pub there : length (shown s (facts.PeerComponents sort)) ≡ count is_so (components_of (peer_sent_from side id items))
   pub incoming : length (shown s (facts.IncomingComponents sort)) ≡ count is_so (half_of side items id).incoming
   pub before : length (shown s (facts.Before sort)) ≡ count is_so (components_of (outgoing side id items) ++ s.earlier)
@@ -100,7 +101,8 @@ pub record IsSentBefore (entries : List Entry) (number : ℕ) (sender : Side) (n
 
 -- A listed Continue of this end, no later than entry `n`, uses the ID with this partner. No Begin from the ID comes
 -- after it, up to entry `n`.
-pub record IsPaired (of : Side) (id : List ℕ) (entries : List Entry) (number : ℕ) (sender : Side) (partner : List ℕ) (n : ℕ) : Type 0 where
+pub record IsPaired (of : Side) (id : List ℕ) (entries : List Entry) (number : ℕ) (sender : Side) (partner : List ℕ)
+    (n : ℕ) : Type 0 where
   pub at : ℕ
   pub message : Message
   pub listed : Contains (paired_before of id entries number) at

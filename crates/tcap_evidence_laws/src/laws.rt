@@ -38,7 +38,8 @@ ghost use Rattle.tcap_evidence.specs.EvidenceWords.{sender_of};
 /// For a message, the scene has the half and the component that have the kind; for a quiet mark, it has the messages
 /// before the mark.
 pub fn grounds_are_listed()
-    ensures message { (of_one : Bool) (table : Table) (side sender : Side) (entries : List Entry) (r : Refutation) (m : Message)
+    ensures message { (of_one : Bool) (table : Table) (side sender : Side) (entries : List Entry) (r : Refutation)
+        (m : Message)
         (fact : ShownFact) (numbers : List ℕ) → slice_get (map item_of entries) r.entry ≡ Some (Ok (Sent sender m))
         → Contains (grounds_of of_one table side entries r) (fact, numbers)
         → numbers ≡ shown (scene_at of_one table side entries r.entry m r.kind) fact }
@@ -114,10 +115,12 @@ pub fn kinds_show()
     ensures ended { (table : Table) (side : Side) (entries : List Entry) (number : ℕ) (m : Message) (about : Subject)
         → HasKind table side (items_before entries number) m kinds.AfterEnd
         → ListsOne (scene_of table side entries number m kinds.AfterEnd about) facts.Ended }
-    ensures misplaced { (table : Table) (side : Side) (entries : List Entry) (number : ℕ) (m : Message) (about : Subject)
+    ensures misplaced { (table : Table) (side : Side) (entries : List Entry) (number : ℕ) (m : Message)
+        (about : Subject)
         → HasKind table side (items_before entries number) m kinds.MisplacedDialogue
         → ShowsMisplaced (scene_of table side entries number m kinds.MisplacedDialogue about) m }
-    ensures wrong_reply { (table : Table) (side : Side) (entries : List Entry) (number : ℕ) (m : Message) (about : Subject)
+    ensures wrong_reply { (table : Table) (side : Side) (entries : List Entry) (number : ℕ) (m : Message)
+        (about : Subject)
         → HasKind table side (items_before entries number) m kinds.WrongReply
         → ShowsWrongReply (scene_of table side entries number m kinds.WrongReply about) (cause_in m) }
     ensures left_open { (table : Table) (side : Side) (entries : List Entry) (number : ℕ)
@@ -140,7 +143,8 @@ pub fn pairs_are_listed()
         → IsSentBefore entries number sender n m → partner_in of id sender m ≡ Some partner
         → IsPaired of id entries number sender partner n }
     ensures listed { (of : Side) (id : List ℕ) (entries : List Entry) (number n : ℕ)
-        → Contains (paired_before of id entries number) n → (sender : Side) × (m : Message) × IsSentBefore entries number sender n m
+        → Contains (paired_before of id entries number) n → (sender : Side) × (m : Message)
+        × IsSentBefore entries number sender n m
         × ((sender ≡ of) × (is_begin_from id m ≡ true) ⊎ (partner : List ℕ)
         × (partner_in of id sender m ≡ Some partner)) }
 {}
@@ -150,7 +154,8 @@ pub fn pairs_are_listed()
 /// There are two exceptions. For F8, the list of the end's Begins with an AARQ is not given. For a message without a
 /// destination ID, the lists of the peer's messages from there are not given, because they are empty.
 pub fn lists_are_given()
-    ensures message { (of_one : Bool) (table : Table) (side sender : Side) (entries : List Entry) (r : Refutation) (m : Message)
+    ensures message { (of_one : Bool) (table : Table) (side sender : Side) (entries : List Entry) (r : Refutation)
+        (m : Message)
         → slice_get (map item_of entries) r.entry ≡ Some (Ok (Sent sender m))
         → AreAllGiven (scene_at of_one table side entries r.entry m r.kind) (grounds_of of_one table side entries r)
         (listed_facts (dtid_in m) (scene_at of_one table side entries r.entry m r.kind).origin
@@ -177,17 +182,20 @@ pub fn lists_ascend()
 /// that the half heard. Each invocation is an Invoke of its entry, with its operation and its linked ID. Other kinds
 /// have no invocations.
 pub fn invocations_are_listed()
-    ensures listed { (of_one : Bool) (table : Table) (side sender : Side) (entries : List Entry) (r : Refutation) (m : Message)
+    ensures listed { (of_one : Bool) (table : Table) (side sender : Side) (entries : List Entry) (r : Refutation)
+        (m : Message)
         (fact : ShownFact) → slice_get (map item_of entries) r.entry ≡ Some (Ok (Sent sender m))
         → invokes_listed r.kind (component_with of_one table side entries r.entry m r.kind) ≡ Some fact
         → map (λ i. i.entry) (invocations_at of_one table side entries r)
         ≡ shown (scene_at of_one table side entries r.entry m r.kind) fact }
-    ensures each { (of_one : Bool) (table : Table) (side sender : Side) (entries : List Entry) (r : Refutation) (m : Message)
+    ensures each { (of_one : Bool) (table : Table) (side sender : Side) (entries : List Entry) (r : Refutation)
+        (m : Message)
         (fact : ShownFact) (i : Invocation) → slice_get (map item_of entries) r.entry ≡ Some (Ok (Sent sender m))
         → invokes_listed r.kind (component_with of_one table side entries r.entry m r.kind) ≡ Some fact
         → Contains (invocations_at of_one table side entries r) i
         → IsInvoke entries r.entry (sender_of side fact) (scene_at of_one table side entries r.entry m r.kind).id i }
-    ensures none { (of_one : Bool) (table : Table) (side sender : Side) (entries : List Entry) (r : Refutation) (m : Message)
+    ensures none { (of_one : Bool) (table : Table) (side sender : Side) (entries : List Entry) (r : Refutation)
+        (m : Message)
         → slice_get (map item_of entries) r.entry ≡ Some (Ok (Sent sender m))
         → invokes_listed r.kind (component_with of_one table side entries r.entry m r.kind) ≡ None
         → invocations_at of_one table side entries r ≡ [] }
@@ -199,7 +207,8 @@ pub fn halves_show()
         → HasKind table side (items_before entries number) m kinds.WrongHalf
         → ShowsWrongHalf (scene_at of_one table side entries number m kinds.WrongHalf)
         (scene_at of_one table side entries number m kinds.WrongHalf).origin }
-    ensures wrong_dialogue { (of_one : Bool) (table : Table) (side : Side) (entries : List Entry) (number : ℕ) (m : Message)
+    ensures wrong_dialogue { (of_one : Bool) (table : Table) (side : Side) (entries : List Entry) (number : ℕ)
+        (m : Message)
         → HasKind table side (items_before entries number) m kinds.WrongDialogue
         → ShowsWrongDialogue (scene_at of_one table side entries number m kinds.WrongDialogue)
         (scene_at of_one table side entries number m kinds.WrongDialogue).origin m }
@@ -211,11 +220,13 @@ pub fn halves_show()
 /// For F5 the list is empty; for F6 no listed Invoke allows the answer; for the others, the lists have more or fewer
 /// entries than the component requires. If the kind compares nothing for a component, nothing is shown.
 pub fn components_show()
-    ensures answers_nothing { (of_one : Bool) (table : Table) (side : Side) (entries : List Entry) (number : ℕ) (m : Message)
+    ensures answers_nothing { (of_one : Bool) (table : Table) (side : Side) (entries : List Entry) (number : ℕ)
+        (m : Message)
         → has_kind_by of_one table side (items_before entries number) m kinds.AnswersNothing ≡ true
         → ShowsUnasked (scene_at of_one table side entries number m kinds.AnswersNothing)
         (component_with of_one table side entries number m kinds.AnswersNothing) }
-    ensures wrong_operation { (of_one : Bool) (table : Table) (side : Side) (entries : List Entry) (number : ℕ) (m : Message)
+    ensures wrong_operation { (of_one : Bool) (table : Table) (side : Side) (entries : List Entry) (number : ℕ)
+        (m : Message)
         → HasKind table side (items_before entries number) m kinds.WrongOperation
         → ShowsWrongOperation (scene_at of_one table side entries number m kinds.WrongOperation)
         (component_with of_one table side entries number m kinds.WrongOperation) }

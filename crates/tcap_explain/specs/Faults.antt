@@ -7,8 +7,10 @@ use Rattle.tcap_judge.specs.declared.outcome.Outcome.TheVariants.{Faulty}
 -- the file at fault, and the command that shows more, by the number of the fault
 unfoldable pub fault_words : ℕ → List ℕ
 fault_words number =
-    cond (number == 23) (codes "a file can't be opened or read: the table, the certificate or the record, the first that is needed")
-    (cond (nat_le 30 number && nat_le number 34) (codes "the operation table: `tcapjudge table TABLE` says what is wrong")
+    cond (number == 23)
+    (codes "a file can't be opened or read: the table, the certificate or the record, the first that is needed")
+    (cond (nat_le 30 number && nat_le number 34)
+    (codes "the operation table: `tcapjudge table TABLE` says what is wrong")
     (cond (number == 60) (codes "the certificate: its text is none")
     (codes "the record: `tcapjudge show --why RECORD` says what is wrong")))
 

@@ -33,7 +33,8 @@ is_shown (Some shown) r = (shown.entry == r.entry) && (kind_number shown.kind ==
 
 -- the words on the first entry that is no message, which ends the search
 unfoldable pub unread_words : ℕ → List ℕ
-unread_words count = codes "  entry " ++ decimal count ++ codes " is no message, and nothing from there on is looked at\n"
+unread_words count =
+    codes "  entry " ++ decimal count ++ codes " is no message, and nothing from there on is looked at\n"
 
 -- the words on an end without a fault
 unfoldable pub none_found_words : List ℕ

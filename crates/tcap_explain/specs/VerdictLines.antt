@@ -31,7 +31,8 @@ use Rattle.tcap_explain.specs.StepLines.{run_lines}
 -- The certificate gives a run for these entries, of both ends or of the judged end. The lines are those of its steps,
 -- in which a discard has its reason.
 abbrev pub AreLines : Option Side → Table → Certificate → List Entry → List ℕ → Type 0
-AreLines judged table c entries lines = (steps : List Step) × (replayed_by judged table c entries ≡ Ok (events_of steps))
+AreLines judged table c entries lines =
+    (steps : List Step) × (replayed_by judged table c entries ≡ Ok (events_of steps))
     × (discards_by judged table c (map item_of entries) ≡ Ok (discards_of steps)) × (lines ≡ run_lines judged steps)
 
 -- The text is some indented lines, then the findings on these ends with the reasons.

@@ -86,7 +86,8 @@ fn push_after(
     finding: Finding,
     shown: Option<Refutation>,
 ) -> Result<(), AllocError>
-    requires named { (r : Refutation) → finding ≡ findings.Blamed r → blamed table.now end read.now.entries.items ≡ Some r }
+    requires named { (r : Refutation) → finding ≡ findings.Blamed r
+        → blamed table.now end read.now.entries.items ≡ Some r }
     ensures { OnOk result (string_bytes text.new
         ≡ string_bytes text.old ++ after_text table.now read.now.entries.items shown end finding) }
 {
@@ -112,7 +113,8 @@ fn push_end(
     finding: Finding,
     shown: Option<Refutation>,
 ) -> Result<(), AllocError>
-    requires named { (r : Refutation) → finding ≡ findings.Blamed r → blamed table.now end read.now.entries.items ≡ Some r }
+    requires named { (r : Refutation) → finding ≡ findings.Blamed r
+        → blamed table.now end read.now.entries.items ≡ Some r }
     ensures { OnOk result (string_bytes text.new
         ≡ string_bytes text.old ++ end_text table.now read.now.entries.items shown end finding) }
 {
@@ -241,7 +243,8 @@ pub(crate) fn refuted_text(
 ) -> Result<String, AllocError>
     requires named { refutation_by judged table.now read.now.entries.items ≡ Some refutation }
     requires few { length read.now.entries.items ≤ 100000 }
-    ensures { IfOk result (λ text. string_bytes text ≡ refuted_lines judged table.now read.now.entries.items refutation) }
+    ensures { IfOk result
+        (λ text. string_bytes text ≡ refuted_lines judged table.now read.now.entries.items refutation) }
 {
     let mut text = String::new(alloc);
     match judged {

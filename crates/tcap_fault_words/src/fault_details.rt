@@ -1,5 +1,5 @@
-//! Details of a fault, in words. F6: the operations that an answer answers and names. F10 to F13: the invocations that an
-//! Invoke, an answer or a Reject is compared with.
+//! Details of a fault, in words. F6: the operations that an answer answers and names. F10 to F13: the invocations that
+//! an Invoke, an answer or a Reject is compared with.
 //!
 //! Each function returns `AllocError` if memory runs out.
 

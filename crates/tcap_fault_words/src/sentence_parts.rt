@@ -68,8 +68,8 @@ fn push_start(text: &mut String, octets: &[u8]) -> Result<(), AllocError> {
     text.push_str(if octets.len() > MOST_OCTETS { ".." } else { "" })
 }
 
-/// Appends the place in which the peer sent nothing that would allow the message at fault, and the entry in which it does
-/// so later, if there is one.
+/// Appends the place in which the peer sent nothing that would allow the message at fault, and the entry in which it
+/// does so later, if there is one.
 pub(crate) fn push_none_in(
     text: &mut String,
     at: &AtFault,
@@ -84,8 +84,8 @@ pub(crate) fn push_none_in(
     text.push_str(": is the trace in order?")
 }
 
-/// Appends the dialogue, in which the peer had sent nothing, and the first entry in which it does, if there is one. Only a
-/// later Begin suggests that the trace is out of order, since a dialogue may have been under way before it.
+/// Appends the dialogue, in which the peer had sent nothing, and the first entry in which it does, if there is one.
+/// Only a later Begin suggests that the trace is out of order, since a dialogue may have been under way before it.
 pub(crate) fn push_nothing_before(text: &mut String, at: &AtFault) -> Result<(), AllocError> {
     text.push_str(DIALOGUE)?;
     let Some(number) = at.later(Wanted::Any) else {

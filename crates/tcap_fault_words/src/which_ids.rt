@@ -28,7 +28,8 @@ fn push_nothing(text: &mut String, at: &AtFault) -> Result<bool, AllocError> {
     Ok(true)
 }
 
-/// Appends what an Abort with this cause answers, and that the peer sent no such message; or that Q.773 lacks the cause.
+/// Appends what an Abort with this cause answers, and that the peer sent no such message; or that Q.773 lacks the
+/// cause.
 fn push_unfounded(text: &mut String, at: &AtFault, cause: u8) -> Result<bool, AllocError> {
     let (what, form) = match cause {
         UNRECOGNIZED => (" answers a Continue, and ", Form::Continue),
@@ -293,8 +294,8 @@ fn push_all_answered(text: &mut String, at: &AtFault, number: u64) -> Result<boo
     Ok(true)
 }
 
-/// Appends that the end received a Continue, since it sent entry `number` to the destination ID, and whether it answered
-/// others with cause 1.
+/// Appends that the end received a Continue, since it sent entry `number` to the destination ID, and whether it
+/// answered others with cause 1.
 fn push_received(
     text: &mut String,
     at: &AtFault,

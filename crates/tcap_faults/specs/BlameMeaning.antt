@@ -47,7 +47,8 @@ HasNoMark table before side =
     → w.sent ≡ before ++ Item.Quiet ∷ behind → ⊥
 
 -- A quiet mark with F15. No run in which the end keeps the rules has it there.
-pub record IsFalseMark (table : Table) (side : Side) (entries : List (Result Item Reason)) (r : Refutation) : Type 0 where
+pub record IsFalseMark (table : Table) (side : Side) (entries : List (Result Item Reason)) (r : Refutation) : Type
+    0 where
   pub before : List Item
   pub more : List (Result Item Reason)
   pub are : entries ≡ map (λ item. Ok item) before ++ (Ok Item.Quiet ∷ more)

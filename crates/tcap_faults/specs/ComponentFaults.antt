@@ -46,7 +46,8 @@ invokes_one_of ids _ = false
 
 -- `new` is `old` after one more component of a message without destination ID. `behind` are the IDs `before` it with
 -- its own, if it is an Invoke.
-pub record IsFirstNoted (before behind : BTreeSet ℤ) (number : ℕ) (c : Component) (old new : ComponentFaults) : Type 0 where
+pub record IsFirstNoted (before behind : BTreeSet ℤ) (number : ℕ) (c : Component) (old new : ComponentFaults) : Type
+    0 where
   pub ids : (id : ℤ) → contains int_cmp behind id ≡ contains int_cmp before id || invokes id c
   pub busy : new.busy ≡ first_or old.busy (invokes_one_of before c) number
   pub badly_linked : new.badly_linked ≡ first_or old.badly_linked (is_linked c) number

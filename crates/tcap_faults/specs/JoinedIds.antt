@@ -32,7 +32,8 @@ abbrev pub HasMore : (List ℕ → Bool) → BTreeSet (List ℕ) → BTreeSet (L
 HasMore so old new = (id : List ℕ) → set.contains octets_cmp new id ≡ set.contains octets_cmp old id || so id
 
 -- After one more message of the end, its joined and ended IDs are kept too, and the rest is unchanged.
-pub record IsJoined (side : Side) (items : List Item) (m : Message) (own own_now peer peer_now : SideFacts) : Type 0 where
+pub record IsJoined (side : Side) (items : List Item) (m : Message) (own own_now peer peer_now : SideFacts) : Type
+    0 where
   pub own_joined : (id : List ℕ)
       → AreAmong (filter (has_used (other side) items) (dtids_of (sent_from side (items ++ Sent side m ∷ []) id)))
       (lookup (is_at (octets_cmp id)) own_now.joined.entries)
@@ -44,6 +45,7 @@ pub record IsJoined (side : Side) (items : List Item) (m : Message) (own own_now
       ≡ list_any (has_ended side (items ++ Sent side m ∷ [])) (peers_of side (items ++ Sent side m ∷ []) id)
   pub peer_over : (id : List ℕ)
       → set.contains octets_cmp peer_now.over id
-      ≡ list_any (has_ended (other side) (items ++ Sent side m ∷ [])) (peers_of (other side) (items ++ Sent side m ∷ []) id)
+      ≡ list_any (has_ended (other side) (items ++ Sent side m ∷ []))
+      (peers_of (other side) (items ++ Sent side m ∷ []) id)
   pub own_rest : own_now ≡ record own { over = own_now.over; joined = own_now.joined }
   pub peer_rest : peer_now ≡ record peer { over = peer_now.over; joined = peer_now.joined }

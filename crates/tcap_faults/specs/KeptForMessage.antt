@@ -25,7 +25,8 @@ pub record IsPeerId (table : Table) (side : Side) (items : List Item) (id : List
   pub it : peer_id.id.now ≡ id
   pub from : IsFromAt table (sent_from (other side) items id) (option_copied peer_id.from)
   pub to : IsToAt table (sent_to side items id) (option_copied peer_id.to)
-  pub joined : AreAmong (filter (has_used side items) (dtids_of (sent_from (other side) items id))) (option_copied peer_id.joined)
+  pub joined : AreAmong (filter (has_used side items) (dtids_of (sent_from (other side) items id)))
+      (option_copied peer_id.joined)
 
 -- `IsOwnId`, if there is an ID.
 abbrev pub IsOwnIdAt : Table → Side → List Item → Option (List ℕ) → Option OwnId → Type 0

@@ -47,7 +47,8 @@ tangled_at side entries number = by (slice_get (map item_of entries) number)
   where
     by : Option (Result Item Reason) → Option TangledId
     by (Some (Ok (Sent sender m))) =
-        cond (is_side side sender) (tangled_in side (since_quiet (items_among (map item_of (take number entries)))) m) None
+        cond (is_side side sender) (tangled_in side (since_quiet (items_among (map item_of (take number entries)))) m)
+        None
     by entry = None
 
 -- The reason: an own ID that was used again, or else a tangled ID.

@@ -102,7 +102,8 @@ wrong_dialogue = ((refl, (refl, refl)), (refl, tt))
 
 -- F10: one invoke ID twice in a Begin.
 pub invoke_id_busy : IsBlamed all_expire
-    (Sent A (Begin (1 ∷ []) None (Some (Invoke (pos 1) None (Local (pos 45)) None ∷ Invoke (pos 1) None (Local (pos 46)) None ∷ []))) ∷ [])
+    (Sent A (Begin (1 ∷ []) None
+    (Some (Invoke (pos 1) None (Local (pos 45)) None ∷ Invoke (pos 1) None (Local (pos 46)) None ∷ []))) ∷ [])
     (Blamed 0 (10 ∷ []))
     Unblamed
 invoke_id_busy = ((refl, (refl, refl)), (refl, tt))
@@ -117,7 +118,8 @@ bad_link = ((refl, (refl, refl)), (refl, tt))
 -- F12: A answers one invocation twice.
 pub answered_already : IsBlamed all_expire
     (Sent B (Begin (7 ∷ []) None (Some (Invoke (pos 1) None (Local (pos 45)) None ∷ [])))
-    ∷ Sent A (EndMessage (7 ∷ []) None (Some (ReturnResult true (pos 1) None ∷ ReturnResult true (pos 1) None ∷ []))) ∷ [])
+    ∷ Sent A (EndMessage (7 ∷ []) None (Some (ReturnResult true (pos 1) None ∷ ReturnResult true (pos 1) None ∷ [])))
+    ∷ [])
     (Blamed 1 (12 ∷ []))
     Unblamed
 answered_already = ((refl, (refl, refl)), (refl, tt))

@@ -24,7 +24,8 @@ unblamed items side number = unblamed_at table side (map entry_of items) number
 
 -- A uses 01 again in entry 2. Its half with 03 is open at the mark, and the next dialogue begins after the mark.
 abbrev used_again : List Item
-used_again = begins A 1 ∷ ends B 1 ∷ begins A 1 ∷ begins A 3 ∷ goes_on B 9 3 ∷ goes_on A 3 9 ∷ Item.Quiet ∷ begins A 4 ∷ []
+used_again =
+    begins A 1 ∷ ends B 1 ∷ begins A 1 ∷ begins A 3 ∷ goes_on B 9 3 ∷ goes_on A 3 9 ∷ Item.Quiet ∷ begins A 4 ∷ []
 
 -- From entry 2 on, nothing is blamed on A up to the quiet mark and at it. After the mark, entry 2 no longer matters.
 pub before_it : unblamed used_again A 1 ≡ None

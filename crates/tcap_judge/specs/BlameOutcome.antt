@@ -90,7 +90,8 @@ joint_record_verdict judged table entries (Err fault) = record_verdict judged ta
 -- messages, or `NOT BLAMED` with the number of entries
 abbrev pub finding_line : Side → Finding → List ℕ
 finding_line side (findings.Blamed r) =
-    codes "BLAMED " ++ letter side ++ codes " " ++ decimal r.entry ++ codes " F" ++ decimal (kind_number r.kind) ++ line_end
+    codes "BLAMED " ++ letter side ++ codes " " ++ decimal r.entry ++ codes " F" ++ decimal (kind_number r.kind)
+    ++ line_end
 finding_line side (findings.Lawful count unheard) =
     codes "LAWFUL " ++ letter side ++ codes " " ++ decimal count ++ codes " unheard " ++ decimal unheard ++ line_end
 finding_line side (findings.NotBlamed count) =

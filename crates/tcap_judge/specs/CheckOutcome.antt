@@ -105,7 +105,8 @@ IsReasoned judged table c entries outcome = Unit {0}
 
 -- If the certificate describes a run of two ends that sends exactly the items of the record, the outcome is lawful.
 abbrev pub SaysOfDescribed : Table → Certificate → List Entry → Result (Unit {0}) FeedFault → Outcome → Type 0
-SaysOfDescribed table c entries end outcome = (items : List Item) (events : List Event) → end ≡ Ok tt → AreItems entries items
+SaysOfDescribed table c entries end outcome =
+    (items : List Item) (events : List Event) → end ≡ Ok tt → AreItems entries items
     → IsRunOf items table events → IsDescribedBy table c items events → outcome ≡ Lawful (length items)
 
 -- The reader returned these entries, and this end after them. The outcome is that of the entries, and it holds.
@@ -133,7 +134,8 @@ JudgesBy judged table (Err reported) entries outcome = (outcome ≡ reported) ×
 -- If the table has a fault, the outcome is this fault, and nothing of the certificate and the record is read.
 abbrev pub JudgesWith : Option Side → Result Table Outcome → Device → Device → Outcome → Type 0
 JudgesWith judged (Ok table) certificate entries outcome =
-    (given : Result Certificate Outcome) × ReadsCertificate certificate given × JudgesBy judged table given entries outcome
+    (given : Result Certificate Outcome) × ReadsCertificate certificate given
+    × JudgesBy judged table given entries outcome
 JudgesWith judged (Err reported) certificate entries outcome =
     (outcome ≡ reported) × IsUntouched certificate × IsUntouched entries
 

@@ -24,7 +24,8 @@ IsCheckerOf judged table c (Err fault) entries = certificate_fits c ≡ Err faul
 -- The checker takes one more entry.
 abbrev pub Takes : Result CheckerState CheckFault → Entry → Result CheckerState CheckFault → Type 0
 Takes old entry new =
-    (judged : Option Side) (table : Table) (c : Certificate) (entries : List Entry) → IsCheckerOf judged table c old entries
+    (judged : Option Side) (table : Table) (c : Certificate) (entries : List Entry)
+    → IsCheckerOf judged table c old entries
     → IsCheckerOf judged table c new (entries ++ entry ∷ [])
 
 -- The octets taken so far are these entries and the octets held, and the checker took the entries.
@@ -52,7 +53,8 @@ LeadsFed old_held old octets held =
 -- If the record ended without a fault, the checker took these entries, and this many were dropped.
 abbrev pub EndsWith : Option Side → Table → Certificate → List Entry → FramerState → Result CheckerState CheckFault
     → Result (Unit {0}) FeedFault → Type 0
-EndsWith judged table c entries held checker (Ok end) = (held.count ≡ length entries) × IsCheckerOf judged table c checker entries
+EndsWith judged table c entries held checker (Ok end) =
+    (held.count ≡ length entries) × IsCheckerOf judged table c checker entries
 EndsWith judged table c entries held checker (Err fault) = Unit {0}
 
 -- The reader returned these entries, which the checker took, and this end after them.

@@ -79,7 +79,8 @@ line_asked false c = []
 
 -- the text after the line of an outcome: if it is lawful, the proposed certificate, if requested
 abbrev pub certificate_line : Option Side → Bool → List Entry → Outcome → List ℕ
-certificate_line judged with_certificate entries (Lawful count) = line_asked with_certificate (proposed_by judged entries)
+certificate_line judged with_certificate entries (Lawful count) =
+    line_asked with_certificate (proposed_by judged entries)
 certificate_line judged with_certificate entries (LawfulFor count unheard) =
     line_asked with_certificate (proposed_by judged entries)
 certificate_line judged with_certificate entries outcome = []

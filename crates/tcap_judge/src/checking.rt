@@ -157,7 +157,8 @@ fn judge_record<R: Read>(
     certificate: &Certificate,
     judged: Option<End>,
 ) -> Outcome
-    ensures { JudgesRecord judged table.now certificate.now (device R.remaining R.failures reader.old reader.new) result }
+    ensures { JudgesRecord judged table.now certificate.now (device R.remaining R.failures reader.old reader.new)
+        result }
 {
     let mut frames = Frames::new(alloc);
     let Some(mut checker) = start(alloc, table, certificate, judged) else {
@@ -218,7 +219,8 @@ pub fn run_check<R: Read, T: Read, C: Read, W: Write>(
     writer: &mut W,
 ) -> Result<Status, WriteFailed>
     ensures checks { IfOk result (Checks judged (device R.remaining R.failures entries.old entries.new)
-        (device T.remaining T.failures table.old table.new) (device C.remaining C.failures certificate.old certificate.new)
+        (device T.remaining T.failures table.old table.new)
+        (device C.remaining C.failures certificate.old certificate.new)
         (W.taken writer.old) (W.taken writer.new)) }
     ensures lawful { result ≡ Ok Status.Fine
         → FindsLawfulBy judged (device R.remaining R.failures entries.old entries.new)

@@ -57,7 +57,8 @@ pub(crate) fn find_alike(
     end: End,
 ) -> Finding
     requires few { length read.now.entries.items ≤ 100000 }
-    requires given { (events : List Event) × (replayed_by None table.now certificate.now read.now.entries.items ≡ Ok events) }
+    requires given { (events : List Event)
+        × (replayed_by None table.now certificate.now read.now.entries.items ≡ Ok events) }
     requires alike { certificate.now ≡ proposed_for end read.now.entries.items }
     ensures { (result ≡ finding table.now read.now.entries.items end)
         × IsFound end table.now read.now.entries.items result }

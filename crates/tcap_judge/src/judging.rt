@@ -24,7 +24,8 @@ fn judge_by_table<R: Read>(
     judged: Option<End>,
     with_certificate: bool,
 ) -> RecordVerdict
-    ensures { GivesVerdict judged table.now with_certificate (device R.remaining R.failures reader.old reader.new) result.outcome (string_bytes result.after) }
+    ensures { GivesVerdict judged table.now with_certificate (device R.remaining R.failures reader.old reader.new)
+        result.outcome (string_bytes result.after) }
 {
     match read_record(alloc, reader) {
         Ok(read) => match judge_record(alloc, &read, table, judged, with_certificate) {

@@ -24,7 +24,8 @@ ghost use Rattle.tcap_judge.specs.RecordReading.{IsOfOctets};
 /// Shows that no certificate gives a run for an end on which an entry is blamed: no end is both lawful alone and at
 /// fault.
 pub fn blamed_is_never_given()
-    ensures { (table : Table) (side : Side) (c : Certificate) (entries : List Entry) (r : Refutation) (events : List Event)
+    ensures { (table : Table) (side : Side) (c : Certificate) (entries : List Entry) (r : Refutation)
+        (events : List Event)
         → blamed table side entries ≡ Some r → replayed_by (Some side) table c entries ≡ Ok events → ⊥ }
 {}
 

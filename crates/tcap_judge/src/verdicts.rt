@@ -141,7 +141,8 @@ pub(crate) fn judge_by_search(
     with_certificate: bool,
 ) -> Result<RecordVerdict, AllocError>
     requires few { length read.now.entries.items ≤ 100000 }
-    ensures { IfOk result (λ reported. IsVerdictBySearch judged table.now with_certificate read.now.entries.items reported.outcome
+    ensures { IfOk result
+        (λ reported. IsVerdictBySearch judged table.now with_certificate read.now.entries.items reported.outcome
         (string_bytes reported.after)) }
 {
     let certificate = propose(alloc, read, judged)?;
@@ -202,7 +203,8 @@ pub fn judge_record(
     with_certificate: bool,
 ) -> Result<RecordVerdict, AllocError>
     requires few { length read.now.entries.items ≤ 100000 }
-    ensures { IfOk result (λ reported. IsVerdict judged table.now with_certificate read.now.entries.items reported.outcome
+    ensures { IfOk result
+        (λ reported. IsVerdict judged table.now with_certificate read.now.entries.items reported.outcome
         (string_bytes reported.after)) }
 {
     if let Some(end) = judged {

@@ -9,7 +9,8 @@ kinds_in marks = map (λ mark. mark.kind) marks
 
 -- Each mark's `before` is greater than all earlier places of its kind.
 abbrev pub AreBefore : List Mark → Type 0
-AreBefore marks = (n at : ℕ) (mark other : Mark) → slice_get marks at ≡ Some mark → slice_get marks n ≡ Some other → n < at
+AreBefore marks =
+    (n at : ℕ) (mark other : Mark) → slice_get marks at ≡ Some mark → slice_get marks n ≡ Some other → n < at
     → other.kind ≡ mark.kind → n < mark.before
 
 -- The end of each kind is greater than all its places.
@@ -18,4 +19,5 @@ AreEnds marks ends = (at : ℕ) (mark : Mark) → slice_get marks at ≡ Some ma
 
 -- An item in a place has the kind that is known for the place.
 abbrev pub AreMarked : List (Option ℕ) → List ℕ → Type 0
-AreMarked places kinds = (at kind known : ℕ) → slice_index_or places at None ≡ Some kind → slice_get kinds at ≡ Some known → known ≡ kind
+AreMarked places kinds =
+    (at kind known : ℕ) → slice_index_or places at None ≡ Some kind → slice_get kinds at ≡ Some known → known ≡ kind

@@ -8,4 +8,5 @@ pub record Items (T : Type 0) : Type 0 where
 
 -- the list is stored as its items
 abbrev pub items_code : {T : Type 0} → Coded T → Coded (Items T)
-items_code {T} code = code_by (List T) (coded_list code) (λ list. list.items) (λ items. record { items = items }) (λ _. refl)
+items_code {T} code =
+    code_by (List T) (coded_list code) (λ list. list.items) (λ items. record { items = items }) (λ _. refl)

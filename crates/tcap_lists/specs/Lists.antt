@@ -60,7 +60,8 @@ HasRow id l = IsSome (lookup (is_at (int_cmp id)) l.rows.entries)
 
 -- the kind with this number in an ID's row
 abbrev pub kind_of : {K : Type 0} → ℤ → ℕ → Lists K → Option K
-kind_of id number l = option_and_then (λ row. slice_get row.value.kinds.items number) (lookup (is_at (int_cmp id)) l.rows.entries)
+kind_of id number l =
+    option_and_then (λ row. slice_get row.value.kinds.items number) (lookup (is_at (int_cmp id)) l.rows.entries)
 
 -- Each row and each kind of the first lists is in the second, with the same ID and number.
 pub record KeepsRows {K : Type 0} (l next : Lists K) : Type 0 where

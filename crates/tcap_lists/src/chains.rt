@@ -162,8 +162,8 @@ impl Chains {
         }
     }
 
-    /// Notes that an item of this kind is put in a place. Unless the place is known to have this kind, forgets the kinds of
-    /// all places.
+    /// Notes that an item of this kind is put in a place. Unless the place is known to have this kind, forgets the
+    /// kinds of all places.
     pub(crate) fn keep(&mut self, at: usize, kind: usize)
         ensures { (places : List (Option ℕ)) → at < length places → AreMarked places (kinds_in self.old.marks.items)
             → AreMarked (slice_set places at (Some kind)) (kinds_in self.new.marks.items) }

@@ -47,7 +47,8 @@ fn kind_or(places: &[Option<usize>], at: usize, kind: usize) -> usize
 
 /// Adds the next place to the chain of its kind; an empty place is added to that of `kind`.
 fn follow_one(places: &[Option<usize>], chains: &mut Chains, kind: usize) -> Result<(), AllocError>
-    ensures { AreMarked places.now (kinds_in chains.old.marks.items) → AreMarked places.now (kinds_in chains.new.marks.items) }
+    ensures { AreMarked places.now (kinds_in chains.old.marks.items)
+        → AreMarked places.now (kinds_in chains.new.marks.items) }
 {
     let known = kind_or(places, chains.len(), kind);
     chains.push(known)

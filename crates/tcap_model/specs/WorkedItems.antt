@@ -24,7 +24,8 @@ operation class expires = record { class = class; linked = []; expires = expires
 -- the parameter says whether invocations of 45 expire
 abbrev table_with : Bool → Table
 table_with expires = record {
-  operations = (Local (pos 45), operation 1 expires) ∷ (Local (pos 46), operation 2 true) ∷ (Local (pos 47), operation 3 true)
+  operations =
+      (Local (pos 45), operation 1 expires) ∷ (Local (pos 46), operation 2 true) ∷ (Local (pos 47), operation 3 true)
       ∷ (Local (pos 48), operation 4 true)
       ∷ (Local (pos 50), record (operation 1 true) { linked = (Local (pos 48), tt) ∷ [] }) ∷ [];
   prearranged = false;
@@ -90,11 +91,13 @@ accepting = Some (Response context 0 (User 0) None)
 
 -- a dialogue: a Begin requests it, a Continue accepts it, an End ends it
 abbrev pub dialogue_items : List Item
-dialogue_items = Sent A (begin request (Some (invoke 45 ∷ []))) ∷ Sent B (answer accepting (Some (result ∷ []))) ∷ Sent A (end_to 2 None) ∷ []
+dialogue_items = Sent A (begin request (Some (invoke 45 ∷ []))) ∷ Sent B (answer accepting (Some (result ∷ [])))
+    ∷ Sent A (end_to 2 None) ∷ []
 
 -- A's End and B's Continue cross, and A's provider answers the Continue with an Abort of cause 1
 abbrev pub crossing_items : List Item
-crossing_items = Sent A (begin None None) ∷ Sent B (answer None None) ∷ Sent A (end_to 2 None) ∷ Sent B (answer None None)
+crossing_items =
+    Sent A (begin None None) ∷ Sent B (answer None None) ∷ Sent A (end_to 2 None) ∷ Sent B (answer None None)
     ∷ Sent A (provider_abort (id 2) 1) ∷ []
 
 -- after a quiet mark, A uses its transaction ID 01 again

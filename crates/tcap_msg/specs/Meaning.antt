@@ -34,7 +34,8 @@ message_of (views.Unidirectional dialogue components) = owned.Unidirectional (op
 message_of (views.Begin otid dialogue components) = owned.Begin otid.octets.now (option_map dialogue_of dialogue)
     (option_map components_of components)
 message_of (views.Continue otid dtid dialogue components) =
-    owned.Continue otid.octets.now dtid.octets.now (option_map dialogue_of dialogue) (option_map components_of components)
+    owned.Continue otid.octets.now dtid.octets.now (option_map dialogue_of dialogue)
+    (option_map components_of components)
 message_of (views.End dtid dialogue components) = owned.End dtid.octets.now (option_map dialogue_of dialogue)
     (option_map components_of components)
 message_of (views.Abort dtid reason) = owned.Abort dtid.octets.now (option_map reason_of reason)

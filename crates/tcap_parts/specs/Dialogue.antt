@@ -75,7 +75,8 @@ make_response parts = Response parts.1.0 parts.1.1.0 parts.1.1.1.0 parts.1.1.1.1
 abbrev pub response : Body Dialogue
 response =
     made make_response (structure (
-    optional 0x80 version ⨾ required 0xA1 context ⨾ required 0xA2 number ⨾ required 0xA3 (single (one_of source)) ⨾ optional 0xBE info ⨾ ended
+    optional 0x80 version ⨾ required 0xA1 context ⨾ required 0xA2 number ⨾ required 0xA3 (single (one_of source))
+    ⨾ optional 0xBE info ⨾ ended
     ))
 
 abbrev pub make_abort : ℕ × (Option (List ℕ) × Unit {0}) → Dialogue

@@ -37,7 +37,8 @@ canonical_named context info = canonical_version ⧺ canonical_context context �
 abbrev pub canonical_pdu_content : Dialogue → Option (List ℕ)
 canonical_pdu_content (Request context info) = canonical_named context info
 canonical_pdu_content (Response context result diagnostic info) =
-    canonical_version ⧺ canonical_context context ⧺ canonical_number 0xA2 result ⧺ element_around 0xA3 (canonical_source diagnostic) ⧺ canonical_info info
+    canonical_version ⧺ canonical_context context ⧺ canonical_number 0xA2 result
+    ⧺ element_around 0xA3 (canonical_source diagnostic) ⧺ canonical_info info
 canonical_pdu_content (Abort source info) = element_around 0x80 (Some (source ∷ [])) ⧺ canonical_info info
 canonical_pdu_content (Uni context info) = canonical_named context info
 

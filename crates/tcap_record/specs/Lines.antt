@@ -135,7 +135,8 @@ dialogue_portion_text (Some dialogue) = dialogue_text dialogue
 -- a message without its components: its kind, and those of its parts that it has
 abbrev pub head_text : Message → List ℕ
 head_text m =
-    kind_name (kind_in m) ++ id_text (codes " otid=") (otid_in m) ++ id_text (codes " dtid=") (dtid_in m) ++ cause_text (cause_in m)
+    kind_name (kind_in m) ++ id_text (codes " otid=") (otid_in m) ++ id_text (codes " dtid=") (dtid_in m)
+    ++ cause_text (cause_in m)
     ++ dialogue_portion_text (dialogue_in m)
 
 -- a message, as it comes after its entry's number and end, and the lines of its components

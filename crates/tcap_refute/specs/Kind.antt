@@ -151,7 +151,8 @@ no_class_allows table components _ = false
 -- F6: An Invoke of an operation that the table lacks or, in a Unidirectional, that is not of class 4; or an answer
 -- that no Invoke of the peer allows.
 abbrev pub is_wrong_operation : Table → Side → List Item → Message → Bool
-is_wrong_operation table side before (Unidirectional dialogue components) = list_any (is_not_of_class_4 table) components
+is_wrong_operation table side before (Unidirectional dialogue components) =
+    list_any (is_not_of_class_4 table) components
 is_wrong_operation table side before message =
     list_any (is_unknown_operation table) (components_in message) || by (dtid_in message)
   where

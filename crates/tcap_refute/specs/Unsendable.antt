@@ -45,4 +45,5 @@ IsAtFault table entries r =
 
 -- The kind is F1 exactly if the octets of the entry are no message, for a reason that is no limit of this profile.
 abbrev pub IsBadByKind : List (Result Item Reason) → Refutation → Type 0
-IsBadByKind entries r = (r.kind ≡ kinds.BadMessage → IsBadEntry entries r.entry) × (IsBadEntry entries r.entry → r.kind ≡ kinds.BadMessage)
+IsBadByKind entries r =
+    (r.kind ≡ kinds.BadMessage → IsBadEntry entries r.entry) × (IsBadEntry entries r.entry → r.kind ≡ kinds.BadMessage)

@@ -21,7 +21,8 @@ WhateverFollows remaining P = (more : List ℕ) → (IsAtEnd remaining → more 
 
 -- The form of a trace that begins with these octets has a fault after the pieces `ps`.
 abbrev pub HasFault : Option (List ℕ) → List ℕ → List Piece → Type 0
-HasFault remaining read ps = (rule : FormRule) × WhateverFollows remaining (λ more. pieces_of (read ++ more) ≡ with_front ps (stopped rule))
+HasFault remaining read ps =
+    (rule : FormRule) × WhateverFollows remaining (λ more. pieces_of (read ++ more) ≡ with_front ps (stopped rule))
 
 -- The reading may stop after these octets: the reader failed once, or it returned 2 ^ 64 - 1 octets or pieces, or more.
 -- `ps` are first pieces of the trace, maybe not all that were read.
@@ -32,10 +33,12 @@ IsCutShort remaining failures failures' read ps =
 
 -- This verdict was returned, and the sum gained the verdict on each reported dialogue, the number of entries, and the
 -- verdict on the trace. `unheard` is any number.
-pub record IsReported (options : TraceOptions) (report : JudgedTrace) (verdict : Verdict) (before after : Sum) : Type 0 where
+pub record IsReported (options : TraceOptions) (report : JudgedTrace) (verdict : Verdict) (before after : Sum) : Type
+    0 where
   pub unheard : ℕ
   pub is : verdict ≡ report.verdict
-  pub sum : after ≡ with_verdict verdict (with_read (counts_of (map (verdict_on (asked_of options)) report.dialogues)) report.messages unheard before)
+  pub sum : after ≡ with_verdict verdict
+      (with_read (counts_of (map (verdict_on (asked_of options)) report.dialogues)) report.messages unheard before)
 
 -- These octets are the whole trace, no read failed, the form has no fault, and the report is that of `judged_trace`.
 abbrev pub AnswersWhole : TraceOptions → Option (List ℕ) → ℕ → ℕ → List ℕ → Verdict → Sum → Sum → Type 0
@@ -47,17 +50,20 @@ AnswersWhole options remaining failures failures' read verdict before after =
 abbrev pub AnswersFaulty : TraceOptions → Option (List ℕ) → List ℕ → Verdict → Sum → Sum → Type 0
 AnswersFaulty options remaining read verdict before after =
     (ps : List Piece) × HasFault remaining read ps
-    × WhateverFollows remaining (λ more. IsReported options (judged_trace (asked_of options) (read ++ more)) verdict before after)
+    × WhateverFollows remaining
+    (λ more. IsReported options (judged_trace (asked_of options) (read ++ more)) verdict before after)
 
 -- The reading stopped early, and the report is that on first pieces of the trace and a fault after them.
 abbrev pub AnswersEarly : TraceOptions → Option (List ℕ) → ℕ → ℕ → List ℕ → Verdict → Sum → Sum → Type 0
 AnswersEarly options remaining failures failures' read verdict before after =
     (ps : List Piece) × IsCutShort remaining failures failures' read ps × (rule : FormRule)
-    × IsReported options (judged_pieces (asked_of options) (record { pieces = ps; fault = Some rule })) verdict before after
+    × IsReported options (judged_pieces (asked_of options) (record { pieces = ps; fault = Some rule })) verdict before
+    after
 
 -- The reader returned the octets `read`, or any octets if its octets are not known. They are the whole trace, or its
 -- form has a fault, or the reading stopped early; and this is the verdict on them.
-pub record Answers (options : TraceOptions) (remaining remaining' : Option (List ℕ)) (failures failures' : ℕ) (verdict : Verdict)
+pub record Answers (options : TraceOptions) (remaining remaining' : Option (List ℕ)) (failures failures' : ℕ)
+    (verdict : Verdict)
     (before after : Sum) : Type 0 where
   pub read : List ℕ
   pub returned : Consumes remaining remaining' read

@@ -66,7 +66,8 @@ no_id id = false
 
 -- What is kept of a trace in state `s`. Of the segment, the dialogues `done` were judged, and the entries of those in
 -- `waiting` are held. `names` is true for the IDs that are noted as sent from in this segment by their owner.
-pub record Keeps (options : TraceOptions) (s : State) (done waiting : List Course) (names : IdOf → Bool) (t : Trace) : Type 0 where
+pub record Keeps (options : TraceOptions) (s : State) (done waiting : List Course) (names : IdOf → Bool)
+    (t : Trace) : Type 0 where
   pub asks : t.options ≡ options
   -- The verdicts so far are counted.
   pub counts : t.dialogues ≡ counts_of (map (verdict_on (asked_of options)) (s.reported ++ reported_of options s done))
@@ -75,7 +76,8 @@ pub record Keeps (options : TraceOptions) (s : State) (done waiting : List Cours
   pub broken_off : is_some t.broken_off ≡ s.broken_off
   pub under_way : t.under_way ≡ s.segment.under_way
   -- The entries of the dialogues that wait are held by their numbers.
-  pub held : (n : ℕ) → list_any (λ d. has_entry d n) waiting ≡ true → tree.get nat_cmp t.held n ≡ slice_get s.segment.entries n
+  pub held : (n : ℕ) → list_any (λ d. has_entry d n) waiting ≡ true
+      → tree.get nat_cmp t.held n ≡ slice_get s.segment.entries n
   -- The notes on IDs are those of the earlier segments and of the dialogues `done`.
   pub marks : AreMarked s.before.sent s.before.open (λ d. may_go_on (dialogue_at s d)) names done t.marks
   -- The unreadable entries are noted. `begun`: a dialogue with IDs began with the entry with this number.
@@ -100,12 +102,14 @@ abbrev pub with_next : TraceOptions → State → TraceEntry → State
 with_next options s e = after_piece (asked_of options) s (Entry e)
 
 -- An entry was taken. The dialogues whose IDs are free after it are `given`; they and the live dialogues wait.
-pub record HoldsEntry (options : TraceOptions) (s : State) (e : TraceEntry) (given : List CompleteDialogue) (t : Trace) : Type 0 where
+pub record HoldsEntry (options : TraceOptions) (s : State) (e : TraceEntry) (given : List CompleteDialogue)
+    (t : Trace) : Type 0 where
   pub freed : List Course
   pub done : (courses_at options (with_next options s e)).done ≡ (courses_at options s).done ++ freed
   pub over : (d : Course) → Contains freed d → is_some d.over ≡ true
   pub are : AreCompleteDialogues freed given
-  pub keeps : Keeps options (with_next options s e) (courses_at options s).done (freed ++ (courses_at options (with_next options s e)).live) no_id t
+  pub keeps : Keeps options (with_next options s e) (courses_at options s).done
+      (freed ++ (courses_at options (with_next options s e)).live) no_id t
   pub cut : IsCut options.reuse (headings_of (with_next options s e)) t.cut
   pub count : t.count ≡ length (with_next options s e).segment.entries
 

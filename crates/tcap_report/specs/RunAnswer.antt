@@ -29,7 +29,8 @@ unread_after failures unread = cond (nat_lt 0 failures) (one_more unread) unread
 -- ---- the traces of a run
 
 -- A trace with these octets was read, and got this verdict. `unread` is the number of unread traces before it.
-pub record IsRead (options : TraceOptions) (octets : Option (List ℕ)) (verdict : Verdict) (before after : Sum) (unread unread' : ℕ) : Type 0 where
+pub record IsRead (options : TraceOptions) (octets : Option (List ℕ)) (verdict : Verdict) (before after : Sum)
+    (unread unread' : ℕ) : Type 0 where
   pub remaining : Option (List ℕ)
   pub failures : ℕ
   pub answers : Answers options octets remaining 0 failures verdict before after
@@ -39,7 +40,8 @@ pub record IsRead (options : TraceOptions) (octets : Option (List ℕ)) (verdict
 abbrev pub IsAnswered : TraceOptions → Option (List ℕ) → Verdict → Sum → Sum → ℕ → ℕ → Type 0
 IsAnswered options octets verdict before after unread unread' =
     IsRead options octets verdict before after unread unread'
-    ⊎ ((verdict ≡ verdicts.Error) × (after ≡ with_verdict verdicts.Error (with_read no_counts 0 0 before)) × (unread' ≡ one_more unread))
+    ⊎ ((verdict ≡ verdicts.Error) × (after ≡ with_verdict verdicts.Error (with_read no_counts 0 0 before))
+    × (unread' ≡ one_more unread))
 
 -- The traces from this number on got these verdicts, one after another.
 abbrev pub AreAnswered : TraceOptions → (ℕ → Option (List ℕ)) → ℕ → List Verdict → Sum → Sum → ℕ → ℕ → Type 0

@@ -19,7 +19,8 @@ use Rattle.tcap_report.specs.KeptState.{IsOver, IsReading, asked_of}
 -- form of the trace has a fault, and no piece comes before it. Or the run stops.
 abbrev pub Returns : PieceReader → Result (Option APiece) Halt → PieceReader → Type 0
 Returns old (Ok piece) new = ReaderReturns old (Ok piece) new
-Returns old (Err (halts.Form fault)) new = (rule : FormRule) × NoMatterWhat old (λ more. pieces_left old more ≡ stopped rule)
+Returns old (Err (halts.Form fault)) new =
+    (rule : FormRule) × NoMatterWhat old (λ more. pieces_left old more ≡ stopped rule)
 Returns old (Err (halts.Stop stop)) new = Unit {0}
 
 -- The trace begins with the octets `read`. Its first pieces are `ps`, and those that the reader of pieces still returns
@@ -36,15 +37,18 @@ ReadsOn options read (Ok _) r t =
 ReadsOn options read (Err (halts.Form fault)) r t =
     (ps : List Piece) × IsReading options (after_pieces (asked_of options) start ps) t
     × (((rule : FormRule) × NoMatterWhat r (λ more. pieces_of (read ++ more) ≡ with_front ps (stopped rule)))
-    ⊎ ((2 ^ 64 - 1 ≤ length ps) × NoMatterWhat r (λ more. (rest : Pieces) × (pieces_of (read ++ more) ≡ with_front ps rest))))
+    ⊎ ((2 ^ 64 - 1 ≤ length ps)
+    × NoMatterWhat r (λ more. (rest : Pieces) × (pieces_of (read ++ more) ≡ with_front ps rest))))
 ReadsOn options read (Err (halts.Stop stop)) r t = Unit {0}
 
 -- All octets were read, all pieces were taken, and the last segment was judged. Or the trace is read no further. Or the
 -- run stops.
 abbrev pub Reads : TraceOptions → Option (List ℕ) → Option (List ℕ) → ℕ → ℕ → Result (Unit {0}) Halt → Trace → Type 0
 Reads options remaining remaining' failures failures' (Ok _) t =
-    (read : List ℕ) × Consumes remaining remaining' read × IsAtEnd remaining' × (failures' ≡ failures) × ((pieces_of read).fault ≡ None)
-    × IsOver options (ended (asked_of options) EndAfter (after_pieces (asked_of options) start (pieces_of read).pieces)) t
+    (read : List ℕ) × Consumes remaining remaining' read × IsAtEnd remaining' × (failures' ≡ failures)
+    × ((pieces_of read).fault ≡ None)
+    × IsOver options (ended (asked_of options) EndAfter (after_pieces (asked_of options) start (pieces_of read).pieces))
+    t
 Reads options remaining remaining' failures failures' (Err (halts.Form fault)) t =
     (read : List ℕ) × Consumes remaining remaining' read × (ps : List Piece)
     × IsReading options (after_pieces (asked_of options) start ps) t

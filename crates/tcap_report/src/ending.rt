@@ -75,7 +75,8 @@ impl Trace<'_> {
         ensures is { IfOk result (λ verdict.
             verdict ≡ trace_verdict (is_some fault) self.now.readable self.now.dialogues.worst) }
         ensures sum { IfOk result (λ verdict. sinks.new.sum.now
-            ≡ with_verdict verdict (with_read self.now.dialogues self.now.messages self.now.unheard sinks.old.sum.now)) }
+            ≡ with_verdict verdict
+            (with_read self.now.dialogues self.now.messages self.now.unheard sinks.old.sum.now)) }
         ensures same_sum { sinks.new.sum.ghost_name ≡ sinks.old.sum.ghost_name }
     {
         let verdict = trace_verdict(fault.is_some(), self.readable, self.dialogues.worst);
@@ -111,7 +112,8 @@ impl Trace<'_> {
         ensures is { IfOk result (λ verdict.
             verdict ≡ trace_verdict (is_some self.old.broken_off) self.old.readable self.old.dialogues.worst) }
         ensures sum { IfOk result (λ verdict. sinks.new.sum.now
-            ≡ with_verdict verdict (with_read self.old.dialogues self.old.messages self.old.unheard sinks.old.sum.now)) }
+            ≡ with_verdict verdict
+            (with_read self.old.dialogues self.old.messages self.old.unheard sinks.old.sum.now)) }
         ensures same_sum { sinks.new.sum.ghost_name ≡ sinks.old.sum.ghost_name }
     {
         match self.broken_off.take() {
@@ -147,7 +149,8 @@ pub fn report_unread<W: Write, J: Lines, P: Watch>(
 ) -> Result<Verdict, Stop>
     ensures error { IfOk result (λ verdict. verdict ≡ verdicts.Error) }
     ensures counted { IfOk result (λ verdict. HasJudged (verdict ∷ []) sinks.old.sum.now sinks.new.sum.now) }
-    ensures sum { OnOk result (sinks.new.sum.now ≡ with_verdict verdicts.Error (with_read no_counts 0 0 sinks.old.sum.now)) }
+    ensures sum { OnOk result
+        (sinks.new.sum.now ≡ with_verdict verdicts.Error (with_read no_counts 0 0 sinks.old.sum.now)) }
     ensures same_sum { sinks.new.sum.ghost_name ≡ sinks.old.sum.ghost_name }
 {
     let mut text = String::new(alloc);

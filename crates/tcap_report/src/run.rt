@@ -61,7 +61,8 @@ fn test_trace<T: Traces, W: Write, J: Lines, P: Watch>(
     options: TraceOptions,
     sinks: &mut Sinks<W, J, P>,
 ) -> Result<Verdict, Stop>
-    ensures answers { IfOk result (λ verdict. IsAnswered options.entry (T.octets traces.old (T.opened traces.old)) verdict
+    ensures answers { IfOk result
+        (λ verdict. IsAnswered options.entry (T.octets traces.old (T.opened traces.old)) verdict
         sinks.old.sum.now sinks.new.sum.now (T.unread traces.old) (T.unread traces.new)) }
     ensures counted { IfOk result (λ verdict. HasJudged (verdict ∷ []) sinks.old.sum.now sinks.new.sum.now) }
     ensures next { OnOk result (T.opened traces.new ≡ T.opened traces.old + 1) }
@@ -79,8 +80,8 @@ fn test_trace<T: Traces, W: Write, J: Lines, P: Watch>(
     }
 }
 
-/// Opens and judges the next traces, one for each name, and reports them under these names to `sinks`. Returns the worst
-/// verdict in the sum over all traces.
+/// Opens and judges the next traces, one for each name, and reports them under these names to `sinks`. Returns the
+/// worst verdict in the sum over all traces.
 ///
 /// # Errors
 /// `Stop::Memory` if memory runs out, `Stop::Write` if a sink fails.
@@ -91,7 +92,8 @@ pub fn run_test<T: Traces, W: Write, J: Lines, P: Watch>(
     options: TraceOptions,
     sinks: &mut Sinks<W, J, P>,
 ) -> Result<Verdict, Stop>
-    ensures answers { OnOk result (AnswersEach options.entry (T.octets traces.old) (T.opened traces.old) (length names.now)
+    ensures answers { OnOk result
+        (AnswersEach options.entry (T.octets traces.old) (T.opened traces.old) (length names.now)
         sinks.old.sum.now sinks.new.sum.now (T.unread traces.old) (T.unread traces.new)) }
     ensures opened { OnOk result (T.opened traces.new ≡ T.opened traces.old + length names.now) }
     ensures worst { IfOk result (λ verdict. verdict ≡ worst_of sinks.new.sum.now) }

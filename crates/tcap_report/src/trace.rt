@@ -90,7 +90,8 @@ impl<'a> Trace<'a> {
     /// Creates the state before the first octet.
     pub(crate) fn new(alloc: Global, name: &'a str, options: TraceOptions<'a>) -> Trace<'a>
         ensures reading { IsReading options.entry start result }
-        ensures nothing { (result.readable ≡ 0) × (result.messages ≡ 0) × (result.unheard ≡ 0) × (result.dialogues ≡ no_counts) }
+        ensures nothing { (result.readable ≡ 0) × (result.messages ≡ 0) × (result.unheard ≡ 0)
+            × (result.dialogues ≡ no_counts) }
     {
         Trace {
             alloc,
@@ -149,7 +150,8 @@ impl<'a> Trace<'a> {
     /// Counts an entry with this heading.
     fn note(&mut self, heading: HeadingView)
         ensures messages { self.new.messages ≡ more self.old.messages 1 }
-        ensures readable { self.new.readable ≡ cond (is_some heading.entry.kind) (more self.old.readable 1) self.old.readable }
+        ensures readable { self.new.readable
+            ≡ cond (is_some heading.entry.kind) (more self.old.readable 1) self.old.readable }
         ensures rest { self.new ≡ record self.old { messages = self.new.messages; readable = self.new.readable } }
     {
         self.messages = self.messages.saturating_add(1);
@@ -178,7 +180,8 @@ impl<'a> Trace<'a> {
         sinks: &mut Sinks<W, J, P>,
     ) -> Result<(), Stop>
         ensures keeps { (options : OptionsOf) (s : State) (names : IdOf → Bool) → IsAt options s names self.old
-            → OnOk result (Keeps options (before_item (after_of next) s) (all_in (courses_at options s)) [] names self.new) }
+            → OnOk result
+            (Keeps options (before_item (after_of next) s) (all_in (courses_at options s)) [] names self.new) }
         ensures cut { OnOk result (IsCut self.old.options.reuse [] self.new.cut) }
         ensures same_sum { sinks.new.sum ≡ sinks.old.sum }
     {
@@ -189,7 +192,8 @@ impl<'a> Trace<'a> {
     /// Begins the segment after a quiet mark.
     fn begin_segment(&mut self)
         ensures unread { notes_in self.new.unread ≡ ([], true) }
-        ensures rest { self.new ≡ record self.old { before = self.new.before; count = 0; unread = self.new.unread; under_way = None } }
+        ensures rest { self.new
+            ≡ record self.old { before = self.new.before; count = 0; unread = self.new.unread; under_way = None } }
     {
         self.before = self.before.saturating_add(self.count).saturating_add(1);
         self.count = 0;
@@ -247,7 +251,8 @@ impl<'a> Trace<'a> {
         next: NextItem,
         sinks: &mut Sinks<W, J, P>,
     ) -> Result<(), Stop>
-        ensures keeps { (options : OptionsOf) (s : State) (names : IdOf → Bool) (done waiting : List Course) (d : Course)
+        ensures keeps { (options : OptionsOf) (s : State) (names : IdOf → Bool) (done waiting : List Course)
+            (d : Course)
             → IsCompleteDialogue d gathered → AreSeparate options s (d ∷ waiting) → IsBefore next s d
             → Keeps options s done (d ∷ waiting) names self.old
             → OnOk result (Keeps options s (done ++ d ∷ []) waiting names self.new) }
@@ -267,10 +272,13 @@ impl<'a> Trace<'a> {
         judged: &JudgedDialogue,
         sinks: &mut Sinks<W, J, P>,
     ) -> Result<(), Stop>
-        ensures counted { OnOk result (self.new.dialogues ≡ cond (not (is_broken (after_of case.now.next)) || is_fail judged.now.verdict)
+        ensures counted { OnOk result
+            (self.new.dialogues ≡ cond (not (is_broken (after_of case.now.next)) || is_fail judged.now.verdict)
             (with_one judged.now.verdict self.old.dialogues) self.old.dialogues) }
-        ensures marks { OnOk result (Notes (may_go_on (dialogue_in case.now)) case.now.gathered self.old.marks self.new.marks) }
-        ensures rest { OnOk result (self.new ≡ record self.old { marks = self.new.marks; dialogues = self.new.dialogues; unheard = self.new.unheard }) }
+        ensures marks { OnOk result
+            (Notes (may_go_on (dialogue_in case.now)) case.now.gathered self.old.marks self.new.marks) }
+        ensures rest { OnOk result (self.new
+            ≡ record self.old { marks = self.new.marks; dialogues = self.new.dialogues; unheard = self.new.unheard }) }
         ensures same_sum { sinks.new.sum ≡ sinks.old.sum }
     {
         self.marks.note(&case.gathered, case.may_go_on())?;
@@ -290,7 +298,8 @@ impl<'a> Trace<'a> {
 
     /// Counts the verdict on a dialogue.
     fn count(&mut self, case: &Case, judged: &JudgedDialogue)
-        ensures { self.new ≡ record self.old { dialogues = with_one judged.now.verdict self.old.dialogues; unheard = self.new.unheard } }
+        ensures { self.new ≡ record self.old
+            { dialogues = with_one judged.now.verdict self.old.dialogues; unheard = self.new.unheard } }
     {
         self.dialogues.add(judged.verdict);
         if judged.verdict == Verdict::Pass
@@ -365,7 +374,8 @@ impl<'a> Trace<'a> {
         requires fresh { HasRead [] [] octets.old.pieces }
         requires more { octets.old.pieces.ended ≡ false }
         ensures reads { (options : OptionsOf) → IsReading options start self.old
-            → Reads options (R.remaining reader.old) (R.remaining reader.new) (R.failures reader.old) (R.failures reader.new) result self.new }
+            → Reads options (R.remaining reader.old) (R.remaining reader.new) (R.failures reader.old)
+            (R.failures reader.new) result self.new }
         ensures same_sum { sinks.new.sum ≡ sinks.old.sum }
     {
         let mut piece = [0; PIECE_LEN];
@@ -401,7 +411,8 @@ impl<'a> Trace<'a> {
         requires fresh { HasRead [] [] octets.old.pieces }
         requires more { octets.old.pieces.ended ≡ false }
         ensures answers { (options : OptionsOf) → IsReading options start self.old → IfOk result (λ verdict.
-            Answers options (R.remaining reader.old) (R.remaining reader.new) (R.failures reader.old) (R.failures reader.new) verdict
+            Answers options (R.remaining reader.old) (R.remaining reader.new) (R.failures reader.old)
+            (R.failures reader.new) verdict
             sinks.old.sum.now sinks.new.sum.now) }
         ensures same_sum { sinks.new.sum.ghost_name ≡ sinks.old.sum.ghost_name }
     {
@@ -461,7 +472,8 @@ pub fn run_trace<R: Read, W: Write, J: Lines, P: Watch>(
     options: TraceOptions,
     sinks: &mut Sinks<W, J, P>,
 ) -> Result<Verdict, Stop>
-    ensures answers { IfOk result (λ verdict. Answers options.entry (R.remaining reader.old) (R.remaining reader.new) (R.failures reader.old)
+    ensures answers { IfOk result
+        (λ verdict. Answers options.entry (R.remaining reader.old) (R.remaining reader.new) (R.failures reader.old)
         (R.failures reader.new) verdict sinks.old.sum.now sinks.new.sum.now) }
     ensures counted { IfOk result (λ verdict. HasJudged (verdict ∷ []) sinks.old.sum.now sinks.new.sum.now) }
     ensures nothing { R.remaining reader.old ≡ Some [] → IfOk result (λ verdict. verdict ≡ verdicts.Error) }

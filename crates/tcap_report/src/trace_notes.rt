@@ -51,7 +51,8 @@ impl Trace<'_> {
     /// Returns the ID that suggests that a dialogue with these entries continues one from before the last quiet mark.
     /// None if one of its IDs was used before in its segment.
     fn in_use(&self, gathered: &CompleteDialogue, entries: &[TraceEntry]) -> Option<InUse>
-        ensures { is_some result ≡ is_in_use_by self.now.marks gathered.now (option_map heading_in (slice_get entries.now 0)) }
+        ensures { is_some result
+            ≡ is_in_use_by self.now.marks gathered.now (option_map heading_in (slice_get entries.now 0)) }
     {
         if gathered.earlier.is_some() {
             return None;
@@ -121,7 +122,8 @@ impl Trace<'_> {
         ensures in_use { IfOk result (λ case. is_some case.in_use
             ≡ is_in_use_by self.old.marks gathered (option_map heading_in (slice_get case.entries.items 0))) }
         ensures unread { IsNonDecreasing (notes_in self.old.unread).0 → IfOk result (λ case. case.unread
-            ≡ unread_by (notes_in self.old.unread).0 gathered (option_map heading_in (slice_get case.entries.items 0))) }
+            ≡ unread_by (notes_in self.old.unread).0 gathered
+            (option_map heading_in (slice_get case.entries.items 0))) }
         ensures others { (n : ℕ) → list_any (λ i. i == n) gathered.numbers.items ≡ false
             → tree.get nat_cmp self.new.held n ≡ tree.get nat_cmp self.old.held n }
         ensures rest { self.new ≡ record self.old { held = self.new.held } }

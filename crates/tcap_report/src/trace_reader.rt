@@ -75,7 +75,8 @@ impl TraceReader {
 
     /// Takes the next octets, or none if the trace has ended. Fails if memory runs out.
     pub(crate) fn feed(&mut self, octets: &[u8]) -> Result<(), AllocError>
-        ensures left { OnOk result ((more : List ℕ) → pieces_left self.new.pieces more ≡ pieces_left self.old.pieces (octets.now ++ more)) }
+        ensures left { OnOk result
+            ((more : List ℕ) → pieces_left self.new.pieces more ≡ pieces_left self.old.pieces (octets.now ++ more)) }
         ensures ended { OnOk result (self.new.pieces.ended ≡ is_nothing octets.now) }
     {
         let room = FIRST.saturating_sub(self.first.len()).min(octets.len());

@@ -195,7 +195,8 @@ is_unanswered side lines _ = false
 -- Such a message of the peer is lost, unless an Abort takes it.
 abbrev pub fate_unanswered : Side → List Line → Fated → Fate
 fate_unanswered side lines x =
-    cond (is_gap x.fate && is_entry_of (other side) x.line.entry.side && is_unanswered side lines (message_of x.line.entry))
+    cond (is_gap x.fate && is_entry_of (other side) x.line.entry.side
+    && is_unanswered side lines (message_of x.line.entry))
     Lost x.fate
 
 -- This rule applies if one end is judged alone and a mark follows the segment.

@@ -82,7 +82,8 @@ fn deliveries_of(
 ) -> Result<Leasts, AllocError>
     requires transactions { AreTransactions entries.now transactions.now }
     requires count { length fates.now ≡ length entries.now }
-    ensures { IfOk result (λ delivered. KeepsDelivered (length entries.now) (fated (lines_of entries.now) fates.now) delivered) }
+    ensures { IfOk result
+        (λ delivered. KeepsDelivered (length entries.now) (fated (lines_of entries.now) fates.now) delivered) }
 {
     let mut delivered = Leasts::new(alloc, entries.len())?;
     for (number, entry) in entries.iter().enumerate() {
@@ -149,7 +150,8 @@ fn shown_closings(
     requires ties { AreTies entries.now ties.now }
     requires count { length fates.now ≡ length entries.now }
     ensures { IfOk result (λ listed. listed.items
-        ≡ closings_of (fated (lines_of entries.now) fates.now) (lines_of entries.now) (ties_of (lines_of entries.now))) }
+        ≡ closings_of (fated (lines_of entries.now) fates.now) (lines_of entries.now)
+        (ties_of (lines_of entries.now))) }
 {
     let ended = ends_of(alloc, entries, transactions)?;
     let delivered = deliveries_of(alloc, entries, transactions, fates)?;
@@ -186,7 +188,8 @@ pub(crate) fn closings_of(
     requires ties { AreTies entries.now ties.now }
     requires count { length fates.now ≡ length entries.now }
     ensures { IfOk result (λ listed. listed.items
-        ≡ closings_of (fated (lines_of entries.now) fates.now) (lines_of entries.now) (ties_of (lines_of entries.now))) }
+        ≡ closings_of (fated (lines_of entries.now) fates.now) (lines_of entries.now)
+        (ties_of (lines_of entries.now))) }
 {
     if ties.is_empty() {
         return Ok(Vec::new(alloc));

@@ -49,7 +49,8 @@ unread_after (Some side) number = number
 -- the first noted unreadable entry that may belong to a gathered dialogue, given the heading of its first entry
 abbrev pub unread_by : List ℕ → CompleteDialogue → Option Heading → Option ℕ
 unread_by notes g first =
-    cond (has_some g.a || has_some g.b) (first_above (unread_after (begun_by first) (slice_get g.numbers.items 0)) notes) None
+    cond (has_some g.a || has_some g.b)
+    (first_above (unread_after (begun_by first) (slice_get g.numbers.items 0)) notes) None
 
 -- the dialogue of a case
 abbrev pub dialogue_in : Case → Dialogue

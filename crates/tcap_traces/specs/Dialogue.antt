@@ -94,7 +94,8 @@ is_marked after = false
 
 -- the entries that are judged: the first 100,000, and a quiet mark that comes after fewer than 100,000
 abbrev pub judged_entries : Dialogue → List Entry
-judged_entries d = map entry_of (take most d.entries) ++ cond (is_marked d.after && nat_lt (length d.entries) most) (quiet_mark ∷ []) []
+judged_entries d = map entry_of (take most d.entries)
+    ++ cond (is_marked d.after && nat_lt (length d.entries) most) (quiet_mark ∷ []) []
 
 -- whether it has more than 100,000 entries; a quiet mark counts as one
 abbrev pub is_long : Dialogue → Bool
@@ -170,7 +171,8 @@ circumstances q c d = record {
 -- the result for each end, judged by the table; None if the dialogue has no table
 abbrev pub ends_by : Option Table → Circumstances → List Entry → Option Ends
 ends_by None c entries = None
-ends_by (Some table) c entries = Some (record { a = result_of table c entries sides.A; b = result_of table c entries sides.B })
+ends_by (Some table) c entries =
+    Some (record { a = result_of table c entries sides.A; b = result_of table c entries sides.B })
 
 -- the worse verdict of the ends that are asked; an error if there was no table
 abbrev pub verdict_by : Option Side → Option Ends → Verdict

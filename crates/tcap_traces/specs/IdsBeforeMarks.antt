@@ -73,7 +73,8 @@ Changes false ids old new = Closes ids old new
 -- The IDs from which the end sent in the segment are noted as well, and nothing else changes.
 abbrev pub Sends : (List ℕ → Bool) → EndMarks → EndMarks → Type 0
 Sends is_sent old new =
-    ((octets : List ℕ) → set.contains octets_cmp new.sent octets ≡ set.contains octets_cmp old.sent octets || is_sent octets)
+    ((octets : List ℕ)
+    → set.contains octets_cmp new.sent octets ≡ set.contains octets_cmp old.sent octets || is_sent octets)
     × (new ≡ record old { sent = new.sent })
 
 -- whether an end sent from an ID in a segment with these headings

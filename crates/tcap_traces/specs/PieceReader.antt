@@ -89,19 +89,22 @@ line_found front = (record { content = front.content.now; ended = front.ended },
 abbrev pub IsFrontLine : List ℕ → Bool → Option (Line × ℕ) → Type 0
 IsFrontLine octets ended (Some (line, count)) =
     (0 < count) × (count ≤ length octets)
-    × ((more : List ℕ) → (ended ≡ true → more ≡ []) → lines_of (octets ++ more) ≡ line ∷ lines_of (drop count octets ++ more))
+    × ((more : List ℕ) → (ended ≡ true → more ≡ [])
+    → lines_of (octets ++ more) ≡ line ∷ lines_of (drop count octets ++ more))
 IsFrontLine octets ended None = HasNoNewline octets × (ended ≡ true → octets ≡ [])
 
 -- an entry or a quiet mark in this line, with this fault if any, comes after what was read
 abbrev pub Begins : Option LineRule → Progress → ℕ → Result Progress PieceFault → Type 0
 Begins found progress line (Ok new) = (found ≡ None) × (new ≡ record progress { begun = true })
-Begins found progress line (Err (faults.Form rule)) = (broken : LineRule) × (found ≡ Some broken) × (rule ≡ InLine line broken)
+Begins found progress line (Err (faults.Form rule)) =
+    (broken : LineRule) × (found ≡ Some broken) × (rule ≡ InLine line broken)
 Begins found progress line (Err faults.Memory) = Unit {0}
 
 -- the same of a directive
 abbrev pub Takes : Progress → ℕ → Statement → Result (APiece × Progress) PieceFault → Type 0
 Takes progress line statement (Ok (piece, new)) =
-    (directive_fault progress statement ≡ None) × (piece_as piece ≡ Stated line statement) × (new ≡ with_directive statement progress)
+    (directive_fault progress statement ≡ None) × (piece_as piece ≡ Stated line statement)
+    × (new ≡ with_directive statement progress)
 Takes progress line statement (Err (faults.Form rule)) =
     (broken : LineRule) × (directive_fault progress statement ≡ Some broken) × (rule ≡ InLine line broken)
 Takes progress line statement (Err faults.Memory) = Unit {0}
@@ -122,11 +125,13 @@ framed_from place octets = frames_from (length octets) place octets
 abbrev pub IsFront : List ℕ → ℕ → Bool → Result (Option Frame) FormRule → Type 0
 IsFront octets place ended (Ok (Some frames.Mark)) =
     (0 < length octets)
-    × ((more : List ℕ) → framed_from place (octets ++ more) ≡ after (Mark 0) (framed_from (further place 1) (drop 1 octets ++ more)))
+    × ((more : List ℕ)
+    → framed_from place (octets ++ more) ≡ after (Mark 0) (framed_from (further place 1) (drop 1 octets ++ more)))
 IsFront octets place ended (Ok (Some (frames.Entry sender len))) =
     (len < length octets)
     × ((more : List ℕ) → framed_from place (octets ++ more)
-    ≡ after (framed sender (take len (drop 1 octets))) (framed_from (further place (suc len)) (drop (suc len) octets ++ more)))
+    ≡ after (framed sender (take len (drop 1 octets)))
+    (framed_from (further place (suc len)) (drop (suc len) octets ++ more)))
 IsFront octets place ended (Ok None) = ended ≡ true → octets ≡ []
 IsFront octets place ended (Err rule) =
     (more : List ℕ) → (ended ≡ true → more ≡ []) → framed_from place (octets ++ more) ≡ stopped rule

@@ -69,7 +69,8 @@ before_lines octet (line ∷ lines) = record line { content = octet ∷ line.con
 abbrev pub lines_in : List ℕ → List Line
 lines_in [] = []
 lines_in (octet ∷ octets) =
-    cond (nat_eq octet 10) (record { content = []; ended = true } ∷ lines_in octets) (before_lines octet (lines_in octets))
+    cond (nat_eq octet 10) (record { content = []; ended = true } ∷ lines_in octets)
+    (before_lines octet (lines_in octets))
 
 -- octets without a carriage return (13) at their end
 abbrev pub without_return : List ℕ → List ℕ
@@ -161,7 +162,8 @@ directive_fault progress statement = cond progress.broken_off (Some DirectiveAft
     by : Statement → Option LineRule
     by UnderWay = None
     by (BrokenOff missing) = None
-    by (About end text) = cond progress.begun (Some LateDirective) (cond (has_named end progress) (Some SecondDirective) None)
+    by (About end text) =
+        cond progress.begun (Some LateDirective) (cond (has_named end progress) (Some SecondDirective) None)
     by Unknown = Some UnknownDirective
 
 abbrev pub with_directive : Statement → Progress → Progress
@@ -198,7 +200,8 @@ abbrev pub goes_on : (Progress → List ℕ → Pieces) → Progress → ℕ →
 goes_on rest progress number above line Empty = rest progress []
 goes_on rest progress number above line (Comment text) = rest progress text
 goes_on rest progress number above line (Directive statement) =
-    unless_at number (directive_fault progress statement) (after (Stated number statement) (rest (with_directive statement progress) []))
+    unless_at number (directive_fault progress statement)
+    (after (Stated number statement) (rest (with_directive statement progress) []))
 goes_on rest progress number above line QuietMark =
     unless_at number (entry_fault progress) (after (Mark number) (rest (record progress { begun = true }) []))
 goes_on rest progress number above line (Message sender octets) =
@@ -213,7 +216,8 @@ abbrev pub pieces_in : Progress → ℕ → List ℕ → List Line → Pieces
 pieces_in progress number above [] = no_more
 pieces_in progress number above (line ∷ lines) =
     cond (nat_lt line_limit (length line.content)) (stopped (InLine number TooLong))
-    (goes_on (λ progress above. pieces_in progress (further number 1) above lines) progress number above line (meaning_of line.content))
+    (goes_on (λ progress above. pieces_in progress (further number 1) above lines) progress number above line
+    (meaning_of line.content))
 
 -- ---- the pieces of a record
 
@@ -228,7 +232,8 @@ framed_by rest place octets None found = stopped (NoEnd place)
 framed_by rest place octets (Some sender) (Ok (outers.Whole len)) =
     after (framed sender (take len octets)) (rest (further place (suc len)) (drop len octets))
 framed_by rest place octets (Some sender) (Ok (outers.Need count)) = stopped (CutEntry place)
-framed_by rest place octets (Some sender) (Err fault) = stopped (BadElement fault.reason (further place (1 + fault.place)))
+framed_by rest place octets (Some sender) (Err fault) =
+    stopped (BadElement fault.reason (further place (1 + fault.place)))
 
 -- The pieces of these octets of a record; the first octet has this offset. Each piece has an octet or more, so there
 -- are at most as many pieces as octets (`most`).
@@ -255,7 +260,8 @@ abbrev pub is_record : List ℕ → Bool
 is_record [] = false
 is_record (first ∷ []) = is_some (end_in first) || nat_eq first quiet_octet
 is_record (first ∷ second ∷ more) =
-    cond (is_some (end_in first)) (not (is_blank_or_digit second)) (nat_eq first quiet_octet && not (ends_a_mark second))
+    cond (is_some (end_in first)) (not (is_blank_or_digit second))
+    (nat_eq first quiet_octet && not (ends_a_mark second))
 
 -- the pieces of a trace with these octets
 abbrev pub pieces_of : List ℕ → Pieces

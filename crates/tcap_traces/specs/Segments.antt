@@ -107,11 +107,13 @@ unreadable_from least n (h ∷ hs) = cond (nat_le least n && is_unreadable h) (S
 -- entries
 abbrev pub numbers_in : Course → ℕ → List TraceEntry → List ℕ
 numbers_in d n [] = []
-numbers_in d n (entry ∷ entries) = cond (has_entry d n) (n ∷ numbers_in d (suc n) entries) (numbers_in d (suc n) entries)
+numbers_in d n (entry ∷ entries) =
+    cond (has_entry d n) (n ∷ numbers_in d (suc n) entries) (numbers_in d (suc n) entries)
 
 abbrev pub entries_in : Course → ℕ → List TraceEntry → List TraceEntry
 entries_in d n [] = []
-entries_in d n (entry ∷ entries) = cond (has_entry d n) (entry ∷ entries_in d (suc n) entries) (entries_in d (suc n) entries)
+entries_in d n (entry ∷ entries) =
+    cond (has_entry d n) (entry ∷ entries_in d (suc n) entries) (entries_in d (suc n) entries)
 
 -- what comes after a dialogue that is over with this entry, if any; `end` comes after its segment
 abbrev pub after_it : Option ℕ → After → After

@@ -37,7 +37,8 @@ pub record IsFirst (d : Course) (n : ℕ) : Type 0 where
 
 -- The first entry of each dialogue with an ID is one of these.
 abbrev pub BeginWell : (ℕ → Bool) → List Course → Type 0
-BeginWell begun ds = (d : Course) → Contains ds d → (id : IdOf) → is_among d.ids id ≡ true → (n : ℕ) × IsFirst d n × (begun n ≡ true)
+BeginWell begun ds =
+    (d : Course) → Contains ds d → (id : IdOf) → is_among d.ids id ≡ true → (n : ℕ) × IsFirst d n × (begun n ≡ true)
 
 -- the dialogues of a segment with these headings
 abbrev pub all_of : Reuse → List Heading → List Course
@@ -72,10 +73,13 @@ id_of side octets = record { end = side; octets = octets }
 -- The notes on the IDs of an end. Those in `sent` are known as sent from, and those in `open` as open. For an ID,
 -- `goes` is true if a dialogue of the segment with it may go on, `stays` if another one has it, and `names` if its
 -- owner sent from it.
-pub record IsMarked (sent «open» : List IdOf) (goes stays names : IdOf → Bool) (side : Side) (m : EndMarks) : Type 0 where
-  pub known : (o : List ℕ) → known_in m o ≡ record { sent = is_among sent (id_of side o); «open» = is_among «open» (id_of side o) }
+pub record IsMarked (sent «open» : List IdOf) (goes stays names : IdOf → Bool) (side : Side) (m : EndMarks) : Type
+    0 where
+  pub known : (o : List ℕ)
+      → known_in m o ≡ record { sent = is_among sent (id_of side o); «open» = is_among «open» (id_of side o) }
   pub opened : (o : List ℕ) → set.contains octets_cmp m.opened o ≡ goes (id_of side o)
-  pub closed : (o : List ℕ) → set.contains octets_cmp m.closed o ≡ stays (id_of side o) && is_among «open» (id_of side o)
+  pub closed : (o : List ℕ)
+      → set.contains octets_cmp m.closed o ≡ stays (id_of side o) && is_among «open» (id_of side o)
   pub named : (o : List ℕ) → set.contains octets_cmp m.sent o ≡ names (id_of side o)
 
 -- whether a dialogue with this ID may go on; and whether another one has it
@@ -86,6 +90,7 @@ abbrev pub any_stays : (Course → Bool) → List Course → IdOf → Bool
 any_stays goes ds id = list_any (λ d. not (goes d) && is_among d.ids id) ds
 
 -- The notes on the IDs of both ends, after these dialogues of the segment.
-pub record AreMarked (sent «open» : List IdOf) (goes : Course → Bool) (names : IdOf → Bool) (ds : List Course) (m : BeforeMarks) : Type 0 where
+pub record AreMarked (sent «open» : List IdOf) (goes : Course → Bool) (names : IdOf → Bool) (ds : List Course)
+    (m : BeforeMarks) : Type 0 where
   pub a : IsMarked sent «open» (any_goes goes ds) (any_stays goes ds) names sides.A m.a
   pub b : IsMarked sent «open» (any_goes goes ds) (any_stays goes ds) names sides.B m.b

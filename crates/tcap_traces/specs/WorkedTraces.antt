@@ -68,7 +68,8 @@ unfolding decode_pairs outer_at opening_at tag_at length_at
 of_a_last_line = refl
 
 -- Digits that are no message are an entry, whether they are cut, have octets after a message, or have no known tag.
-pub of_no_message : map (λ digits. (pieces_of (text (digits ∷ []))).fault) (codes "A 6204" ∷ codes "A 620348010100" ∷ codes "A 00" ∷ [])
+pub of_no_message : map (λ digits. (pieces_of (text (digits ∷ []))).fault)
+    (codes "A 6204" ∷ codes "A 620348010100" ∷ codes "A 00" ∷ [])
     ≡ None ∷ None ∷ None ∷ []
 unfolding decode_pairs outer_at opening_at tag_at length_at
 of_no_message = refl
@@ -169,7 +170,8 @@ unfolding decode_pairs outer_at opening_at tag_at length_at heading_in some_at n
 of_ids = (refl, refl, refl)
 
 -- A's ID goes on after a quiet mark that came too early; but not if B had never answered.
-pub of_marks : (circumstances_of asked (begin ∷ answer ∷ codes "Q" ∷ goes_on ∷ []) ≡ none ∷ record none { early_mark = true } ∷ [])
+pub of_marks : (circumstances_of asked (begin ∷ answer ∷ codes "Q" ∷ goes_on ∷ [])
+    ≡ none ∷ record none { early_mark = true } ∷ [])
     × (circumstances_of asked (begin ∷ codes "Q" ∷ begin ∷ []) ≡ none ∷ none ∷ [])
 unfolding decode_pairs outer_at opening_at tag_at length_at heading_in some_at next_at begin_heading_at continue_heading_at last_heading_at otid_at dtid_at required_at transaction_id_of message_at message_in begin_at continue_at end_message_at dialogue_portion_at component_portion_at each_of
 of_marks = (refl, refl)

@@ -40,7 +40,8 @@ pub nothing_is_addressed : (is_addressed_to_a [] ≡ false) × (is_addressed_to_
     × (is_addressed_to_a (Ok begins ∷ Err NoItem ∷ Ok ends_elsewhere ∷ Ok Item.Quiet ∷ []) ≡ false)
 nothing_is_addressed = (refl, refl, refl)
 
-pub something_is_addressed : (is_addressed_to_a (Ok begins ∷ Ok answers ∷ []) ≡ true) × (is_addressed_to_a (Ok ends ∷ Ok ends_elsewhere ∷ []) ≡ true)
+pub something_is_addressed : (is_addressed_to_a (Ok begins ∷ Ok answers ∷ []) ≡ true)
+    × (is_addressed_to_a (Ok ends ∷ Ok ends_elsewhere ∷ []) ≡ true)
 something_is_addressed = (refl, refl)
 
 -- After another Begin of A, earlier messages do not count.
@@ -105,7 +106,8 @@ pub under_way : (to_nothing (record alone { under_way = true }) ≡ Some doubts.
     × (to_nothing (record (unread 1) { under_way = true; again = true }) ≡ Some doubts.UnderWay)
     × (doubt table (record alone { under_way = true }) sides.B (begins ∷ answers ∷ Item.Quiet ∷ []) 2 kinds.OpenAtMark
     ≡ Some doubts.UnderWay)
-    × (doubt table (record alone { under_way = true }) sides.A (invoked 49) 0 kinds.WrongOperation ≡ Some doubts.UnderWay)
+    × (doubt table (record alone { under_way = true }) sides.A (invoked 49) 0 kinds.WrongOperation
+    ≡ Some doubts.UnderWay)
 under_way = (refl, refl, refl, refl)
 
 -- So does the doubt of an early quiet mark.
@@ -130,11 +132,13 @@ pub cut_or_open : (passes alone 3 ≡ end_results.Pass 3) × (passes (record alo
     × (passes (record alone { cut = true; «open» = true }) 3 ≡ end_results.TooLong)
     × (passes (record alone { under_way = true; cut = true; unsure = true; «open» = true }) 3 ≡ end_results.UnderWay)
     × (passes (record alone { early_mark = true; cut = true; unsure = true; «open» = true }) 3 ≡ end_results.EarlyMark)
-    × (passes (record alone { heard = true }) 3 ≡ end_results.Unheard 3) × (passes (record alone { heard = true }) 0 ≡ end_results.Pass 0)
+    × (passes (record alone { heard = true }) 3 ≡ end_results.Unheard 3)
+    × (passes (record alone { heard = true }) 0 ≡ end_results.Pass 0)
     × (passes (record alone { «open» = true; heard = true }) 3 ≡ end_results.Open)
 cut_or_open = (refl, refl, refl, refl, refl, refl, refl, refl)
 
-pub the_worse_one : (worse Pass Pass ≡ Pass) × (worse Pass Inconclusive ≡ Inconclusive) × (worse Fail Inconclusive ≡ Fail)
+pub the_worse_one : (worse Pass Pass ≡ Pass) × (worse Pass Inconclusive ≡ Inconclusive)
+    × (worse Fail Inconclusive ≡ Fail)
     × (worse Fail Error ≡ Error)
 the_worse_one = (refl, refl, refl, refl)
 

@@ -156,7 +156,8 @@ impl EndMarks {
     /// Changes what is known of these IDs.
     fn change(&mut self, ids: &BTreeSet<TransactionId>, change: Change) -> Result<(), AllocError>
         ensures known { OnOk result ((octets : List ℕ) → known_in self.new octets
-            ≡ cond (set.contains octets_cmp ids.now octets) (changed change (known_in self.old octets)) (known_in self.old octets)) }
+            ≡ cond (set.contains octets_cmp ids.now octets) (changed change (known_in self.old octets))
+            (known_in self.old octets)) }
         ensures rest { OnOk result (self.new ≡ record self.old { known = self.new.known }) }
     {
         for id in ids {
@@ -203,7 +204,8 @@ impl BeforeMarks {
 
     /// Returns the destination ID of an entry, if the ID's owner sent from it in an earlier segment.
     pub fn sent_to<'a>(&self, heading: HeadingView<'a>) -> Option<TransactionIdView<'a>>
-        ensures found { IfSome result (λ id. (known_in (by_end (other heading.entry.sender) self.now.a self.now.b) id.octets.now).sent ≡ true) }
+        ensures found { IfSome result
+            (λ id. (known_in (by_end (other heading.entry.sender) self.now.a self.now.b) id.octets.now).sent ≡ true) }
         ensures none { IfNone result (is_sent_to self.now (heading_read heading.entry) ≡ false) }
         ensures exact { is_some result ≡ is_sent_to self.now (heading_read heading.entry) }
     {
@@ -252,7 +254,8 @@ impl BeforeMarks {
     /// Notes the IDs from which each end sent in the segment, which has ended.
     pub fn note_sent(&mut self, cut: &Cut) -> Result<(), AllocError>
         ensures { (reuse : Reuse) (headings : List Heading) → IsCut reuse headings cut.now
-            → OnOk result (Sends (sent_in headings sides.A) self.old.a self.new.a × Sends (sent_in headings sides.B) self.old.b self.new.b) }
+            → OnOk result (Sends (sent_in headings sides.A) self.old.a self.new.a
+            × Sends (sent_in headings sides.B) self.old.b self.new.b) }
     {
         cut.sent_from(End::A, &mut self.a.sent)?;
         cut.sent_from(End::B, &mut self.b.sent)

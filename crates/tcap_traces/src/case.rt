@@ -213,7 +213,8 @@ impl Case {
     /// Returns whether the quiet mark after its entries is judged: there is one, and it has fewer entries than are
     /// judged.
     fn has_judged_mark(&self) -> bool
-        ensures { result ≡ is_marked (dialogue_in self.now).after && nat_lt (length (dialogue_in self.now).entries) most }
+        ensures { result ≡ is_marked (dialogue_in self.now).after
+            && nat_lt (length (dialogue_in self.now).entries) most }
     {
         self.next.is_mark() && self.entries.len() < MOST
     }
@@ -448,11 +449,14 @@ pub fn judge<'a>(
     book: &'a Book,
 ) -> Result<JudgedDialogue<'a>, AllocError>
     ensures entries { IfOk result (λ judged. judged.record.entries.items ≡ judged_entries (dialogue_in case.now)) }
-    ensures table { IfOk result (λ judged. option_copied judged.table ≡ (choice book.now (judged_entries (dialogue_in case.now))).table) }
+    ensures table { IfOk result
+        (λ judged. option_copied judged.table ≡ (choice book.now (judged_entries (dialogue_in case.now))).table) }
     ensures context { IfOk result (λ judged. option_map (λ octets. octets.items) judged.context
         ≡ (choice book.now (judged_entries (dialogue_in case.now))).context) }
-    ensures ends { IfOk result (λ judged. judged.ends ≡ ends_on book.now (question_in case.now) (dialogue_in case.now)) }
-    ensures verdict { IfOk result (λ judged. judged.verdict ≡ verdict_on book.now (question_in case.now) (dialogue_in case.now)) }
+    ensures ends { IfOk result
+        (λ judged. judged.ends ≡ ends_on book.now (question_in case.now) (dialogue_in case.now)) }
+    ensures verdict { IfOk result
+        (λ judged. judged.verdict ≡ verdict_on book.now (question_in case.now) (dialogue_in case.now)) }
 {
     let mut record = case.record(alloc)?;
     let chosen = choose(alloc, book, &record.entries)?;

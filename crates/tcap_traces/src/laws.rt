@@ -48,7 +48,8 @@ pub fn fail_is_at_fault()
 /// have sent its part of the segment up to that place, no matter what its peer sent. This holds for a segment at the
 /// beginning of the trace and for one after a quiet mark.
 pub fn fault_of_dialogue_is_of_trace()
-    ensures { (table : Table) (side : Side) (reuse : Reuse) (items : List Item) (headings : List Heading) (d : Course) (n : ℕ)
+    ensures { (table : Table) (side : Side) (reuse : Reuse) (items : List Item) (headings : List Heading) (d : Course)
+        (n : ℕ)
         (entries : List Entry) (r : Refutation) → has_quiet items ≡ false → map bare headings ≡ headings_of items
         → Contains (courses_of reuse headings) d → d.again ≡ false → has_entry d n ≡ true
         → AreItems (take (r.entry + 1) entries) (part_of (has_entry d) 0 (take (n + 1) items))

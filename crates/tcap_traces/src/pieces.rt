@@ -165,7 +165,8 @@ impl Progress {
     ///
     /// `CutLine` if it does not, and the octets end within an element; `AfterBreak` if the trace was broken off.
     fn begin_message(self, line: u64, ended: bool, octets: &[u8]) -> Result<Progress, PieceFault>
-        ensures { Begins (cond (not ended && is_cut octets.now) (Some LineRule.CutLine) (entry_fault self)) self line result }
+        ensures { Begins (cond (not ended && is_cut octets.now) (Some LineRule.CutLine) (entry_fault self)) self line
+            result }
     {
         if !ended && is_cut(octets) {
             return Err(in_line(line, LineRule::CutLine));
@@ -266,7 +267,8 @@ fn is_record(octets: &[u8]) -> bool
 
 /// Returns the form of a trace that begins with these octets, if they decide it. `ended`: the trace has no more.
 fn form_of(first: &[u8], ended: bool) -> Form
-    ensures record { (more : List ℕ) → (ended ≡ true → more ≡ []) → is_record_as result (first.now ++ more) ≡ is_record (first.now ++ more) }
+    ensures record { (more : List ℕ) → (ended ≡ true → more ≡ [])
+        → is_record_as result (first.now ++ more) ≡ is_record (first.now ++ more) }
     ensures known { ended ≡ true → result ≢ forms.Unknown }
 {
     if !ended && first.len() < 2 {
@@ -424,7 +426,8 @@ impl PieceReader {
     ///
     /// `AllocError` if memory runs out.
     pub fn feed(&mut self, octets: &[u8]) -> Result<(), AllocError>
-        ensures left { OnOk result ((more : List ℕ) → pieces_left self.new more ≡ pieces_left self.old (octets.now ++ more)) }
+        ensures left { OnOk result
+            ((more : List ℕ) → pieces_left self.new more ≡ pieces_left self.old (octets.now ++ more)) }
         ensures ended { OnOk result (self.new.ended ≡ is_nothing octets.now) }
     {
         let from = self.from.min(self.held.len());
@@ -501,7 +504,8 @@ impl PieceReader {
         ensures found { result ≡ Step.Found piece }
         ensures rest { rest self.new ≡ drop count (rest self.old) }
         ensures line { self.new.line ≡ further self.old.line 1 }
-        ensures same { self.new ≡ record self.old { from = self.new.from; line = self.new.line; comment = self.new.comment; progress = progress } }
+        ensures same { self.new ≡ record self.old
+            { from = self.new.from; line = self.new.line; comment = self.new.comment; progress = progress } }
         ensures comment { self.new.comment.items ≡ [] }
     {
         self.progress = progress;
@@ -583,7 +587,8 @@ impl PieceReader {
     /// The fault of a line that is too long, no matter how it ends.
     fn unfinished(&self) -> Result<Step, PieceFault>
         ensures short { length (rest self.now) ≤ line_limit + 1 → result ≡ Ok Step.NeedsMore }
-        ensures long { line_limit + 1 < length (rest self.now) → result ≡ Err (PieceFault.Form (FormRule.InLine self.now.line LineRule.TooLong)) }
+        ensures long { line_limit + 1 < length (rest self.now)
+            → result ≡ Err (PieceFault.Form (FormRule.InLine self.now.line LineRule.TooLong)) }
     {
         if self.rest().len() <= LINE_LIMIT + 1 {
             Ok(Step::NeedsMore)

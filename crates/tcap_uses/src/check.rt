@@ -8,8 +8,8 @@ use tcap_check::{Certificate, CheckFault, check};
 use tcap_end::Table;
 use tcap_record::Record;
 
-/// How many steps a run of two lawful ends has that sends a record, where a certificate gives one; else the first reason why it
-/// gives none.
+/// How many steps a run of two lawful ends has that sends a record, where a certificate gives one; else the first
+/// reason why it gives none.
 pub fn count_steps(
     alloc: Global,
     record: &Record,

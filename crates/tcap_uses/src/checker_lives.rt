@@ -9,8 +9,8 @@ use tcap_check::{Certificate, CheckFault, Checker, Report};
 use tcap_end::Table;
 use tcap_record::End;
 
-/// How many messages wait behind a quiet mark, none, and the certificate. It guards callers that move a certificate before all
-/// is dropped that had a checker over it: here, what `match` looks at is dropped behind the move.
+/// How many messages wait behind a quiet mark, none, and the certificate. It guards callers that move a certificate
+/// before all is dropped that had a checker over it: here, what `match` looks at is dropped behind the move.
 pub fn waits_after_mark(
     alloc: Global,
     table: &Table,
@@ -55,8 +55,8 @@ pub fn end_waits_after_mark(
     }
 }
 
-/// What a certificate gives, by a table, for a record of nothing but a quiet mark. It guards callers that declare a checker
-/// before what it is made over.
+/// What a certificate gives, by a table, for a record of nothing but a quiet mark. It guards callers that declare a
+/// checker before what it is made over.
 pub fn given_of_mark(alloc: Global, given: (Table, Certificate)) -> Result<Report, CheckFault>
     ensures { result ≢ Err (fault_at reasons.Memory 0)
         → result ≡ map_ok (reported None) (run_by None given.0 given.1 (Ok Item.Quiet ∷ [])) }

@@ -20,8 +20,8 @@ pub fn first_sent(alloc: Global, table: &Table, message: &Message) -> Result<End
     Ok(end)
 }
 
-/// The end that received a message and nothing before it, and then sent this answer; or the first reason why it may not, or
-/// `Memory`.
+/// The end that received a message and nothing before it, and then sent this answer; or the first reason why it may
+/// not, or `Memory`.
 pub fn answered(
     alloc: Global,
     table: &Table,

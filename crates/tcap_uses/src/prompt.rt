@@ -31,8 +31,8 @@ fn prompt_certificate(alloc: Global, count: usize) -> Option<Certificate>
     Certificate::new(fates, Vec::new(alloc), Vec::new(alloc))
 }
 
-/// Whether two lawful ends may have sent the record of these octets, each message received before another is sent, and nothing unseen;
-/// `None` if the octets can't be read, or memory runs out.
+/// Whether two lawful ends may have sent the record of these octets, each message received before another is sent, and
+/// nothing unseen; `None` if the octets can't be read, or memory runs out.
 pub fn is_prompt(alloc: Global, octets: &[u8], table: &Table) -> Option<bool>
     // Then some such run sends the items that the octets spell; invocations may end unseen in it.
     ensures prompt { result ≡ Some true → (items : List Item) × (events : List Event) × SpellsRecord items octets.now

@@ -31,8 +31,8 @@ AreOptions test tables options =
     × (options.settled ≡ is_settled test.ids) × (options.complete ≡ test.complete)
     × (options.heard ≡ test.heard)
 
--- Each trace that the command line names was opened in its order, and judged by its options and these tables. The octets
--- of files are not known to a contract.
+-- Each trace that the command line names was opened in its order, and judged by its options and these tables. The
+-- octets of files are not known to a contract.
 pub record JudgesEach (test : Test) (tables : List NamedTable) (before after : Sum) : Type 0 where
   pub options : TraceOptions
   pub options_are : AreOptions test tables options
@@ -47,7 +47,8 @@ AreErrors count before after = HasJudged (replicate count verdicts.Error) before
 -- the sum.
 abbrev pub IsJudged : Test → Sum → Sum → Verdict → Type 0
 IsJudged test before after verdict =
-    (((tables : List NamedTable) × JudgesEach test tables before after) ⊎ AreErrors (length test.traces.items) before after) × (verdict ≡ worst_of after)
+    (((tables : List NamedTable) × JudgesEach test tables before after)
+    ⊎ AreErrors (length test.traces.items) before after) × (verdict ≡ worst_of after)
 
 -- The exit status is that of the worst verdict on a trace; or that of an error, if the run stopped; or 4, if the
 -- command line is wrong.

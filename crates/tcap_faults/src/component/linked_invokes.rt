@@ -26,7 +26,8 @@ fn has_operation(
     linkable: Linkable,
     found: &Cell<usize>,
 ) -> bool
-    ensures { result ≡ (tallies_of (map (λ b. b.now) tallies.now)).has_operation id (links_as table.now linkable.entry) }
+    ensures { result
+        ≡ (tallies_of (map (λ b. b.now) tallies.now)).has_operation id (links_as table.now linkable.entry) }
 {
     for tally in tallies {
         if tally.has_operation(table, id, linkable, found) {
@@ -104,7 +105,8 @@ fn one_has(
     problem: LinkProblem,
     found: &FoundLink,
 ) -> bool
-    ensures { result ≡ codes_any (names_so table.now (tallies_of (map (λ b. b.now) invoked.now)) problem id) counts.now }
+    ensures { result
+        ≡ codes_any (names_so table.now (tallies_of (map (λ b. b.now) invoked.now)) problem id) counts.now }
 {
     match problem {
         LinkProblem::Response => one_is_none(counts, invoked, table, id, found),
@@ -198,7 +200,8 @@ fn found_has(
     found: &FoundLink,
 ) -> bool
     ensures { result ≡ true
-        → list_any (links_at (names_so table.now (tallies_of (map (λ b. b.now) invoked.now)) problem)) by_link.now.entries
+        → list_any (links_at (names_so table.now (tallies_of (map (λ b. b.now) invoked.now)) problem))
+        by_link.now.entries
         ≡ true }
 {
     let linked = found.linked.get();

@@ -43,7 +43,8 @@ fn is_provider_abort(dialogue: Option<DialogueView>) -> bool
 
 /// Returns whether a message is an Abort with an ABRT whose source is the provider.
 fn is_abort_of_provider<M: MessageParts>(message: &M) -> bool
-    ensures { result ≡ (is_a forms.Abort (M.meaning message.now) && is_provider_abort (dialogue_in (M.meaning message.now))) }
+    ensures { result
+        ≡ (is_a forms.Abort (M.meaning message.now) && is_provider_abort (dialogue_in (M.meaning message.now))) }
 {
     matches!(message.kind(), Form::Abort) && is_provider_abort(message.dialogue())
 }

@@ -56,7 +56,8 @@ impl Ends<'_> {
 
     /// Returns whether one of these own IDs has a half that is not surely open.
     fn goes_to_shut(self, table: &Table, ids: &Ids) -> bool
-        ensures { (side : Side) (items : List Item) (those : List (List ℕ)) → IsSide table.now side items self.entry.own.now
+        ensures { (side : Side) (items : List Item) (those : List (List ℕ))
+            → IsSide table.now side items self.entry.own.now
             → IsSide table.now (other side) items self.entry.peer.now → AreAmong those (Some ids.now)
             → result ≡ list_any (λ own. not (is_surely_open table.now side items own)) those }
     {

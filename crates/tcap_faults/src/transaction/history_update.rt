@@ -89,7 +89,8 @@ fn insert_all(set: &mut BTreeSet<TransactionId>, ids: Option<&Ids>) -> Result<()
 impl SideFacts {
     /// Returns whether the end sent an End, or an Abort without cause, to one of these IDs.
     fn ended_one(&self, ids: &Ids) -> bool
-        ensures { (table : Table) (side : Side) (items : List Item) (those : List (List ℕ)) → IsSide table side items self.now
+        ensures { (table : Table) (side : Side) (items : List Item) (those : List (List ℕ))
+            → IsSide table side items self.now
             → AreAmong those (Some ids.now) → result ≡ list_any (has_ended side items) those }
     {
         let Some(first) = &ids.first else {
@@ -298,8 +299,10 @@ fn note_guessed<M: MessageParts>(
     message: &M,
     effects: Effects,
 ) -> Result<(), AllocError>
-    ensures { (table : Table) (side : Side) (items : List Item) → AreEffects table side items (M.meaning message.now) effects
-        → OnOk result (HasMore (λ id. guesses (other side) id items (Sent side (M.meaning message.now))) guessed.old guessed.new) }
+    ensures { (table : Table) (side : Side) (items : List Item)
+        → AreEffects table side items (M.meaning message.now) effects
+        → OnOk result
+        (HasMore (λ id. guesses (other side) id items (Sent side (M.meaning message.now))) guessed.old guessed.new) }
 {
     let Some(otid) = message.otid() else {
         return Ok(());

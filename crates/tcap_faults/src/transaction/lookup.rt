@@ -67,7 +67,8 @@ pub(crate) fn key_of(id: Option<TransactionIdView>) -> Option<TransactionId>
 
 /// Returns whether two IDs differ, of all those in the two lists together. Each list may be absent.
 fn differ(some: Option<&Ids>, others: Option<&Ids>) -> bool
-    ensures { (xs ys : List (List ℕ)) → AreAmong xs (option_copied some.entry) → AreAmong ys (option_copied others.entry)
+    ensures { (xs ys : List (List ℕ)) → AreAmong xs (option_copied some.entry)
+        → AreAmong ys (option_copied others.entry)
         → result ≡ two_differ (xs ++ ys) }
 {
     match (some, others) {
@@ -89,7 +90,8 @@ fn first_in(ids: Option<&Ids>) -> Option<TransactionId>
 
 /// Returns an ID of one of the lists, if there is one.
 fn one_of(some: Option<&Ids>, others: Option<&Ids>) -> Option<TransactionId>
-    ensures { (xs ys : List (List ℕ)) → AreAmong xs (option_copied some.entry) → AreAmong ys (option_copied others.entry)
+    ensures { (xs ys : List (List ℕ)) → AreAmong xs (option_copied some.entry)
+        → AreAmong ys (option_copied others.entry)
         → IsOneOf (xs ++ ys) result }
 {
     match first_in(some) {
@@ -103,7 +105,8 @@ impl<'a> OwnId<'a> {
     fn back(self) -> Option<&'a Ids>
         ensures { (table : Table) (side : Side) (items : List Item) (id : List ℕ)
             → IsOwnId table side items id self.entry
-            → AreAmong (cond (has_used side items id) (otids_of (sent_to (other side) items id)) []) (option_copied result) }
+            → AreAmong (cond (has_used side items id) (otids_of (sent_to (other side) items id)) [])
+            (option_copied result) }
     {
         match self.from {
             Some(_) => comes_from(self.to),

@@ -112,7 +112,8 @@ impl SentFrom {
         table: &Table,
         message: &M,
     ) -> Result<(), AllocError>
-        ensures from { (ms : List Message) → is_a forms.Begin (M.meaning message.now) ≡ true → IsFrom table.now ms self.old
+        ensures from { (ms : List Message) → is_a forms.Begin (M.meaning message.now) ≡ true
+            → IsFrom table.now ms self.old
             → OnOk result (IsFrom table.now (ms ++ M.meaning message.now ∷ []) self.new) }
         ensures first { self.new.first ≡ self.old.first }
     {

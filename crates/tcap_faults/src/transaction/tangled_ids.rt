@@ -61,7 +61,8 @@ impl<'a> Ends<'a> {
     /// Returns whether the peer began an ID, and sent a Continue from it to an ID that the end began. At most one own
     /// ID may be joined with the ID.
     fn is_begun_by_both(self, peer_id: PeerId) -> bool
-        ensures { (table : Table) (side : Side) (items : List Item) (id : List ℕ) → IsSide table side items self.entry.own.now
+        ensures { (table : Table) (side : Side) (items : List Item) (id : List ℕ)
+            → IsSide table side items self.entry.own.now
             → IsPeerId table side items id peer_id.entry → two_differ (owns_of side items id) ≡ false
             → result ≡ (has_a forms.Begin (peer_sent_from side id items)
             && list_any (goes_to_begun side items) (peer_sent_from side id items)) }
@@ -89,7 +90,8 @@ impl<'a> Ends<'a> {
 
     /// Returns why an ID of the peer is tangled, if it is.
     fn tangle_of_peer(self, peer_id: PeerId) -> Option<Tangle>
-        ensures { (table : Table) (side : Side) (items : List Item) (id : List ℕ) → IsSide table side items self.entry.own.now
+        ensures { (table : Table) (side : Side) (items : List Item) (id : List ℕ)
+            → IsSide table side items self.entry.own.now
             → IsSide table (other side) items self.entry.peer.now → IsPeerId table side items id peer_id.entry
             → result ≡ tangle_of_peer side items id }
     {
@@ -108,7 +110,8 @@ impl<'a> Ends<'a> {
 
     /// Returns an ID of the peer with the reason, if it is tangled.
     fn tangled_peer(self, peer: End, peer_id: PeerId) -> Option<TangledId>
-        ensures { (table : Table) (side : Side) (items : List Item) (id : List ℕ) → IsSide table side items self.entry.own.now
+        ensures { (table : Table) (side : Side) (items : List Item) (id : List ℕ)
+            → IsSide table side items self.entry.own.now
             → IsSide table (other side) items self.entry.peer.now → IsPeerId table side items id peer_id.entry
             → result ≡ tangled_for peer id (tangle_of_peer side items id) }
     {
@@ -157,7 +160,8 @@ impl<'a> Ends<'a> {
     /// Returns an ID of the peer that is joined with this own ID, if it is tangled. The own ID itself must not be
     /// tangled.
     fn tangled_after(self, peer: End, own: OwnId) -> Option<TangledId>
-        ensures { (table : Table) (side : Side) (items : List Item) (id : List ℕ) → IsSide table side items self.entry.own.now
+        ensures { (table : Table) (side : Side) (items : List Item) (id : List ℕ)
+            → IsSide table side items self.entry.own.now
             → IsSide table (other side) items self.entry.peer.now → IsOwnId table side items id own.entry
             → two_differ (peers_of side items id) ≡ false
             → result ≡ first_tangled peer (tangle_of_peer side items) (peers_of side items id) }
