@@ -68,6 +68,18 @@ element_of s (Some (Indefinite tag)) = indefinite_at s tag (outer_at s.octets)
 unfoldable pub next_at : Span → Result (Element × Span) Fault
 next_at s = opening_at s >>= element_of s
 
+-- the content after a header, as far as the window has it; None without a header. After a header of indefinite length,
+-- it is all of the window.
+abbrev pub content_by : Span → Option Opening → Option Span
+content_by s None = None
+content_by s (Some (Definite h)) =
+    Some (record { octets = take h.content_len (drop h.len s.octets); place = s.place + h.len })
+content_by s (Some (Indefinite tag)) = Some (behind (tag + 1) s)
+
+-- the content of the element at the front, which need not be whole, as far as the window has it
+unfoldable pub content_so_far_at : Span → Result (Option Span) Fault
+content_so_far_at s = opening_at s >>= λ opening. Ok (content_by s opening)
+
 -- the tag is this one octet
 abbrev pub is_tag : ℕ → List ℕ → Bool
 is_tag octet [] = false

@@ -35,4 +35,4 @@ pub use small_numbers::{Small, SmallView, small_number};
 pub use to_end::{ReadError, read_to_end};
 pub use unopened_device::Unopened;
 pub use walk::Walk;
-pub use window::{begins_with, ended, next_tlv, outer, required, required_any};
+pub use window::{begins_with, content_so_far, ended, next_tlv, outer, required, required_any};

@@ -1,6 +1,6 @@
 //! Reading the elements of a window one after the other.
 
-ghost use Rattle.std.specs.Prelude.{◌≡◌, ◌+◌, ◌<◌, ◌≤◌, ◌⊎◌, ◌↔◌, ◌++◌, ◌∷◌, [], ℕ, List, length, Some, Ok, Err, IfOk, IfErr, IsOk, IsOkAnd, IsTrue};
+ghost use Rattle.std.specs.Prelude.{◌≡◌, ◌+◌, ◌<◌, ◌≤◌, ◌⊎◌, ◌↔◌, ◌++◌, ◌∷◌, [], ℕ, List, length, Some, Ok, Err, IfOk, IfErr, IsOk, IsOkAnd, IsTrue, option_map};
 ghost use Rattle.tcap_ber.specs.declared.element.Outer.{Outer};
 ghost use Rattle.tcap_ber.specs.declared.fault.Fault.{Fault};
 ghost use Rattle.tcap_ber.specs.declared.fault.Reason.{Reason};
@@ -9,7 +9,7 @@ ghost use Rattle.tcap_ber.specs.Element.{IsElement, content_limit, header_limit}
 ghost use Rattle.tcap_ber.specs.WalkPlaces.{BeginsElement, NeedsMore, IsWalkFault};
 ghost use Rattle.tcap_ber.specs.Grammar.{BeginsWith, IsMissing, IsElementFault, IsUnexpected};
 ghost use Rattle.tcap_ber.specs.FrontElement.{FindsElement};
-ghost use Rattle.tcap_ber.specs.Reading.{Gives, span, element, opening_at, outer_at, innermost_at, definite_at, walked_len, indefinite_at, next_at, required_at, some_at, is_next, end_at};
+ghost use Rattle.tcap_ber.specs.Reading.{Gives, span, element, opening_at, outer_at, innermost_at, definite_at, walked_len, indefinite_at, content_so_far_at, next_at, required_at, some_at, is_next, end_at};
 
 use crate::element::{Outer, Tag, Tlv, Window};
 use crate::fault::{Fault, Reason};
@@ -242,6 +242,31 @@ pub fn required(window: Window, tag: u8) -> Result<(Tlv, Window), Fault>
     ensures exact { Gives (λ x. (element x.0, span x.1)) result (required_at tag (span window.entry)) }
 {
     read_required(window, tag)
+}
+
+/// Returns the content of the element at the front of a window, which need not be whole, as far as the window has it.
+/// If the element has indefinite length, the result is all that comes after its header. `None` if the octets end before
+/// the header does (X.690 8.1.1).
+///
+/// # Errors
+///
+/// `TagForm` or `TooLong` at the element's first octet, `LengthForm` or `Indefinite` at its first length octet.
+#[tactic(auto, unfolding(crate::specs::Reading::content_so_far_at))]
+pub fn content_so_far(window: Window) -> Result<Option<Window>, Fault>
+    ensures exact { Gives (option_map span) result (content_so_far_at (span window.entry)) }
+{
+    match read_opening(window)? {
+        Some(Opening::Definite(header)) => {
+            let content = window.behind(header.len);
+            let len = content.octets.len().min(header.content_len);
+            Ok(Some(Window {
+                octets: &content.octets[..len],
+                place: content.place,
+            }))
+        }
+        Some(Opening::Indefinite(tag_len)) => Ok(Some(window.behind(tag_len + 1))),
+        None => Ok(None),
+    }
 }
 
 fn is_first(window: Window, tag: u8) -> bool

@@ -16,4 +16,4 @@ pub use kind::Kind;
 pub use message::{AbortReason, DecodeFault, Message, decode};
 pub use parts::MessageParts;
 pub use transaction_id::{TransactionId, TransactionIdView};
-pub use views::{AbortReasonView, MessageView, view};
+pub use views::{AbortReasonView, MessageView, dialogue_portion, dtid, otid, view};

@@ -66,19 +66,28 @@ pub enum AbortReasonView<'a> {
     Dialogue(DialogueView<'a>),
 }
 
-/// Reads the originating transaction ID at the front of a window.
+/// Reads the originating transaction ID at the front of a window (Q.773 4.2.1). Returns the ID and the window after it.
+///
+/// # Errors
+///
+/// The faults of [`tcap_ber::required`] at an element of tag 48, and `BadTransactionId` at an ID that has not 1 to 4
+/// octets.
 #[tactic(auto, unfolding(crate::specs::Reading::otid_at))]
 #[inline(always)]
-fn otid(window: Window) -> Result<(TransactionIdView, Window), Fault>
+pub fn otid(window: Window) -> Result<(TransactionIdView, Window), Fault>
     ensures exact { Gives (λ x. (x.0.octets.now, span x.1)) result (otid_at (span window.entry)) }
 {
     let (found, rest) = required(window, OTID)?;
     Ok((TransactionIdView::read(found)?, rest))
 }
 
-/// Reads the destination transaction ID at the front of a window.
+/// Reads the destination transaction ID at the front of a window (Q.773 4.2.1). Returns the ID and the window after it.
+///
+/// # Errors
+///
+/// As for [`otid`], at an element of tag 49.
 #[tactic(auto, unfolding(crate::specs::Reading::dtid_at))]
-fn dtid(window: Window) -> Result<(TransactionIdView, Window), Fault>
+pub fn dtid(window: Window) -> Result<(TransactionIdView, Window), Fault>
     ensures exact { Gives (λ x. (x.0.octets.now, span x.1)) result (dtid_at (span window.entry)) }
 {
     let (found, rest) = required(window, DTID)?;
@@ -97,10 +106,15 @@ fn cause(window: Window) -> Result<(Option<SmallView>, Window), Fault>
     Ok((Some(small_number(found)?), rest))
 }
 
-/// Reads the dialogue portion at the front of a window. `None` if the next tag is another one.
+/// Reads the dialogue portion at the front of a window (Q.773 4.2.3). Returns the PDU and the window after it; `None` and
+/// the window itself if the next tag is another one.
+///
+/// # Errors
+///
+/// The faults of [`tcap_ber::required`] at an element of tag 6B, and those of [`tcap_parts::view_dialogue`] in it.
 #[tactic(auto, unfolding(crate::specs::Reading::dialogue_portion_at))]
 #[inline(always)]
-fn dialogue_portion(window: Window) -> Result<(Option<DialogueView>, Window), Fault>
+pub fn dialogue_portion(window: Window) -> Result<(Option<DialogueView>, Window), Fault>
     ensures exact { Gives (λ x. (option_map dialogue_of x.0, span x.1)) result
         (dialogue_portion_at (span window.entry)) }
 {
