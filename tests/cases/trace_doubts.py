@@ -349,6 +349,48 @@ UNREAD_ROWS = [
             (BAD_LENGTH, f"inconc {BEHIND}"),
         ]
     ),
+    *(
+        Row(
+            f"no message, {digits}: {name}",
+            "",
+            lines(f"A {digits}", f"B {end('01')}"),
+            [Wanted([0, 1], "01", peer, "fail 0 F1", f"inconc {BEHIND}")],
+            # A record has no such entries: its entries are whole elements.
+            has_directives=is_cut,
+        )
+        for name, digits, peer, is_cut in [
+            ("the length says more than there is", "6209480101", "", True),
+            ("octets after the message", begin("01") + "00", "", True),
+            ("the last element is cut", "62064801016C09A1", "", False),
+            ("an ID of another sort, in another order", "6206490105480101", "05", False),
+            ("the ID is there twice", "6206480101480101", "", False),
+            ("another tag than a message's", "6303480101", "", False),
+            ("end-of-contents octets", "62054801010000", "", False),
+        ]
+    ),
+    *(
+        Row(
+            f"no message, {digits}: {name}",
+            "",
+            lines(SHORT[0], f"A {digits}", SHORT[1]),
+            [Wanted([0, 2], "01", ""), Wanted([1], "", "", "fail 0 F1", open=None)],
+            has_directives=is_cut,
+        )
+        for name, digits, is_cut in [
+            ("the tag alone", "62", True),
+            ("no content", "6200", False),
+            ("two originating IDs that differ", "6206480101480102", False),
+            ("two destination IDs that differ", "6509480101490107490108", False),
+            ("an ID after end-of-contents octets", "62050000480101", False),
+            ("a Unidirectional with an ID", "6103480101", False),
+        ]
+    ),
+    Row(
+        "a tag alone is of a message, so that the trace is judged",
+        "",
+        lines("A 6200"),
+        [Wanted([0], "", "", "fail 0 F1", open=None)],
+    ),
     Row(
         "a fault before it is one all the same, and behind a mark it is over",
         "",

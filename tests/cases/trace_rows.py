@@ -94,7 +94,7 @@ LIMIT_BEGIN = element("62", element("48", "01"), portion(element("A1", element("
 LIMIT_END = element("64", element("49", "01"), portion(element("A3", element("02", "01"), WIDE_CODE)))
 # No messages, whose IDs can't be read: another tag; an ID of no octets; a DTID of five; and an ID whose length can't be
 # read, which is a limit.
-OTHER_TAG, NO_OCTETS, FIVE_OCTETS, BAD_LENGTH = "6303480101", "62024800", "650A48010749050102030405", "6203488501"
+OTHER_TAG, NO_OCTETS, FIVE_OCTETS, BAD_LENGTH = "6303040101", "62024800", "640749050102030405", "6203488501"
 
 
 # ---- what is wanted

@@ -100,7 +100,7 @@ ONE = [
     one(
         "another tag than a message's",
         [f"B {trace_rows.OTHER_TAG}"],
-        ["  why: unexpected tag; place 0 of the message; message; octets [63] 03 48 01 01"],
+        ["  why: unexpected tag; place 0 of the message; message; octets [63] 03 04 01 01"],
         "B F1",
         "its tag, 63, is none of the five messages",
         before=SHORT,

@@ -23,7 +23,33 @@ BEYOND = {
     "Continue": lambda own, peer: trace_rows.go_on(own, peer, WIDE),
     "End": lambda own, peer: trace_rows.end(peer, WIDE),
 }
-UNREAD = [trace_rows.OTHER_TAG, trace_rows.NO_OCTETS, trace_rows.FIVE_OCTETS, trace_rows.BAD_LENGTH]
+# Octets whose IDs can't be read, each with the kind that its tag gives.
+UNREAD = [
+    (None, trace_rows.OTHER_TAG),
+    ("Begin", trace_rows.NO_OCTETS),
+    ("End", trace_rows.FIVE_OCTETS),
+    ("Begin", trace_rows.BAD_LENGTH),
+    # Two originating IDs, or two destination IDs, that differ.
+    ("Continue", "6509" "480101" "490101" "480102"),
+    ("Abort", "6706" "490102" "490103"),
+]
+# Octets that are no message, whose kind and IDs are read all the same: for each form, its kind, whether it has an
+# originating and a destination ID, and what makes the octets of the two IDs.
+PARTLY_READ = [
+    # The last element is cut.
+    ("Begin", True, False, lambda own, peer: element("62", element("48", own), "6C09A1")),
+    ("Continue", True, True, lambda own, peer: element("65", element("48", own), element("49", peer), "6B")),
+    # An ID is missing, or is one of a sort that the kind lacks; the order is another one; or an ID is there twice.
+    ("Continue", True, False, lambda own, peer: element("65", element("48", own))),
+    ("End", True, True, lambda own, peer: element("64", element("49", peer), element("48", own))),
+    ("Begin", True, True, lambda own, peer: element("62", element("49", peer), element("48", own))),
+    ("Begin", True, False, lambda own, peer: element("62", element("48", own), element("48", own))),
+    # Nothing is read after end-of-contents octets, or after an element whose length is a limit.
+    ("Continue", True, False, lambda own, peer: element("65", element("48", own), "0000", element("49", peer))),
+    ("Continue", True, False, lambda own, peer: element("65", element("48", own), "0485", element("49", peer))),
+    # Another tag than a message's.
+    (None, True, True, lambda own, peer: element("63", element("48", own), element("49", peer))),
+]
 
 
 def any_table(rng):
@@ -39,9 +65,14 @@ def sent(end, message, writer):
 
 
 def no_message(rng, end, own, peer):
-    """Returns an entry that is no message, with these IDs or with none that can be read."""
-    if rng.random() < 0.3:
-        return Heading(end, None, None, None), rng.choice(UNREAD)
+    """Returns an entry that is no message, with these IDs, some of them, or none that can be read."""
+    chance = rng.random()
+    if chance < 0.2:
+        kind, digits = rng.choice(UNREAD)
+        return Heading(end, kind, None, None), digits
+    if chance < 0.5:
+        kind, has_otid, has_dtid, form = rng.choice(PARTLY_READ)
+        return Heading(end, kind, own if has_otid else None, peer if has_dtid else None), form(own.hex(), peer.hex())
     kinds = NO_MESSAGES if rng.random() < 0.6 else BEYOND
     kind = rng.choice(sorted(kinds))
     ids = (own if kind in ("Begin", "Continue") else None, None if kind == "Begin" else peer)

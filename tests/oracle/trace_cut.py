@@ -5,8 +5,7 @@ shares nothing with the code under test."""
 import bisect
 from collections import namedtuple
 
-# What is read of an entry: who sent it, its kind, and its transaction IDs. If nothing can be read, all but the sender
-# are None.
+# What is read of an entry: who sent it, its kind, and its transaction IDs. What can't be read is None.
 Heading = namedtuple("Heading", "end kind otid dtid")
 # The entries between two quiet marks; and the number of the first entry after the directive `#: under way`, if there is
 # one.
@@ -187,7 +186,7 @@ class Before:
 def cut_segment(segment, before, is_once, linger):
     """Returns the dialogues of a segment, by their entries."""
     headings, found = segment.headings, []
-    unread = [number for number, heading in enumerate(headings) if heading.kind is None]
+    unread = [at for at, it in enumerate(headings) if not ids_in(it) and it.kind != "Unidirectional"]
     for numbers, again, unsettled in connected(headings) if is_once else coming(segment, before.sent, linger):
         mine = [headings[number] for number in numbers]
         ids = set().union(*map(ids_in, mine))

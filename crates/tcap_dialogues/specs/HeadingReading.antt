@@ -1,16 +1,16 @@
--- What can be read of an element that need not be a message (Q.773 4.2.1). Its tag gives the kind of message. The
--- transaction IDs of such a message are read if their elements are whole and have 1 to 4 octets, no matter what comes
--- after them. Otherwise nothing is read.
-use Rattle.std.specs.Prelude.{ℕ, false, List, Option, Some, None, Result, Ok, Err}
-use Rattle.std.specs.Option.{option_map}
+-- What can be read of octets that need not be a message (Q.773 4.2.1). The first octet gives the kind of message. The
+-- transaction IDs are read from the whole elements of the content, up to the first that is not whole, no matter what
+-- kind of message it is. If two IDs of one sort differ, no ID is read.
+use Rattle.std.specs.Prelude.{ℕ, zero, suc, Bool, true, false, cond, ◌&&◌, ◌==◌, List, [], ◌∷◌, length, Option, Some, None, option_map, option_and_then, Result, Ok, Err}
+use Rattle.std.specs.List.{flat_map, list_all}
+use Rattle.std.specs.Str.{bytes_eq}
 use Rattle.tcap_ber.specs.declared.fault.Fault.{Fault}
-use Rattle.tcap_ber.specs.declared.fault.Reason.TheVariants.{UnexpectedTag}
 use Rattle.tcap_ber.specs.Span.{Span}
-use Rattle.tcap_ber.specs.Reading.{◌>>=◌, Element, one_of_at, refused_at, tagged_at}
+use Rattle.tcap_ber.specs.Reading.{Element, content_so_far_at, is_tag, some_at}
 use Rattle.tcap_msg.specs.declared.kind.Kind.{Kind}
 use Rattle.tcap_msg.specs.declared.kind.Kind.TheVariants as kinds
 use Rattle.tcap_msg.specs.Message.{whole}
-use Rattle.tcap_msg.specs.Reading.{dtid_at, otid_at}
+use Rattle.tcap_msg.specs.TransactionId.{is_transaction_id}
 use Rattle.tcap_record.specs.declared.entry.End.{End as Side}
 use Rattle.tcap_dialogues.specs.Course.{Heading}
 use Rattle.tcap_dialogues.specs.declared.heading.HeadingView.{HeadingView}
@@ -26,52 +26,97 @@ heading_with sender kind otid dtid = record {
   known = false;
 }
 
--- the heading of a Begin, of a Continue, and of an End or an Abort, from its content
-unfoldable pub begin_heading_at : Side → Span → Result Heading Fault
-begin_heading_at sender s = do
-  otid ← otid_at s
-  Ok (heading_with sender kinds.Begin (Some otid.0) None)
+-- ---- the kind
 
-unfoldable pub continue_heading_at : Side → Span → Result Heading Fault
-continue_heading_at sender s = do
-  otid ← otid_at s
-  dtid ← dtid_at otid.1
-  Ok (heading_with sender kinds.Continue (Some otid.0) (Some dtid.0))
+-- the kind of message with this tag, if there is one
+abbrev pub kind_of_tag : ℕ → Option Kind
+kind_of_tag tag =
+    cond (tag == 0x61) (Some kinds.Unidirectional)
+    (cond (tag == 0x62) (Some kinds.Begin)
+    (cond (tag == 0x64) (Some kinds.End)
+    (cond (tag == 0x65) (Some kinds.Continue)
+    (cond (tag == 0x67) (Some kinds.Abort) None))))
 
-unfoldable pub last_heading_at : Side → Kind → Span → Result Heading Fault
-last_heading_at sender kind s = do
-  dtid ← dtid_at s
-  Ok (heading_with sender kind None (Some dtid.0))
+-- the kind of message by the first octet
+abbrev pub kind_at : List ℕ → Option Kind
+kind_at [] = None
+kind_at (tag ∷ more) = kind_of_tag tag
 
--- the heading of an element, by its tag
-abbrev pub heading_of_element : Side → Element → Result Heading Fault
-heading_of_element sender =
-    tagged_at 0x61 (λ e. Ok (heading_with sender kinds.Unidirectional None None))
-    (tagged_at 0x62 (λ e. begin_heading_at sender e.content)
-    (tagged_at 0x64 (λ e. last_heading_at sender kinds.End e.content)
-    (tagged_at 0x65 (λ e. continue_heading_at sender e.content)
-    (tagged_at 0x67 (λ e. last_heading_at sender kinds.Abort e.content)
-    (refused_at UnexpectedTag)))))
+-- ---- the elements of the content
 
--- the heading of the element at the front of a window
-unfoldable pub heading_in : Side → Span → Result (Heading × Span) Fault
-heading_in sender s = one_of_at (heading_of_element sender) s
+-- the content of the outer element; if that is not whole, all there is of its content
+abbrev pub outer_content : List ℕ → Option Span
+outer_content octets = by (some_at (whole octets))
+  where
+    begun : Result (Option Span) Fault → Option Span
+    begun (Ok content) = content
+    begun (Err f) = None
 
--- the heading that was read, or only the sender
-abbrev pub or_nothing : Side → Result (Heading × Span) Fault → Heading
-or_nothing sender (Ok found) = found.0
-or_nothing sender (Err f) = record {
-  sender = sender;
-  kind = None;
-  otid = None;
-  dtid = None;
-  under_way = false;
-  known = false;
-}
+    by : Result (Element × Span) Fault → Option Span
+    by (Ok found) = Some found.0.content
+    by (Err f) = begun (content_so_far_at (whole octets))
 
--- the heading of the element at the front of these octets
+-- The first element of a window, and the window after it, if the element is whole. End-of-contents octets (tag 00) are
+-- no element.
+abbrev pub whole_next : Span → Option (Element × Span)
+whole_next s = by (some_at s)
+  where
+    by : Result (Element × Span) Fault → Option (Element × Span)
+    by (Ok found) = cond (is_tag 0 found.0.tag) None (Some found)
+    by (Err f) = None
+
+-- the element that was found, and those of the window after it
+abbrev pub found_first : Option (Element × Span) → (Span → List Element) → List Element
+found_first None more = []
+found_first (Some found) more = found.0 ∷ more found.1
+
+-- the whole elements at the front of a window, at most n of them
+abbrev pub elements_at : ℕ → Span → List Element
+elements_at zero s = []
+elements_at (suc n) s = found_first (whole_next s) (λ rest. elements_at n rest)
+
+-- the whole elements at the front of a window; there are no more of them than octets
+abbrev pub elements_in : Span → List Element
+elements_in s = elements_at (length s.octets) s
+
+-- ---- the transaction IDs
+
+-- the transaction ID in an element with this tag, if it is one
+abbrev pub id_under : ℕ → Element → List (List ℕ)
+id_under tag e = cond (is_tag tag e.tag && is_transaction_id e.content.octets) (e.content.octets ∷ []) []
+
+-- the first of these IDs, if there is one; None if it differs from another
+abbrev pub agreed : List (List ℕ) → Option (Option (List ℕ))
+agreed [] = Some None
+agreed (id ∷ ids) = cond (list_all (bytes_eq id) ids) (Some (Some id)) None
+
+-- The originating and the destination transaction ID in these elements. Neither is read if two of one sort differ.
+abbrev pub ids_among : List Element → Option (List ℕ) × Option (List ℕ)
+ids_among elements = by (agreed (flat_map (id_under 0x48) elements)) (agreed (flat_map (id_under 0x49) elements))
+  where
+    by : Option (Option (List ℕ)) → Option (Option (List ℕ)) → Option (List ℕ) × Option (List ℕ)
+    by (Some otid) (Some dtid) = (otid, dtid)
+    by otids dtids = (None, None)
+
+-- the transaction IDs of an element of this kind with this content; a Unidirectional has none
+abbrev pub ids_of : Option Kind → Option Span → Option (List ℕ) × Option (List ℕ)
+ids_of kind None = (None, None)
+ids_of (Some kinds.Unidirectional) content = (None, None)
+ids_of kind (Some content) = ids_among (elements_in content)
+
+-- the heading of these octets
 abbrev pub heading_at : Side → List ℕ → Heading
-heading_at sender octets = or_nothing sender (heading_in sender (whole octets))
+heading_at sender octets = by (ids_of (kind_at octets) (outer_content octets))
+  where
+    by : Option (List ℕ) × Option (List ℕ) → Heading
+    by ids = record {
+      sender = sender;
+      kind = kind_at octets;
+      otid = ids.0;
+      dtid = ids.1;
+      under_way = false;
+      known = false;
+    }
 
 -- the heading of a view
 abbrev pub heading_read : HeadingView → Heading

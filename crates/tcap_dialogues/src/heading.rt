@@ -1,17 +1,20 @@
 //! Reads the heading of an entry, by which its dialogue is found.
 
-ghost use Rattle.std.specs.Prelude.{◌≡◌, ℕ, List};
-ghost use Rattle.tcap_ber.specs.Reading.{Gives, element, span};
+ghost use Rattle.std.specs.Prelude.{◌≡◌, ◌++◌, option_map};
+ghost use Rattle.std.specs.Option.{option_to_list};
+ghost use Rattle.tcap_ber.specs.Reading.{element, span};
 ghost use Rattle.tcap_msg.specs.declared.message.Message.{Message as Meant};
 ghost use Rattle.tcap_msg.specs.Message.{Spells};
-ghost use Rattle.tcap_msg.specs.Reading.{dtid_at, otid_at};
 ghost use Rattle.tcap_dialogues.specs.Course.{heading_of};
-ghost use Rattle.tcap_dialogues.specs.HeadingReading.{begin_heading_at, continue_heading_at, heading_at, heading_in, heading_of_element, heading_read, last_heading_at};
+ghost use Rattle.tcap_dialogues.specs.HeadingReading.{agreed, elements_in, heading_at, heading_read, id_under, ids_among, ids_of, kind_at, kind_of_tag, outer_content, whole_next};
 
-use tcap_ber::{Fault, Reason, Tlv, Window, required, required_any};
+use tcap_ber::{Tlv, Window, content_so_far, required_any};
 use tcap_msg::tags::{ABORT, BEGIN, CONTINUE, DTID, END, OTID, UNIDIRECTIONAL};
 use tcap_msg::{Kind, MessageParts, TransactionIdView};
 use tcap_record::End;
+
+/// The tag of end-of-contents octets (X.690 8.1.5).
+const ENDING: u8 = 0;
 
 /// The facts about an entry by which its dialogue is found. These are its sender, its kind and its transaction IDs, as
 /// far as they can be read (Q.773 4.2.1), and two facts about the trace before it, which the caller sets. It borrows
@@ -22,9 +25,9 @@ pub struct HeadingView<'a> {
     pub sender: End,
     /// The kind of message, by the tag; `None` if it cannot be read.
     pub kind: Option<Kind>,
-    /// The originating transaction ID of a Begin or a Continue.
+    /// The originating transaction ID.
     pub otid: Option<TransactionIdView<'a>>,
-    /// The destination transaction ID of a Continue, an End or an Abort.
+    /// The destination transaction ID.
     pub dtid: Option<TransactionIdView<'a>>,
     /// Whether the entry comes after the under-way directive, by which dialogues may have begun before the trace.
     pub under_way: bool,
@@ -46,126 +49,158 @@ pub fn heading_of_message<M: MessageParts>(sender: End, message: &M) -> HeadingV
     }
 }
 
-/// Reads the originating transaction ID at the front of a window, and returns it with the rest of the window.
-#[tactic(auto, unfolding(tcap_msg::specs::Reading::otid_at))]
-fn otid(window: Window) -> Result<(TransactionIdView, Window), Fault>
-    ensures { Gives (λ x. (x.0.octets.now, span x.1)) result (otid_at (span window.entry)) }
+/// Returns the kind of message with this tag, if there is one (Q.773 4.2.1).
+fn kind_of_tag(tag: u8) -> Option<Kind>
+    ensures { result ≡ kind_of_tag tag }
 {
-    let (found, rest) = required(window, OTID)?;
-    Ok((TransactionIdView::read(found)?, rest))
-}
-
-/// Reads the destination transaction ID at the front of a window, and returns it with the rest of the window.
-#[tactic(auto, unfolding(tcap_msg::specs::Reading::dtid_at))]
-fn dtid(window: Window) -> Result<(TransactionIdView, Window), Fault>
-    ensures { Gives (λ x. (x.0.octets.now, span x.1)) result (dtid_at (span window.entry)) }
-{
-    let (found, rest) = required(window, DTID)?;
-    Ok((TransactionIdView::read(found)?, rest))
-}
-
-/// Reads the heading of a Begin from its content.
-#[tactic(auto, unfolding(crate::specs::HeadingReading::begin_heading_at))]
-fn begin_heading(sender: End, content: Window) -> Result<HeadingView, Fault>
-    ensures { Gives heading_read result (begin_heading_at sender (span content.entry)) }
-{
-    let (otid, _) = otid(content)?;
-    Ok(HeadingView {
-        sender,
-        kind: Some(Kind::Begin),
-        otid: Some(otid),
-        dtid: None,
-        under_way: false,
-        known: false,
-    })
-}
-
-/// Reads the heading of a Continue from its content.
-#[tactic(auto, unfolding(crate::specs::HeadingReading::continue_heading_at))]
-fn continue_heading(sender: End, content: Window) -> Result<HeadingView, Fault>
-    ensures { Gives heading_read result (continue_heading_at sender (span content.entry)) }
-{
-    let (otid, rest) = otid(content)?;
-    let (dtid, _) = dtid(rest)?;
-    Ok(HeadingView {
-        sender,
-        kind: Some(Kind::Continue),
-        otid: Some(otid),
-        dtid: Some(dtid),
-        under_way: false,
-        known: false,
-    })
-}
-
-/// Reads the heading of an End or an Abort from its content.
-#[tactic(auto, unfolding(crate::specs::HeadingReading::last_heading_at))]
-fn last_heading(sender: End, kind: Kind, content: Window) -> Result<HeadingView, Fault>
-    ensures { Gives heading_read result (last_heading_at sender kind (span content.entry)) }
-{
-    let (dtid, _) = dtid(content)?;
-    Ok(HeadingView {
-        sender,
-        kind: Some(kind),
-        otid: None,
-        dtid: Some(dtid),
-        under_way: false,
-        known: false,
-    })
-}
-
-/// Reads the heading of an element, whose tag gives the kind.
-fn heading_of_element(sender: End, found: Tlv) -> Result<HeadingView, Fault>
-    ensures { Gives heading_read result (heading_of_element sender (element found.entry)) }
-{
-    if found.tag.is(UNIDIRECTIONAL) {
-        Ok(HeadingView {
-            sender,
-            kind: Some(Kind::Unidirectional),
-            otid: None,
-            dtid: None,
-            under_way: false,
-            known: false,
-        })
-    } else if found.tag.is(BEGIN) {
-        begin_heading(sender, found.content)
-    } else if found.tag.is(END) {
-        last_heading(sender, Kind::End, found.content)
-    } else if found.tag.is(CONTINUE) {
-        continue_heading(sender, found.content)
-    } else if found.tag.is(ABORT) {
-        last_heading(sender, Kind::Abort, found.content)
+    if tag == UNIDIRECTIONAL {
+        Some(Kind::Unidirectional)
+    } else if tag == BEGIN {
+        Some(Kind::Begin)
+    } else if tag == END {
+        Some(Kind::End)
+    } else if tag == CONTINUE {
+        Some(Kind::Continue)
+    } else if tag == ABORT {
+        Some(Kind::Abort)
     } else {
-        Err(found.refused(Reason::UnexpectedTag))
+        None
     }
 }
 
-/// Reads the heading of the element at the front of a window, and returns it with the rest of the window.
-#[tactic(auto, unfolding(crate::specs::HeadingReading::heading_in))]
-fn heading_in(sender: End, window: Window) -> Result<(HeadingView, Window), Fault>
-    ensures { Gives (λ x. (heading_read x.0, span x.1)) result (heading_in sender (span window.entry)) }
+/// Returns the kind of message by the first octet.
+fn kind_at(octets: &[u8]) -> Option<Kind>
+    ensures { result ≡ kind_at octets.now }
 {
-    let (found, rest) = required_any(window)?;
-    Ok((heading_of_element(sender, found)?, rest))
+    match octets {
+        [tag, ..] => kind_of_tag(*tag),
+        [] => None,
+    }
 }
 
-/// Reads the heading of the element at the front of `octets`, which need not be a message (Q.773 4.2.1).
+/// Returns the content of the outer element. If that is not whole, returns all there is of its content.
+fn outer_content(octets: &[u8]) -> Option<Window>
+    ensures { option_map span result ≡ outer_content octets.now }
+{
+    let window = Window::new(octets);
+    match required_any(window) {
+        Ok((found, _)) => Some(found.content),
+        Err(_) => match content_so_far(window) {
+            Ok(content) => content,
+            Err(_) => None,
+        },
+    }
+}
+
+/// Returns the first element of a window and the window after it, if the element is whole and not end-of-contents
+/// octets.
+fn whole_next(window: Window) -> Option<(Tlv, Window)>
+    ensures { option_map (λ x. (element x.0, span x.1)) result ≡ whole_next (span window.entry) }
+{
+    match required_any(window) {
+        Ok((found, rest)) => {
+            if found.tag.is(ENDING) {
+                None
+            } else {
+                Some((found, rest))
+            }
+        }
+        Err(_) => None,
+    }
+}
+
+/// Returns the transaction ID in an element with this tag, if it is one.
+#[tactic(auto, unfolding(tcap_msg::specs::TransactionId::transaction_id_of))]
+fn id_under<'a>(tag: u8, found: Tlv<'a>) -> Option<TransactionIdView<'a>>
+    ensures { option_to_list (option_map (λ id. id.octets.now) result) ≡ id_under tag (element found.entry) }
+{
+    if !found.tag.is(tag) {
+        return None;
+    }
+    match TransactionIdView::read(found) {
+        Ok(id) => Some(id),
+        Err(_) => None,
+    }
+}
+
+/// Returns the ID that is known or, if none is, that of an element with this tag. Returns `None` if both are there and
+/// differ.
+fn agreed<'a>(
+    known: Option<TransactionIdView<'a>>,
+    tag: u8,
+    found: Tlv<'a>,
+) -> Option<Option<TransactionIdView<'a>>>
+    ensures { option_map (option_map (λ id. id.octets.now)) result
+        ≡ agreed (option_to_list (option_map (λ id. id.octets.now) known.entry) ++ id_under tag (element found.entry)) }
+{
+    match (known, id_under(tag, found)) {
+        (Some(known), Some(id)) => {
+            if known.octets == id.octets {
+                Some(Some(known))
+            } else {
+                None
+            }
+        }
+        (Some(known), None) => Some(Some(known)),
+        (None, id) => Some(id),
+    }
+}
+
+/// An originating and a destination transaction ID, as far as they can be read.
+type Ids<'a> = (Option<TransactionIdView<'a>>, Option<TransactionIdView<'a>>);
+
+/// Returns the transaction IDs in the whole elements at the front of a window. Neither is read if two of one sort
+/// differ.
+fn ids_among(content: Window) -> Ids
+    ensures { (option_map (λ id. id.octets.now) result.0, option_map (λ id. id.octets.now) result.1)
+        ≡ ids_among (elements_in (span content.entry)) }
+{
+    let mut otid = None;
+    let mut dtid = None;
+    let mut rest = content;
+    while let Some((found, behind)) = whole_next(rest) {
+        let Some(own) = agreed(otid, OTID, found) else {
+            return (None, None);
+        };
+        let Some(peer) = agreed(dtid, DTID, found) else {
+            return (None, None);
+        };
+        otid = own;
+        dtid = peer;
+        rest = behind;
+    }
+    (otid, dtid)
+}
+
+/// Returns the transaction IDs of an element of this kind with this content.
+fn ids_of(kind: Option<Kind>, content: Option<Window>) -> Ids
+    ensures { (option_map (λ id. id.octets.now) result.0, option_map (λ id. id.octets.now) result.1)
+        ≡ ids_of kind (option_map span content.entry) }
+{
+    match (kind, content) {
+        (Some(Kind::Unidirectional), _) | (_, None) => (None, None),
+        (_, Some(content)) => ids_among(content),
+    }
+}
+
+/// Reads the heading of octets that need not be a message (Q.773 4.2.1).
 ///
-/// The tag gives the kind of message. The transaction IDs of such a message are read if their elements are whole and
-/// have 1 to 4 octets, no matter what comes after them. Otherwise, or if no message has the tag, only the sender is
-/// known. If the octets spell a message, the result is that of [`heading_of_message`]. Nothing is known of the trace.
+/// The first octet gives the kind of message, even if the element is cut. The transaction IDs are read from the whole
+/// elements of its content, up to the first that is not whole, no matter what kind of message it is. An ID has 1 to 4
+/// octets. If two IDs of one sort differ, no ID is read; a Unidirectional has none. If the octets spell a message, the
+/// result is that of [`heading_of_message`]. Nothing is known of the trace.
 pub fn read_heading(sender: End, octets: &[u8]) -> HeadingView<'_>
     ensures exact { heading_read result ≡ heading_at sender octets.now }
     ensures message { (m : Meant) → Spells m octets.now → heading_read result ≡ heading_of sender m }
 {
-    match heading_in(sender, Window::new(octets)) {
-        Ok((heading, _)) => heading,
-        Err(_) => HeadingView {
-            sender,
-            kind: None,
-            otid: None,
-            dtid: None,
-            under_way: false,
-            known: false,
-        },
+    let kind = kind_at(octets);
+    let (otid, dtid) = ids_of(kind, outer_content(octets));
+    HeadingView {
+        sender,
+        kind,
+        otid,
+        dtid,
+        under_way: false,
+        known: false,
     }
 }

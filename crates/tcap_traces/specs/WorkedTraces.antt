@@ -1,10 +1,9 @@
 -- Worked traces: their pieces, segments, dialogues, tables, circumstances and verdicts.
 use Rattle.hex.specs.Hex.{decode_pairs}
 use Rattle.tcap_ber.specs.HeaderReading.{length_at, opening_at, tag_at}
-use Rattle.tcap_ber.specs.Reading.{each_of, next_at, required_at, some_at}
+use Rattle.tcap_ber.specs.Reading.{content_so_far_at, each_of, next_at, required_at, some_at}
 use Rattle.tcap_msg.specs.Reading.{begin_at, component_portion_at, continue_at, dialogue_portion_at, dtid_at, end_message_at, message_at, message_in, otid_at}
 use Rattle.tcap_msg.specs.TransactionId.{transaction_id_of}
-use Rattle.tcap_dialogues.specs.HeadingReading.{begin_heading_at, continue_heading_at, heading_in, last_heading_at}
 use Rattle.tcap_ber.specs.WalkResult.{outer_at}
 use Rattle.std.specs.Prelude.{◌≡◌, ℕ, true, false, List, [], ◌∷◌, ◌++◌, map, Option, Some, None, codes, refl}
 use Rattle.tcap_record.specs.declared.entry.End.TheVariants as sides
@@ -139,7 +138,7 @@ numbers_of lines = map (λ j. (j.number, j.dialogue.numbers)) (dialogues_of aske
 pub of_numbers : (numbers_of (begin ∷ answer ∷ []) ≡ (0, 0 ∷ 1 ∷ []) ∷ [])
     × (numbers_of (begin ∷ end ∷ begin ∷ []) ≡ (0, 0 ∷ 1 ∷ []) ∷ (2, 2 ∷ []) ∷ [])
     × (numbers_of (begin ∷ codes "Q" ∷ answer ∷ []) ≡ (0, 0 ∷ []) ∷ (2, 0 ∷ []) ∷ [])
-unfolding decode_pairs outer_at opening_at tag_at length_at heading_in some_at next_at begin_heading_at continue_heading_at last_heading_at otid_at dtid_at required_at transaction_id_of
+unfolding decode_pairs outer_at opening_at tag_at length_at some_at next_at content_so_far_at otid_at dtid_at required_at transaction_id_of
 of_numbers = (refl, refl, refl)
 
 -- the circumstances of each dialogue
@@ -166,20 +165,20 @@ none = record {
 pub of_ids : (circumstances_of asked (begin ∷ end ∷ begin ∷ []) ≡ none ∷ record none { again = true } ∷ [])
     × (circumstances_of asked (codes "#: under way" ∷ answer ∷ []) ≡ record none { under_way = true } ∷ [])
     × (circumstances_of asked (codes "#: under way" ∷ begin ∷ []) ≡ record none { began = Some sides.A } ∷ [])
-unfolding decode_pairs outer_at opening_at tag_at length_at heading_in some_at next_at begin_heading_at continue_heading_at last_heading_at otid_at dtid_at required_at transaction_id_of message_at message_in begin_at continue_at end_message_at dialogue_portion_at component_portion_at each_of
+unfolding decode_pairs outer_at opening_at tag_at length_at some_at next_at content_so_far_at otid_at dtid_at required_at transaction_id_of message_at message_in begin_at continue_at end_message_at dialogue_portion_at component_portion_at each_of
 of_ids = (refl, refl, refl)
 
 -- A's ID goes on after a quiet mark that came too early; but not if B had never answered.
 pub of_marks : (circumstances_of asked (begin ∷ answer ∷ codes "Q" ∷ goes_on ∷ [])
     ≡ none ∷ record none { early_mark = true } ∷ [])
     × (circumstances_of asked (begin ∷ codes "Q" ∷ begin ∷ []) ≡ none ∷ none ∷ [])
-unfolding decode_pairs outer_at opening_at tag_at length_at heading_in some_at next_at begin_heading_at continue_heading_at last_heading_at otid_at dtid_at required_at transaction_id_of message_at message_in begin_at continue_at end_message_at dialogue_portion_at component_portion_at each_of
+unfolding decode_pairs outer_at opening_at tag_at length_at some_at next_at content_so_far_at otid_at dtid_at required_at transaction_id_of message_at message_in begin_at continue_at end_message_at dialogue_portion_at component_portion_at each_of
 of_marks = (refl, refl)
 
 -- An entry that can't be read may belong to a dialogue around it.
 pub of_unreadable : circumstances_of asked (begin ∷ codes "A 00" ∷ answer ∷ [])
     ≡ none ∷ record none { unread_from = Some 1 } ∷ []
-unfolding decode_pairs outer_at opening_at tag_at length_at heading_in some_at next_at begin_heading_at continue_heading_at last_heading_at otid_at dtid_at required_at transaction_id_of message_at message_in begin_at continue_at end_message_at dialogue_portion_at component_portion_at each_of
+unfolding decode_pairs outer_at opening_at tag_at length_at some_at next_at content_so_far_at otid_at dtid_at required_at transaction_id_of message_at message_in begin_at continue_at end_message_at dialogue_portion_at component_portion_at each_of
 of_unreadable = refl
 
 -- With `--complete`, a dialogue is open at the end of its trace, and at a quiet mark unless its table has prearranged
@@ -191,7 +190,7 @@ pub of_open : (circumstances_of (complete plain) (begin ∷ []) ≡ record none 
     × (circumstances_of (complete plain) (begin ∷ codes "Q" ∷ []) ≡ record none { «open» = true } ∷ [])
     × (circumstances_of (complete (record plain { table = prearranged })) (begin ∷ codes "Q" ∷ []) ≡ none ∷ [])
     × (circumstances_of (complete plain) (begin ∷ end ∷ []) ≡ none ∷ [])
-unfolding decode_pairs outer_at opening_at tag_at length_at heading_in some_at next_at begin_heading_at continue_heading_at last_heading_at otid_at dtid_at required_at transaction_id_of message_at message_in begin_at continue_at end_message_at dialogue_portion_at component_portion_at each_of
+unfolding decode_pairs outer_at opening_at tag_at length_at some_at next_at content_so_far_at otid_at dtid_at required_at transaction_id_of message_at message_in begin_at continue_at end_message_at dialogue_portion_at component_portion_at each_of
 of_open = (refl, refl, refl, refl)
 
 -- ---- verdicts
@@ -202,5 +201,5 @@ verdict_on octets = (judged_trace asked octets).verdict
 
 -- nothing to judge: no octet, and a fault of a line
 pub of_errors : (verdict_on [] ≡ verdicts.Error) × (verdict_on (text (codes "A 6" ∷ [])) ≡ verdicts.Error)
-unfolding judged_trace decode_pairs outer_at opening_at tag_at length_at heading_in some_at next_at begin_heading_at continue_heading_at last_heading_at otid_at dtid_at required_at transaction_id_of
+unfolding judged_trace decode_pairs outer_at opening_at tag_at length_at some_at next_at content_so_far_at otid_at dtid_at required_at transaction_id_of
 of_errors = (refl, refl)

@@ -1,14 +1,16 @@
-use Rattle.std.proofs.Common.{sym, ap, ◌∙◌}
-use Rattle.tcap_dialogues.specs.HeadingReading.{heading_in, or_nothing}
-use Rattle.tcap_dialogues.proofs.HeadingLaws.{heading_is}
+use Rattle.std.proofs.Common.{ap, ◌∙◌}
+use Rattle.std.specs.Prelude.{option_map}
+use Rattle.tcap_ber.specs.Reading.{span}
+use Rattle.tcap_dialogues.specs.HeadingReading.{ids_of, kind_at, outer_content}
+use Rattle.tcap_dialogues.proofs.HeadingLaws.{heading_is, with_ids}
 use Rattle.tcap_dialogues.proofs.heading.read_heading.Goals as goal
 
--- A heading that was read is that of the message.
-pub returns-in-Ok-clause-message : goal.returns-in-Ok-clause-message
-returns-in-Ok-clause-message c m spelled =
-    ap (or_nothing c.args.sender) (sym c.in-Ok.ensures ∙ ap (heading_in c.args.sender) c.new.ensures) ∙ heading_is c.args.sender c.args.octets.now m spelled
-
--- Octets that spell a message have a heading.
-pub returns-in-Err-clause-message : goal.returns-in-Err-clause-message
-returns-in-Err-clause-message c m spelled =
-    ap (or_nothing c.args.sender) (sym c.in-Err.ensures ∙ ap (heading_in c.args.sender) c.new.ensures) ∙ heading_is c.args.sender c.args.octets.now m spelled
+-- The heading that was read is that of the message.
+pub returns-clause-message : goal.returns-clause-message
+returns-clause-message c m spelled =
+    let octets = c.args.octets.now in
+    let ids = c.ids_of.ensures ∙ ap (λ kind. ids_of kind (option_map span c.outer_content.result)) c.kind_at-kind.ensures
+    ∙ ap (ids_of (kind_at octets)) c.outer_content.ensures in
+    ap (with_ids c.args.sender c.kind_at-kind.result) ids
+    ∙ ap (λ kind. with_ids c.args.sender kind (ids_of (kind_at octets) (outer_content octets))) c.kind_at-kind.ensures
+    ∙ heading_is c.args.sender octets m spelled
