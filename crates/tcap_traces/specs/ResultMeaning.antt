@@ -1,5 +1,4 @@
--- What the result for an end of a dialogue means: an end that fails is at fault, and an end that passes may have sent
--- its part.
+-- What does the result for an end of a dialogue mean?
 use Rattle.std.specs.Prelude.{◌≡◌, ◌⊎◌, ℕ, false, List, ◌∷◌, ◌++◌, drop, take, slice_get, Option, Some, Err}
 use Rattle.std.specs.List.{list_any}
 use Rattle.tcap_record.specs.declared.entry.End.{End as Side}
