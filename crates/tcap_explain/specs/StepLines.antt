@@ -106,7 +106,7 @@ is_entry step = false
 abbrev pub after_step : ℕ → Step → ℕ
 after_step number step = cond (is_entry step) (suc number) number
 
--- the lines of these steps, the first of which comes after `number` sent entries
+-- the lines of these steps; `number` entries were sent before the first step
 abbrev pub lines_from : Option Side → ℕ → List Step → List ℕ
 lines_from judged number [] = []
 lines_from judged number (step ∷ more) = step_line judged number step ++ lines_from judged (after_step number step) more

@@ -32,7 +32,7 @@ MayHaveSentUnheard side table entries unheard = AreLawfulUnheard (Some side) tab
 abbrev pub MayHaveSent : Side → Table → List Entry → Type 0
 MayHaveSent side table entries = (unheard : ℕ) × MayHaveSentUnheard side table entries unheard
 
--- What the result says of the end holds. If it fails or is doubtful, the entry is at fault, no matter what its peer
+-- The result is true. If the end fails or is doubtful, the entry is at fault, no matter what its peer
 -- sends or what follows. If it passes or is `Unheard`, it may have sent its part with this many unheard messages. If
 -- only other circumstances keep it from passing, it may have sent its part with some number of unheard messages.
 abbrev pub IsTrueResult : Side → Table → List Entry → EndResult → Type 0

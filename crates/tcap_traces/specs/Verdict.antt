@@ -131,8 +131,8 @@ abbrev pub is_of_mark : Kind → Bool
 is_of_mark kinds.OpenAtMark = true
 is_of_mark kind = false
 
--- whether a blame of this kind depends on what the table says of an operation: its class, whether it expires, or its
--- linked operations
+-- whether a blame of this kind depends on the row of an operation in the table: on its class, on whether it expires, or
+-- on its linked operations
 abbrev pub depends_on_table : Kind → Bool
 depends_on_table kinds.WrongOperation = true
 depends_on_table kinds.InvokeIdBusy = true

@@ -268,8 +268,8 @@ fn is_begun_by_peer(began: Option<End>, end: End) -> bool
     }
 }
 
-/// Returns whether a blame of this kind depends on what the table says of an operation: its class, whether it expires,
-/// or its linked operations.
+/// Returns whether a blame of this kind depends on the row of an operation in the table: on its class, on whether it
+/// expires, or on its linked operations.
 fn depends_on_table(kind: Kind) -> bool
     ensures { result ≡ depends_on_table kind }
 {
