@@ -22,7 +22,7 @@ pub struct Test<'a> {
     pub tables: Vec<&'a str>,
     /// The rule for reusing the IDs of a finished dialogue.
     pub ids: Ids,
-    /// True if a dialogue that is still open at the end of its trace does not pass (`--complete`).
+    /// True if a dialogue that is open at the end of its trace, or at a quiet mark, does not pass (`--complete`).
     pub complete: bool,
     /// True if an end that did not hear each message of its peer does not pass (`--heard`).
     pub heard: bool,

@@ -82,7 +82,7 @@ pub struct Circumstances {
     pub unread_from: Option<u64>,
     /// True if the dialogue has more entries than are judged.
     pub cut: bool,
-    /// True if the dialogue is open at the end of its trace, but should be complete.
+    /// True if the dialogue is still open after its last entry, but should be complete.
     pub open: bool,
     /// True if each end should have heard each message of its peer.
     pub heard: bool,
