@@ -44,7 +44,7 @@ use tcap_traces::{
 /// The options for judging a trace.
 #[derive(Clone, Copy, Debug)]
 pub struct TraceOptions<'a> {
-    /// The end whose verdicts are asked, or None for both.
+    /// The end to judge, or None for both.
     pub of: Option<End>,
     /// The rule for using transaction IDs again.
     pub reuse: Reuse,

@@ -6,8 +6,8 @@ use std::alloc::Global;
 use tcap_certificate::Certificate;
 use tcap_certificate_text::CertificateText;
 
-/// Reads a certificate and writes it again, without spaces. Returns `None` if `text` is no certificate, or if memory runs
-/// out.
+/// Reads a certificate and writes it again, without spaces. Returns `None` if `text` is no certificate, or if memory
+/// runs out.
 pub fn written_again(alloc: Global, text: &[u8]) -> Option<String>
     // Both texts mean the same certificate.
     ensures same { IfSome result (λ again. (c : Meant) × IsCertificateText text.now c

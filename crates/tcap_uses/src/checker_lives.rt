@@ -11,8 +11,8 @@ use tcap_record::End;
 
 /// Returns how many messages wait to be received after a quiet mark, which is none, and the certificate.
 ///
-/// Callers may move a certificate before everything that borrowed it is dropped: here, the value that `match` looks at is
-/// dropped after the move.
+/// Callers may move a certificate before everything that borrowed it is dropped: here, the value that `match` looks at
+/// is dropped after the move.
 pub fn waits_after_mark(
     alloc: Global,
     table: &Table,

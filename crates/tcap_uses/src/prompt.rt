@@ -15,8 +15,8 @@ use tcap_end::Table;
 use tcap_judge::laws;
 use tcap_record::read_record;
 
-/// Creates the certificate by which each of `count` messages is received before another is sent. Returns `None` if memory
-/// runs out.
+/// Creates the certificate by which each of `count` messages is received before another is sent. Returns `None` if
+/// memory runs out.
 fn prompt_certificate(alloc: Global, count: usize) -> Option<Certificate>
     requires few { count ≤ entry_limit }
     ensures { IfSome result (λ c. c ≡ prompt count) }

@@ -55,8 +55,8 @@ pub(crate) fn check<'a>(
     status_of(ended)
 }
 
-/// Answers what is asked of the record of the file `entries`, by the table of the file `table`. The table is opened
-/// first, since it is read first. What is printed goes out at once. Returns the exit status.
+/// Answers a question about the record of the file `entries`, by the table of the file `table`. The table is opened
+/// first, since it is read first. The output is not buffered. Returns the exit status.
 pub(crate) fn judge<'a>(
     rt: &HostRuntime,
     entries: &'a str,
