@@ -292,8 +292,8 @@ fn push_sum(json: &mut String, sum: &Sum) -> Result<(), AllocError> {
     json.push_str("}")
 }
 
-/// Appends the object of all traces in a page. `left_out` is the number of dialogues that do not pass and are not in
-/// the page.
+/// Appends the object of all traces in a page. `left_out` is the number of dialogues that do not pass and found no
+/// room.
 pub(crate) fn push_total(json: &mut String, sum: &Sum, left_out: u64) -> Result<(), AllocError> {
     push_sum(json, sum)?;
     writeln!(json, ",\"left_out\":{left_out}}}")
