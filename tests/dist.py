@@ -33,7 +33,6 @@ READS = {
     "docs/EXPLAIN.md": ["\nSome facts are compared and not listed.\n"],
     "docs/FORMAT.md": ["what happened unseen. It is a JSON object"],
     "docs/PROMISES.md": ["chosen by this profile ([MODEL.md](MODEL.md)), so each verdict"],
-    "docs/TRACES.md": ["named files are read, is\nonly tested.\n", "([all promises](PROMISES.md#verdicts-of-test)). "],
     "docs/VERDICTS.md": ["that the record is unlawful**.\n"],
 }
 # The time of the packages.

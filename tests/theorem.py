@@ -3,7 +3,7 @@ reaches, file by file in reading order, with the number of lines to read. `pytho
 these parts of the page again.
 
 A definition reaches each definition of this repository that it names, and whatever these reach. A list of the page
-leaves out what an earlier list has."""
+leaves out what an earlier list has. It names the definitions to read, or those to leave out if they are fewer."""
 
 import glob
 import itertools
@@ -11,11 +11,27 @@ import re
 import sys
 
 PAGE = "docs/THEOREM.md"
-# For each part of the page: its name, the file and the clause that it quotes, and the definitions that it begins with.
-PARTS = [
-    ("lawful", "crates/tcap_judge/src/checking.rt", "run_check", "lawful", [("tcap_judge.LawfulRecord", "FindsLawful")]),
-    ("end", "crates/tcap_judge/src/checking.rt", "run_check", "lawful", [("tcap_judge.LawfulEnd", "FindsLawfulFor")]),
-    ("blamed", "crates/tcap_judge/src/blaming.rt", "run_blame", "blames", [("tcap_faults.BlameMeaning", "IsAtFaultOf")]),
+CHECKING, BLAMING = "crates/tcap_judge/src/checking.rt", "crates/tcap_judge/src/blaming.rt"
+TRACES, RUNS, TESTING = "crates/tcap_traces/src/laws.rt", "crates/tcap_report/src/laws.rt", "crates/tcapjudge/src/testing.rt"
+MEANING = "tcap_traces.TraceMeaning"
+# The results that a judge finds: what a verdict means holds for any results that the laws allow.
+RESULTS = "tcap_traces.Dialogue", "ends_on"
+# For each list of the page: its name, the clauses that are quoted before it (file, function, and the clause's name if
+# it has one), and the definitions that it begins with. The clause before the second is that before the first.
+LISTS = [
+    ("lawful", [(CHECKING, "run_check", "lawful")], [("tcap_judge.LawfulRecord", "FindsLawful")]),
+    ("end", [], [("tcap_judge.LawfulEnd", "FindsLawfulFor")]),
+    ("blamed", [(BLAMING, "run_blame", "blames")], [("tcap_faults.BlameMeaning", "IsAtFaultOf")]),
+    (
+        "test",
+        [(TRACES, "pass_is_lawful", ""), (TRACES, "fail_is_at_fault", "verdict")],
+        [(MEANING, "MeansPass"), (MEANING, "MeansFail")],
+    ),
+    (
+        "status",
+        [(TESTING, "test", ""), (RUNS, "pass_of_run_is_of_each_trace", "")],
+        [("tcapjudge.TestStatus", "IsStatus")],
+    ),
 ]
 IMPORT = re.compile(r"^(?:pub )?use Rattle\.(tcap_\w+)\.specs\.(\w+)\.\{([^}]*)\}", re.MULTILINE)
 HEAD = re.compile(r"(?:(?:abbrev|unfoldable|opaque|pub|data|record)\s+)*([^\s:{(]+)")
@@ -64,10 +80,12 @@ class Module:
         words = WORD.findall(without_comments(self.lines[start:end]))
         return [part for word in words for part in (word, *word.split("."))]
 
-    def about(self):
-        """Returns the first sentence of the file."""
-        head = itertools.takewhile(lambda line: line.startswith("-- "), self.lines)
-        return re.match(r".*?[.?](?= [A-Z]|$)", " ".join(line[3:].strip() for line in head))[0]
+    def about(self, name=None):
+        """Returns the first sentence of the file, or of a definition's comment, without what is in brackets."""
+        lines = self.lines[slice(*self.found[name])] if name else self.lines
+        head = itertools.takewhile(lambda line: line.startswith("-- "), lines)
+        text = " ".join(line[3:].strip() for line in head)
+        return re.sub(r" \([^)]*\)", "", re.match(r".*?(?:[.?](?= [A-Z]|$)|$)", text)[0])
 
 
 def modules():
@@ -104,37 +122,83 @@ def reached(known, roots, seen):
     return new
 
 
-def listed(known, new):
-    """Returns the lines of the list of definitions, an item for each file."""
+def chosen(module, names, left):
+    """Returns which definitions of a file a list has, in words: nothing if they are all of it, `The rest` if earlier lists
+    have all others. `left` are those that no list has so far."""
+    if len(names) == len(module.found):
+        return ""
+    if not left:
+        return "The rest"
+    some = left if len(left) < len(names) else names
+    return ("All but " if some is left else "") + ", ".join(f"`{name}`" for name in some)
+
+
+def sentences(module, names, left, is_first):
+    """Returns what a list says of a file: its first sentence, if no earlier list has it, and which definitions to read.
+    Instead of the sentence of the file, a single definition has its own, if this is a noun."""
+    own = module.about(names[0]) if len(names) == 1 < len(module.found) else ""
+    if is_first and own[:1].islower():
+        return f"`{names[0]}`: {own}"
+    return " ".join(filter(None, [module.about() if is_first else "", chosen(module, names, left)]))
+
+
+def by_file(known, new):
+    """Yields for each file its name, the definitions that are new, and the number of their lines."""
     files = {}
     for module, name in new:
         files.setdefault(module, []).append(name)
-    rows, total = [], 0
     for module, names in files.items():
-        lines = sum(end - start for start, end in (known[module].found[name] for name in names))
-        total += lines
-        crate, name = module.split(".")
-        link = f"[{crate}, {name}](../{known[module].path})"
-        rows.append(f"- {link}, {lines} lines: {known[module].about()} {', '.join(f'`{it}`' for it in names)}")
-    return [*rows, "", f"{len(new)} definitions in {len(files)} files, {total} lines."]
+        yield module, names, sum(end - start for start, end in (known[module].found[name] for name in names))
+
+
+def total(known, new):
+    """Returns how much there is to read, in words."""
+    files = [*by_file(known, new)]
+    return f"{len(new)} definitions in {len(files)} files, {sum(lines for _, _, lines in files)} lines"
+
+
+def link(known, module):
+    """Returns the link to a file."""
+    return f"[{module.replace('.', '/')}](../{known[module].path})"
+
+
+def listed(known, new, seen):
+    """Returns the lines of the list of definitions, an item for each file."""
+    earlier = {module for module, _ in seen - {*new, RESULTS}}
+    rows = []
+    for module, names, lines in by_file(known, new):
+        left = [name for name in known[module].found if (module, name) not in seen]
+        said = sentences(known[module], names, left, module not in earlier)
+        rows.append(f"- {link(known, module)} ({lines}): {said}")
+    return [*rows, "", f"{total(known, new)}."]
+
+
+def folded(known, new):
+    """Returns the lines of a list of files without their definitions."""
+    *others, last = [link(known, module) for module, _, _ in by_file(known, new)]
+    return [f"{total(known, new)}:", *(f"{it}," for it in others), f"{last}."]
 
 
 def clause(path, function, name):
-    """Returns the clause of that name of a public function, as it is in the code."""
+    """Returns a clause of a function as it is in the code: the clause of that name, or the one without a name."""
     with open(path, encoding="utf-8") as file:
         text = file.read()
-    text = text[text.index(f"pub fn {function}<") :]
-    start = text.index(f"    ensures {name} {{")
+    text = text[re.search(rf"^pub(\(crate\))? fn {function}[<(]", text, re.MULTILINE).start() :]
+    start = text.index(f"    ensures {name} {{" if name else "    ensures {")
     end = min(text.index(stop, start + 1) for stop in ("\n    ensures ", "\n{") if stop in text[start + 1 :])
-    return [line[4:] for line in text[start:end].split("\n")]
+    return [f"// {function}, {path}", *(line[4:] for line in text[start:end].split("\n"))]
 
 
 def parts():
     """Yields the name and the lines of each part that is made of the sources."""
-    known, seen = modules(), set()
-    for name, path, function, clause_name, roots in PARTS:
-        yield f"{name}-clause", ["```rust", f"// {function}, {path}", *clause(path, function, clause_name), "```"]
-        yield f"{name}-definitions", listed(known, reached(known, roots, seen))
+    known, seen = modules(), {RESULTS}
+    for name, clauses, roots in LISTS:
+        quoted = [line for it in clauses for line in ["", *clause(*it)]]
+        if quoted:
+            yield f"{name}-clause", ["```rust", *quoted[1:], "```"]
+        new = reached(known, roots, seen)
+        yield f"{name}-definitions", listed(known, new, seen)
+    yield "results", folded(known, reached(known, [RESULTS], seen - {RESULTS}))
 
 
 def main():
@@ -142,7 +206,7 @@ def main():
         page = file.read()
     passed, failed = 0, 0
     for name, lines in parts():
-        start, end = f"<!-- begin {name} -->\n", f"<!-- end {name} -->\n"
+        start, end = f"<!--{name}-->\n", f"<!--/{name}-->\n"
         before, _, rest = page.partition(start)
         old, _, after = rest.partition(end)
         made = "\n" + "\n".join(lines) + "\n\n"

@@ -87,7 +87,7 @@ fault_answer verdict fault =
 abbrev pub refutation_answer : ℕ → Refutation → Answer
 refutation_answer verdict r = answer verdict r.entry (kind_number r.kind) 0 0
 
--- the answer for an outcome
+-- the answer in numbers for an outcome on the record
 abbrev pub outcome_answer : Outcome → Answer
 outcome_answer (Lawful count) = answer 0 count 0 0 0
 outcome_answer (LawfulFor count unheard) = answer 0 count 0 0 unheard
@@ -96,7 +96,7 @@ outcome_answer (Undecided fault) = fault_answer 2 fault
 outcome_answer (Faulty number place) = answer 3 place number 0 0
 outcome_answer (NotShown fault) = fault_answer 4 fault
 
--- the answer for a finding on an end
+-- the answer in numbers for a finding on an end
 abbrev pub finding_answer : Finding → Answer
 finding_answer (findings.Lawful count unheard) = answer 0 count 0 0 unheard
 finding_answer (findings.Blamed r) = refutation_answer 5 r

@@ -25,7 +25,7 @@ pub struct TestOptions {
 /// The options for a trace, by their meaning.
 #[derive(Clone, Copy, PartialEq, Eq)]
 pub(crate) struct Rules {
-    /// The end whose verdicts are asked, or None for both.
+    /// The end to judge, or None for both.
     pub(crate) of: Option<End>,
     /// The rule for using transaction IDs again.
     pub(crate) reuse: Reuse,

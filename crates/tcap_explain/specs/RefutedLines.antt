@@ -67,7 +67,7 @@ abbrev pub ends_judged : Option Side → Table → List Entry → Option Ends
 ends_judged None table entries = Some (ends_of table entries)
 ends_judged (Some side) table entries = None
 
--- the lines of these findings, with the reasons
+-- the lines of these findings, with the reasons; none if there are no findings
 abbrev pub findings_text : Table → List Entry → Option Ends → List ℕ
 findings_text table entries None = []
 findings_text table entries (Some ends) = both_text table entries None ends

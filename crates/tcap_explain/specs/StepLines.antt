@@ -58,11 +58,11 @@ discard_text reason = codes "reason " ++ decimal (fault_number reason)
 unfoldable pub invocation_text : Side → ℤ → List ℕ
 invocation_text side id = codes "  " ++ letter side ++ codes ": invocation " ++ signed_decimal id ++ codes " of "
 
--- the line of an invocation that expires unseen (Q.774 3.2)
+-- the line of an invocation that expires (Q.774 3.2)
 abbrev pub expiry_line : Side → HalfName → ℤ → List ℕ
 expiry_line side name id = invocation_text side id ++ owner_text name ++ codes " ends unseen" ++ line_end
 
--- the line of a half that closes unseen (Q.774 3.3)
+-- the line of a half that closes without a message (Q.774 3.3)
 abbrev pub closing_line : Side → HalfName → List ℕ
 closing_line side name = codes "  " ++ letter side ++ codes ": " ++ half_text name ++ codes " closes unseen" ++ line_end
 
@@ -82,7 +82,7 @@ abbrev pub discard_line : Side → ℕ → EndFault → List ℕ
 discard_line sender number reason =
     act_text (other sender) (codes " could not receive ") number ++ codes ": " ++ discard_text reason ++ line_end
 
--- the line of a step after `number` sent entries
+-- the line of a step; `number` entries were sent before it
 abbrev pub step_line : Option Side → ℕ → Step → List ℕ
 step_line judged number (steps.Sends side message) = sent_line side (codes " sends ") number message
 step_line judged number (steps.Tells side message) = sent_line side (codes " tells ") number message
@@ -94,7 +94,7 @@ step_line judged number (steps.Expires side name id) = expiry_line side name id
 step_line judged number (steps.Closes side name) = closing_line side name
 step_line judged number steps.Quiet = codes "  all is quiet" ++ line_end
 
--- whether a step is an entry
+-- whether a step sends an entry of the record
 abbrev pub is_entry : Step → Bool
 is_entry (steps.Sends side message) = true
 is_entry (steps.Tells side message) = true
@@ -106,7 +106,7 @@ is_entry step = false
 abbrev pub after_step : ℕ → Step → ℕ
 after_step number step = cond (is_entry step) (suc number) number
 
--- the lines of these steps, the first of which comes after `number` sent entries
+-- the lines of these steps; `number` entries were sent before the first step
 abbrev pub lines_from : Option Side → ℕ → List Step → List ℕ
 lines_from judged number [] = []
 lines_from judged number (step ∷ more) = step_line judged number step ++ lines_from judged (after_step number step) more

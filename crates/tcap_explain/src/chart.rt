@@ -10,7 +10,7 @@ use tcap_judge::{Outcome, push_outcome};
 use tcap_page::{FRAME_HEAD, FRAME_TAIL, push_entry, push_named};
 use tcap_record::{Body, End, Entry, Record};
 
-/// The most rows of a chart.
+/// The largest number of rows in a chart.
 const MOST: usize = 2_000;
 
 /// The subject of a chart: a record, the end that is judged alone, if any, the outcome, and the text after its line.
@@ -25,7 +25,7 @@ pub(crate) struct Chart<'a> {
 /// A row of a chart.
 #[derive(Clone, Copy)]
 enum Row<'a> {
-    /// A step, after this many sent entries.
+    /// A step, with the number of entries that were sent before it.
     Step(usize, &'a Step),
     /// The entry with this number, after the last step.
     Stands(usize),
@@ -167,7 +167,7 @@ fn push_internal(
     write!(json, ",\"invoke\":{id}")
 }
 
-/// Appends a step, after `number` sent entries. The row stays open.
+/// Appends the object of a step, without its closing brace. `number` entries were sent before the step.
 fn push_step(
     alloc: Global,
     json: &mut String,

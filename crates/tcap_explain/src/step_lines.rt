@@ -117,7 +117,7 @@ pub(crate) fn push_reason(text: &mut String, reason: EndFault) -> Result<(), All
     }
 }
 
-/// Appends an invocation of an end; the half follows.
+/// Appends an invocation of an end, up to `of`. The caller appends the half.
 #[tactic(auto, unfolding(crate::specs::StepLines::invocation_text))]
 fn push_invocation(text: &mut String, end: End, id: i8) -> Result<(), AllocError>
     ensures { OnOk result (string_bytes text.new ≡ string_bytes text.old ++ invocation_text end id) }
@@ -129,7 +129,7 @@ fn push_invocation(text: &mut String, end: End, id: i8) -> Result<(), AllocError
     text.push_str(" of ")
 }
 
-/// Appends the line of an invocation that expires unseen.
+/// Appends the line of an invocation that expires.
 fn push_expiry(text: &mut String, end: End, name: &HalfName, id: i8) -> Result<(), AllocError>
     ensures { OnOk result (string_bytes text.new ≡ string_bytes text.old ++ expiry_line end name.now id) }
 {
@@ -138,7 +138,7 @@ fn push_expiry(text: &mut String, end: End, name: &HalfName, id: i8) -> Result<(
     text.push_str(" ends unseen\n")
 }
 
-/// Appends the line of a half that closes unseen.
+/// Appends the line of a half that closes without a message.
 fn push_closing(text: &mut String, end: End, name: &HalfName) -> Result<(), AllocError>
     ensures { OnOk result (string_bytes text.new ≡ string_bytes text.old ++ closing_line end name.now) }
 {

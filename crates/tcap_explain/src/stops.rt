@@ -122,8 +122,8 @@ fn words_of_components(
     Ok(all)
 }
 
-/// Appends which component of a message an end refuses to send, if it is one, and what the end knows of it. Do not use
-/// `state` afterwards: it may have sent the components before that one.
+/// Appends which component of a message an end refuses to send, if a component is the reason, and what the end knows of
+/// its invoke ID. Do not use `state` afterwards: it may have sent the components before that one.
 fn push_refused(
     alloc: Global,
     text: &mut String,

@@ -343,7 +343,7 @@ module _ (options : TraceOptions) (remaining remaining' : Option (List ℕ)) (fa
       by (inl error) = inl error
       by (inr (at_end, same, none, is)) = inr (at_end, same)
 
-  -- The verdict on a trace with these octets is an error, or the one that is defined for them.
+  -- The verdict on a trace with these octets is an error, or that of `judged_trace`.
   pub verdict_defined : (octets : List ℕ) → remaining ≡ Some octets
       → (verdict ≡ verdicts.Error) ⊎ (verdict ≡ (judged_trace (asked_of options) octets).verdict)
   verdict_defined octets known = by whole_or_error

@@ -53,7 +53,7 @@ AnswersFaulty options remaining read verdict before after =
     × WhateverFollows remaining
     (λ more. IsReported options (judged_trace (asked_of options) (read ++ more)) verdict before after)
 
--- The reading stopped early, and the report is that on first pieces of the trace and a fault after them.
+-- The reading stopped early. The report is that on a trace of some first pieces with a fault after them.
 abbrev pub AnswersEarly : TraceOptions → Option (List ℕ) → ℕ → ℕ → List ℕ → Verdict → Sum → Sum → Type 0
 AnswersEarly options remaining failures failures' read verdict before after =
     (ps : List Piece) × IsCutShort remaining failures failures' read ps × (rule : FormRule)

@@ -80,7 +80,7 @@ pub record Keeps (options : TraceOptions) (s : State) (done waiting : List Cours
       → tree.get nat_cmp t.held n ≡ slice_get s.segment.entries n
   -- The notes on IDs are those of the earlier segments and of the dialogues `done`.
   pub marks : AreMarked s.before.sent s.before.open (λ d. may_go_on (dialogue_at s d)) names done t.marks
-  -- The unreadable entries are noted. `begun`: a dialogue with IDs began with the entry with this number.
+  -- The unreadable entries are noted. `begun` is true for the number of an entry that began a dialogue with IDs.
   pub begun : ℕ → Bool
   pub noted : AreNoted (headings_of s) begun (notes_in t.unread)
   pub tracked : AreTracked options.reuse (headings_of s) begun
@@ -91,13 +91,13 @@ pub record IsAt (options : TraceOptions) (s : State) (names : IdOf → Bool) (t 
   pub cut : IsCut options.reuse (headings_of s) t.cut
   pub count : t.count ≡ length s.segment.entries
 
--- the same, while no ID of the segment is noted as sent from
+-- The trace is kept between two pieces, and no ID of the segment is noted as sent from.
 abbrev pub IsReading : TraceOptions → State → Trace → Type 0
 IsReading options s t = IsAt options s no_id t
 
 -- ---- one more entry
 
--- the state after it
+-- the state after an entry
 abbrev pub with_next : TraceOptions → State → TraceEntry → State
 with_next options s e = after_piece (asked_of options) s (Entry e)
 

@@ -22,7 +22,7 @@ abbrev pub CountsUnopened : {R : Type 0} → ℕ → ℕ → Opened R → Type 0
 CountsUnopened old new (opened.Octets reader len) = new ≡ old
 CountsUnopened old new (opened.Unread why) = new ≡ one_more old
 
--- the number of unread traces after one whose reader failed so often
+-- the number of unread traces after a trace whose reader failed this many times
 abbrev pub unread_after : ℕ → ℕ → ℕ
 unread_after failures unread = cond (nat_lt 0 failures) (one_more unread) unread
 

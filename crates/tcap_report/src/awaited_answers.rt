@@ -24,9 +24,9 @@ struct Wait {
 /// The answers that an end sent after an entry.
 #[derive(Drop)]
 struct Answers {
-    /// True if it sent a message.
+    /// True if the end sent a message.
     any: bool,
-    /// The IDs of the invocations that it answered.
+    /// The invoke IDs that the end answered.
     answered: Vec<i8>,
 }
 

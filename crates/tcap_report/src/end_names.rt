@@ -1,10 +1,10 @@
-//! What a trace says of its ends, in the directives `A TEXT` and `B TEXT`.
+//! The names of the two ends, which the directives `A TEXT` and `B TEXT` of a trace give.
 
 use std::alloc::AllocError;
 use tcap_page::push_text;
 use tcap_record::End;
 
-/// The texts on the ends of a trace.
+/// The names of the ends of a trace.
 #[derive(Debug, Drop)]
 pub(crate) struct EndNames {
     a: Option<String>,
@@ -12,12 +12,12 @@ pub(crate) struct EndNames {
 }
 
 impl EndNames {
-    /// Creates the names of ends of which nothing is said.
+    /// Creates the state in which neither end has a name.
     pub(crate) fn new() -> EndNames {
         EndNames { a: None, b: None }
     }
 
-    /// Notes the text on an end.
+    /// Sets the name of an end.
     pub(crate) fn set(&mut self, end: End, text: String) {
         match end {
             End::A => self.a = Some(text),
@@ -25,7 +25,7 @@ impl EndNames {
         }
     }
 
-    /// Returns the text on an end, if there is one.
+    /// Returns the name of an end, if it has one.
     fn of(&self, end: End) -> Option<&str> {
         match end {
             End::A => self.a.as_deref(),
@@ -33,7 +33,7 @@ impl EndNames {
         }
     }
 
-    /// Appends a line for each end with a text. If memory runs out, `AllocError` is returned.
+    /// Appends a line for each end that has a name. If memory runs out, `AllocError` is returned.
     pub(crate) fn push_lines(&self, text: &mut String) -> Result<(), AllocError> {
         for end in [End::A, End::B] {
             if let Some(name) = self.of(end) {

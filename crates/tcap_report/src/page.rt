@@ -36,7 +36,7 @@ impl<'a, J: Write> Page<'a, J> {
         })
     }
 
-    /// Takes the room of one dialogue. Returns false, and counts the dialogue as left out, if there is none.
+    /// Takes the room of one dialogue. If there is no room left, counts the dialogue as left out, and returns false.
     pub(crate) fn takes_dialogue(&mut self) -> bool {
         if self.room == 0 {
             self.left_out = self.left_out.saturating_add(1);

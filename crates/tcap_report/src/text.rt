@@ -162,7 +162,7 @@ fn push_end(
     }
 }
 
-/// Appends the contents of an entry.
+/// Appends an entry in words: its message and components, or why it is no message, or that it is a quiet mark.
 fn push_body(text: &mut String, table: Option<&NamedTable>, body: &Body) -> Result<(), AllocError> {
     match body {
         Body::Good(message) => {

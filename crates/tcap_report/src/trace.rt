@@ -44,7 +44,7 @@ use tcap_traces::{
 /// The options for judging a trace.
 #[derive(Clone, Copy, Debug)]
 pub struct TraceOptions<'a> {
-    /// The end whose verdicts are asked, or None for both.
+    /// The end to judge, or None for both.
     pub of: Option<End>,
     /// The rule for using transaction IDs again.
     pub reuse: Reuse,
@@ -75,7 +75,7 @@ pub(crate) struct Trace<'a> {
     pub(crate) under_way: Option<u64>,
     // The transaction IDs that were in use before the segment.
     pub(crate) marks: BeforeMarks,
-    // What the trace says of its ends.
+    // The names that the trace gives its ends.
     pub(crate) names: EndNames,
     // The text to print if the trace says that it is broken off.
     pub(crate) broken_off: Option<String>,

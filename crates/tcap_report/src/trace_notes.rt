@@ -106,8 +106,8 @@ impl Trace<'_> {
         Ok(entries)
     }
 
-    /// Returns a dialogue with its entries and all that is noted of it. Unless the dialogue is over, `next` comes after
-    /// it.
+    /// Takes the held entries of a dialogue, and returns the dialogue with them and with all that the trace shows about
+    /// it. Unless the dialogue is over, `next` comes after it.
     pub(crate) fn case_of(
         &mut self,
         gathered: CompleteDialogue,

@@ -40,8 +40,8 @@ gathered_as g entries after under_way in_use unread = record {
   unread = unread;
 }
 
--- The entry after which unreadable entries may belong to a dialogue: its first if that is a Begin, with this number; if
--- it is none, any of the segment.
+-- The entry after which unreadable entries may belong to a dialogue: its first entry, with this number, if that is a
+-- Begin. Otherwise it is None: those of the whole segment may.
 abbrev pub unread_after : Option Side → Option ℕ → Option ℕ
 unread_after None number = None
 unread_after (Some side) number = number
@@ -65,11 +65,11 @@ number_of case = further case.before (unwrap_or (slice_get case.gathered.numbers
 abbrev pub earlier_of : Case → Option ℕ
 earlier_of case = option_map (further case.before) case.gathered.earlier
 
--- what the options ask of each dialogue
+-- the question about each dialogue, by the options
 abbrev pub question_by : Rules → Question
 question_by rules = record { of = rules.of; settled = rules.settled; complete = rules.complete; heard = rules.heard }
 
--- what is asked of it
+-- the question about the dialogue of a case
 abbrev pub question_in : Case → Question
 question_in case = question_by case.rules
 

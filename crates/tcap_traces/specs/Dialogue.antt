@@ -143,7 +143,7 @@ abbrev pub first_after : List ℕ → ℕ → ℕ
 first_after numbers unread = count_by (λ number. nat_le number unread) numbers
 
 -- Whether it is open: it is not over, and the trace ends, or a quiet mark comes. With prearranged ends (Q.774 3.3) its
--- transaction may have ended unseen before the mark.
+-- transaction may have ended without a message before the mark.
 abbrev pub is_open : Dialogue → Option NamedTable → Bool
 is_open d table = is_none d.over && by d.after table
   where
@@ -174,7 +174,7 @@ ends_by None c entries = None
 ends_by (Some table) c entries =
     Some (record { a = result_of table c entries sides.A; b = result_of table c entries sides.B })
 
--- the worse verdict of the ends that are asked; an error if there was no table
+-- the worse verdict on the judged ends; an error if there is no table
 abbrev pub verdict_by : Option Side → Option Ends → Verdict
 verdict_by of None = verdicts.Error
 verdict_by of (Some ends) = verdict_asked of ends.a ends.b

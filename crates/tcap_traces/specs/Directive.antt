@@ -14,7 +14,7 @@ pub data Statement : Type 0 where
   About : Side → List ℕ → Statement
   Unknown : Statement
 
--- the meaning of a directive as the code has it
+-- the statement of a directive that the code returns
 abbrev pub statement_of : Directive → Statement
 statement_of directives.UnderWay = UnderWay
 statement_of (directives.BrokenOff missing) = BrokenOff missing.now

@@ -19,7 +19,7 @@ use Rattle.tcap_traces.specs.declared.before_marks.EndMarks.{EndMarks}
 
 -- ---- the IDs of one end
 
--- what is known of an ID; nothing, if no note of it exists
+-- what is known of an ID; nothing if there is no note on it
 abbrev pub known_by : Option Before → Before
 known_by None = record { sent = false; «open» = false }
 known_by (Some before) = before
@@ -34,8 +34,8 @@ changed changes.Closed before = record before { «open» = false }
 changed changes.Opened before = record before { «open» = true }
 changed changes.Sent before = record before { sent = true }
 
--- What is known of an ID after the next quiet mark. `sent`: its owner sent from it before the mark. `open`: the last
--- segment that carries it has it in a dialogue that may go on. Only IDs that were open before are noted as closed.
+-- What is known of an ID after the next quiet mark. `sent`: its owner sent from it before the mark. `open`: in the last
+-- segment with the ID, a dialogue with the ID may go on. Only IDs that were open before are noted as closed.
 abbrev pub known_after : EndMarks → List ℕ → Before
 known_after marks octets = record {
   sent = (known_in marks octets).sent || set.contains octets_cmp marks.sent octets;
@@ -58,14 +58,14 @@ Opens ids old new =
     ≡ set.contains octets_cmp ids octets || set.contains octets_cmp old.opened octets)
     × (new ≡ record old { opened = new.opened })
 
--- Those of the IDs of another dialogue that are open are closed, and nothing else changes.
+-- Of the IDs of a dialogue that does not go on, those that are open are closed, and nothing else changes.
 abbrev pub Closes : BTreeSet (List ℕ) → EndMarks → EndMarks → Type 0
 Closes ids old new =
     ((octets : List ℕ) → set.contains octets_cmp new.closed octets
     ≡ (set.contains octets_cmp ids octets && (known_in old octets).open) || set.contains octets_cmp old.closed octets)
     × (new ≡ record old { closed = new.closed })
 
--- the one or the other
+-- The IDs of a dialogue are opened if it may go on, and closed otherwise.
 abbrev pub Changes : Bool → BTreeSet (List ℕ) → EndMarks → EndMarks → Type 0
 Changes true ids old new = Opens ids old new
 Changes false ids old new = Closes ids old new
@@ -91,7 +91,7 @@ IsFresh marks =
 abbrev pub IsNew : EndMarks → Type 0
 IsNew marks = ((octets : List ℕ) → known_in marks octets ≡ known_by None) × IsFresh marks
 
--- After a quiet mark that is known which was noted before it, and nothing is noted of the next segment.
+-- After a quiet mark, what was noted before the mark is known, and nothing is noted of the next segment.
 abbrev pub Passes : EndMarks → EndMarks → Type 0
 Passes old new = ((octets : List ℕ) → known_in new octets ≡ known_after old octets) × IsFresh new
 
@@ -106,7 +106,7 @@ is_sent_from marks (Some octets) = (known_in marks octets).sent
 abbrev pub is_sent_to : BeforeMarks → Heading → Bool
 is_sent_to marks h = is_sent_from (by_end (other h.sender) marks.a marks.b) h.dtid
 
--- The IDs of a dialogue are noted for both ends.
+-- The IDs of a dialogue are noted for both ends. `goes_on` says whether the dialogue may go on after the quiet mark.
 abbrev pub Notes : Bool → CompleteDialogue → BeforeMarks → BeforeMarks → Type 0
 Notes goes_on g old new = Changes goes_on g.a old.a new.a × Changes goes_on g.b old.b new.b
 

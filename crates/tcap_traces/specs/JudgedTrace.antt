@@ -14,8 +14,8 @@ use Rattle.tcap_traces.specs.declared.pieces.FormRule.{FormRule}
 use Rattle.tcap_traces.specs.Dialogue.{After, Dialogue, EndAfter, FaultAfter, Question, ends_on, heading_in, verdict_by}
 use Rattle.tcap_traces.specs.Segments.{Before, Segment, before_next, courses_in, dialogue_of, nothing_before, segments_of}
 
--- What is asked of a trace: what is asked of its dialogues; how transaction IDs may be reused; and the operation
--- tables.
+-- The question about a trace: the question about each of its dialogues, the rule for using transaction IDs again, and
+-- the operation tables.
 pub record Asked : Type 0 where
   pub question : Question
   pub reuse : Reuse

@@ -84,8 +84,8 @@ Returns old (Err faults.Memory) new = Unit {0}
 abbrev pub line_found : FrontLine → Line × ℕ
 line_found front = (record { content = front.content.now; ended = front.ended }, front.count)
 
--- A line was found at the front of these octets, no matter which follow. Or there is none yet: no line feed, and more
--- octets may follow, or there are no octets.
+-- A line was found at the front of these octets, no matter which octets follow. Or there is no whole line yet: the
+-- octets have no line feed, and more may follow, or there are no octets.
 abbrev pub IsFrontLine : List ℕ → Bool → Option (Line × ℕ) → Type 0
 IsFrontLine octets ended (Some (line, count)) =
     (0 < count) × (count ≤ length octets)
@@ -100,7 +100,8 @@ Begins found progress line (Err (faults.Form rule)) =
     (broken : LineRule) × (found ≡ Some broken) × (rule ≡ InLine line broken)
 Begins found progress line (Err faults.Memory) = Unit {0}
 
--- the same of a directive
+-- A directive in this line comes after what was read. Its piece and the progress after it, or its fault, are as
+-- defined.
 abbrev pub Takes : Progress → ℕ → Statement → Result (APiece × Progress) PieceFault → Type 0
 Takes progress line statement (Ok (piece, new)) =
     (directive_fault progress statement ≡ None) × (piece_as piece ≡ Stated line statement)

@@ -1,5 +1,4 @@
--- What the result for an end of a dialogue means: an end that fails is at fault, and an end that passes may have sent
--- its part.
+-- What does the result for an end of a dialogue mean?
 use Rattle.std.specs.Prelude.{◌≡◌, ◌⊎◌, ℕ, false, List, ◌∷◌, ◌++◌, drop, take, slice_get, Option, Some, Err}
 use Rattle.std.specs.List.{list_any}
 use Rattle.tcap_record.specs.declared.entry.End.{End as Side}
@@ -33,7 +32,7 @@ MayHaveSentUnheard side table entries unheard = AreLawfulUnheard (Some side) tab
 abbrev pub MayHaveSent : Side → Table → List Entry → Type 0
 MayHaveSent side table entries = (unheard : ℕ) × MayHaveSentUnheard side table entries unheard
 
--- What the result says of the end holds. If it fails or is doubtful, the entry is at fault, no matter what its peer
+-- The result is true. If the end fails or is doubtful, the entry is at fault, no matter what its peer
 -- sends or what follows. If it passes or is `Unheard`, it may have sent its part with this many unheard messages. If
 -- only other circumstances keep it from passing, it may have sent its part with some number of unheard messages.
 abbrev pub IsTrueResult : Side → Table → List Entry → EndResult → Type 0

@@ -48,8 +48,8 @@ segments_of end pieces = segments_after (empty end) end pieces
 
 -- ---- IDs that were in use before a segment
 
--- The IDs from which their owner sent in an earlier segment. And those that are open: the last earlier segment with the
--- ID has it in a dialogue that may go on.
+-- The IDs from which their owner sent in an earlier segment. And those that are open: in the last earlier segment with
+-- the ID, a dialogue with the ID may go on.
 pub record Before : Type 0 where
   pub sent : List IdOf
   pub «open» : List IdOf
@@ -86,7 +86,7 @@ headings_in before s = headings_from before s.under_way 0 s.entries
 
 -- ---- unreadable entries
 
--- whether an entry is a Unidirectional
+-- whether this is the kind of a Unidirectional
 abbrev pub is_uni : Option Kind → Bool
 is_uni (Some kinds.Unidirectional) = true
 is_uni kind = false
@@ -162,8 +162,8 @@ courses_in reuse before s = courses_so_far reuse (headings_in before s)
 abbrev pub sends_one : Side → List TraceEntry → Bool
 sends_one side entries = list_any (λ entry. is_side side entry.sender) entries
 
--- Whether a dialogue may go on after its segment: a quiet mark ends it although both ends sent entries of it, or it
--- seems to go on from before that segment itself.
+-- Whether a dialogue may go on after its segment: a quiet mark ends the dialogue, and both ends sent entries in it; or
+-- the dialogue itself seems to go on from before the segment.
 abbrev pub may_go_on : Dialogue → Bool
 may_go_on d = d.in_use || (is_marked d.after && sends_one sides.A d.entries && sends_one sides.B d.entries)
 

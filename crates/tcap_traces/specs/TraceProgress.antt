@@ -71,8 +71,8 @@ abbrev pub id_of : Side → List ℕ → IdOf
 id_of side octets = record { end = side; octets = octets }
 
 -- The notes on the IDs of an end. Those in `sent` are known as sent from, and those in `open` as open. For an ID,
--- `goes` is true if a dialogue of the segment with it may go on, `stays` if another one has it, and `names` if its
--- owner sent from it.
+-- `goes` is true if a dialogue of the segment with this ID may go on, `stays` if a dialogue with this ID may not go on,
+-- and `names` if its owner sent from it.
 pub record IsMarked (sent «open» : List IdOf) (goes stays names : IdOf → Bool) (side : Side) (m : EndMarks) : Type
     0 where
   pub known : (o : List ℕ)
@@ -82,7 +82,7 @@ pub record IsMarked (sent «open» : List IdOf) (goes stays names : IdOf → Boo
       → set.contains octets_cmp m.closed o ≡ stays (id_of side o) && is_among «open» (id_of side o)
   pub named : (o : List ℕ) → set.contains octets_cmp m.sent o ≡ names (id_of side o)
 
--- whether a dialogue with this ID may go on; and whether another one has it
+-- whether some dialogue with this ID may go on; and whether some dialogue with this ID may not
 abbrev pub any_goes : (Course → Bool) → List Course → IdOf → Bool
 any_goes goes ds id = list_any (λ d. goes d && is_among d.ids id) ds
 

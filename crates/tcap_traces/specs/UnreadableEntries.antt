@@ -3,7 +3,7 @@ use Rattle.std.specs.Prelude.{ℕ, Bool, true, false, List, [], ◌∷◌, ◌++
 use Rattle.std.specs.List.{find}
 use Rattle.tcap_traces.specs.declared.unreadable_entries.Unread.{Unread}
 
--- the numbers that are noted; and whether a dialogue with IDs began since the last of them, or there is none yet
+-- the noted numbers; and true if a dialogue with IDs began since the last of them, or if there is none yet
 abbrev pub Notes : Type 0
 Notes = List ℕ × Bool
 

@@ -87,8 +87,8 @@ abbrev pub peer_sent_lacking : Table → Side → Option ℤ → List (Result It
 peer_sent_lacking table side None items = false
 peer_sent_lacking table side (Some id) items = list_any (sends_lacking table (other side) id) items
 
--- whether the blame depends on an operation that is not in the table: the component at fault invokes it, or answers an
--- earlier Invoke of it
+-- whether the blame depends on an operation that is not in the table: the component at fault invokes such an operation,
+-- or answers an earlier Invoke of one
 abbrev pub depends_by : Table → Side → List (Result Item Reason) → Kind → Option Component → Bool
 depends_by table side items kind None = false
 depends_by table side items kind (Some c) =
@@ -98,8 +98,8 @@ abbrev pub depends_on_lack : Table → Side → List Entry → Refutation → Bo
 depends_on_lack table side entries r =
     depends_by table side (read_before entries r.entry) r.kind (faulty_component table side entries r)
 
--- Whether the peer has sent a message to this ID since the end's last Begin from it, or at all if there was none. The
--- first function gives this after one more entry, the second after all these entries.
+-- Whether the peer has sent a message to this ID since the end's last Begin from the ID, or at all if there was no such
+-- Begin. The first function goes over one entry, the second over all. `so` is the answer before them.
 abbrev pub is_addressed_with : Side → List ℕ → Bool → Result Item Reason → Bool
 is_addressed_with side id so (Ok (Sent sender m)) =
     cond (is_side side sender) (so && not (is_a forms.Begin m && is_id id (otid_in m))) (so || is_id id (dtid_in m))
@@ -131,8 +131,8 @@ abbrev pub is_of_mark : Kind → Bool
 is_of_mark kinds.OpenAtMark = true
 is_of_mark kind = false
 
--- whether a blame of this kind depends on what the table says of an operation: its class, whether it expires, or its
--- linked operations
+-- whether a blame of this kind depends on the row of an operation in the table: on its class, on whether it expires, or
+-- on its linked operations
 abbrev pub depends_on_table : Kind → Bool
 depends_on_table kinds.WrongOperation = true
 depends_on_table kinds.InvokeIdBusy = true

@@ -24,8 +24,8 @@ use tcap_record::End;
 pub struct Before {
     /// True if its owner sent from it in an earlier segment.
     pub sent: bool,
-    /// True if the last earlier segment that carries it has it in a dialogue that may continue after that segment's
-    /// quiet mark.
+    /// True if a dialogue with the ID may continue after its segment's quiet mark. The segment is the last earlier one
+    /// with the ID.
     pub open: bool,
 }
 

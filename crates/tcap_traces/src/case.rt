@@ -94,7 +94,7 @@ pub enum NextItem {
     Fault,
 }
 
-/// A dialogue with its entries, and all that is noted of it.
+/// A dialogue with its entries, and all that the trace shows about it.
 #[derive(Drop)]
 pub struct Case {
     /// The options for it.
@@ -126,14 +126,14 @@ pub struct JudgedDialogue<'a> {
     pub table: Option<&'a NamedTable>,
     /// The result for each end, or None if there is no table.
     pub ends: Option<Ends>,
-    /// The verdict for the ends that are asked.
+    /// The verdict on the judged ends.
     pub verdict: Verdict,
 }
 
 /// The options for dialogues.
 #[derive(Clone, Copy)]
 pub struct Rules {
-    /// The end whose verdict is asked, or None for both.
+    /// The end to judge, or None for both.
     pub of: Option<End>,
     /// True if none of a dialogue's messages is in transit when one of its IDs is used again.
     pub settled: bool,
@@ -194,8 +194,8 @@ impl Case {
         !self.gathered.a.is_empty() || !self.gathered.b.is_empty()
     }
 
-    /// Returns whether the trace, or the segment, ends before its transaction. With prearranged ends (Q.774 3.3) the
-    /// transaction may have ended unseen before a quiet mark, so there it is not open.
+    /// Returns whether the trace, or the segment, ends before the dialogue is over. With prearranged ends (Q.774 3.3)
+    /// the transaction may have ended without a message before a quiet mark, so there the dialogue is not open.
     pub fn is_open(&self, table: Option<&NamedTable>) -> bool
         ensures { result ≡ is_open (dialogue_in self.now) (option_copied table.entry) }
     {
@@ -428,7 +428,7 @@ fn ends_of(
     }
 }
 
-/// Returns the verdict for the ends that are asked.
+/// Returns the verdict on the judged ends.
 fn verdict_of(ends: Option<Ends>, of: Option<End>) -> Verdict
     ensures { result ≡ verdict_by of ends }
 {

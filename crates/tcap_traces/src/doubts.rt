@@ -193,8 +193,8 @@ fn is_begin(message: &Message) -> bool
     matches!(message, Message::Begin { .. })
 }
 
-/// Returns whether the peer has sent a message to this ID since the end's last Begin from it, after one more entry.
-/// `so` is the result before the entry.
+/// Returns whether the peer has sent a message to this ID since the end's last Begin from the ID, up to this entry.
+/// `so` is the answer up to the entry before.
 fn is_addressed_with(end: End, id: TransactionIdView, so: bool, entry: &Entry) -> bool
     ensures { result ≡ is_addressed_with end id.entry.octets.now so (item_of entry.now) }
 {
@@ -268,8 +268,8 @@ fn is_begun_by_peer(began: Option<End>, end: End) -> bool
     }
 }
 
-/// Returns whether a blame of this kind depends on what the table says of an operation: its class, whether it expires,
-/// or its linked operations.
+/// Returns whether a blame of this kind depends on the row of an operation in the table: on its class, on whether it
+/// expires, or on its linked operations.
 fn depends_on_table(kind: Kind) -> bool
     ensures { result ≡ depends_on_table kind }
 {

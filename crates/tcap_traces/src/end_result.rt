@@ -21,7 +21,7 @@ pub enum Doubt {
     /// The blame is about a Begin that reuses an ID, whose transaction may be over: the peer sent nothing to it, or the
     /// table has prearranged end.
     MaybeOver,
-    /// The blame depends on what the table says of an operation, and the table may not be the dialogue's.
+    /// The blame depends on the row of an operation in the table, and the table may not be the dialogue's.
     UnsureTable,
     /// An earlier dialogue of the segment had one of the dialogue's IDs, and a message of it may have been in transit.
     CameAgain,
@@ -63,26 +63,26 @@ pub enum EndResult {
 /// The circumstances of a dialogue, besides its entries.
 #[derive(Clone, Copy, Debug, PartialEq, Eq)]
 pub struct Circumstances {
-    /// Whether an earlier dialogue had one of this dialogue's IDs, and a message of the earlier one may have been in
+    /// True if an earlier dialogue had one of this dialogue's IDs, and a message of the earlier one may have been in
     /// transit.
     pub again: bool,
     /// True if the dialogue may have begun before its trace: its first entry is a message with a destination ID that
     /// comes after the directive `under way`, and no earlier dialogue of the segment had one of its IDs.
     pub under_way: bool,
-    /// Whether the quiet mark before the dialogue may have come too early: the dialogue has IDs that were in use before
+    /// True if the quiet mark before the dialogue may have come too early: the dialogue has IDs that were in use before
     /// that mark.
     pub early_mark: bool,
     /// The end whose Begin began the dialogue after the bench said that dialogues may be under way, unless IDs have
     /// settled.
     pub began: Option<End>,
-    /// Whether the dialogue is judged by one table that may not be its own.
+    /// True if the table by which the dialogue is judged may not be its own.
     pub unsure: bool,
     /// The number of the first entry of the dialogue that comes after an unreadable entry which may belong to the
     /// dialogue.
     pub unread_from: Option<u64>,
-    /// Whether the dialogue has more entries than are judged.
+    /// True if the dialogue has more entries than are judged.
     pub cut: bool,
-    /// Whether the dialogue is open, but should be complete.
+    /// True if the dialogue is still open after its last entry, but should be complete.
     pub open: bool,
     /// True if each end should have heard each message of its peer.
     pub heard: bool,

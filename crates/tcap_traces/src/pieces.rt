@@ -38,7 +38,7 @@ pub enum Piece {
 pub enum LineRule {
     /// The line is longer than the limit.
     TooLong,
-    /// The line is none of a trace.
+    /// The line is not one of the lines of a trace.
     NoLine,
     /// An entry or a quiet mark comes after the directive `broken off`.
     AfterBreak,
@@ -92,7 +92,7 @@ pub(crate) enum Form {
     Record,
 }
 
-/// The progress of a trace of lines, as far as it decides if an entry or a directive may follow.
+/// The lines of a trace so far, as far as they decide whether an entry or a directive may follow.
 #[derive(Clone, Copy)]
 pub(crate) struct Progress {
     /// True if an entry or a quiet mark was read.
@@ -420,7 +420,7 @@ impl PieceReader {
         }
     }
 
-    /// Takes the next octets, or none if the trace has ended.
+    /// Takes the next octets of the trace. An empty slice says that the trace has ended.
     ///
     /// # Errors
     ///
@@ -529,7 +529,7 @@ impl PieceReader {
         Ok(None)
     }
 
-    /// Takes the line at the front.
+    /// Passes over the line at the front and returns its piece, if it has one.
     fn step(&mut self) -> Result<Step, PieceFault>
         requires lines { self.old.form ≡ forms.Lines }
         ensures steps { Steps self.old result self.new }

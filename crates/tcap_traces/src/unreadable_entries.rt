@@ -16,7 +16,7 @@ use tcap_msg::Kind as Form;
 pub struct Unread {
     // Ascending.
     numbers: Vec<u64>,
-    // Whether a dialogue with IDs began since the last of them, or there is none yet.
+    // True if a dialogue with IDs began since the last unreadable entry, or if there is no such entry yet.
     has_begun: bool,
 }
 

@@ -15,7 +15,7 @@ use Rattle.tcap_check.specs.CheckerMeaning.{reported}
 use Rattle.tcap_check.proofs.prompt_laws.AtOnceRuns.{fates_prompt}
 use Rattle.tcap_uses.proofs.Results.{told_all}
 
--- The fates of the entries that are left, of which one more is made.
+-- The fates of the remaining entries are the next fate and those after it.
 fates_next : (n count : ℕ) → n < count → prompt_fates n (count - n) ≡ Gap (n + 1) ∷ prompt_fates (n + 1) (count - (n + 1))
 fates_next n count within = let e : count - n ≡ suc (count - (n + 1)) = omega (arith, within) in rw e refl
 
@@ -26,17 +26,17 @@ fates_more n count made all within so_far =
     ∙ ap (λ fates. made ++ fates) (sym (fates_next n count within))
     ∙ so_far
 
--- What was read of a reader of known octets, up to its end, was read of these.
+-- If a reader of known octets is read to its end, the entries are those of all its octets.
 pub read_whole : (entries : List Entry) (whole returned rest : List ℕ) → whole ≡ returned ++ rest → rest ≡ []
     → IsReadAs entries (Ok tt) returned → IsReadAs entries (Ok tt) whole
 read_whole entries whole returned rest all none read =
     subst (IsReadAs entries (Ok tt)) (told_all whole returned (Some rest) all none) read
 
--- The prompt certificate of so many entries is prompt.
+-- The prompt certificate of `count` entries is prompt.
 pub made_prompt : (c : Certificate) (count : ℕ) → c ≡ prompt count → IsPrompt c
 made_prompt c count is = subst IsPrompt (sym is) (fates_prompt 0 count, refl, refl)
 
--- A report is of a run,
+-- If the certificate is accepted, it gives a run.
 pub reported_run : (table : Table) (c : Certificate) (entries : List Entry) (report : Report)
     → map_ok (reported None) (replayed_by None table c entries) ≡ Ok report → (events : List Event) × (replayed_by None table c entries ≡ Ok events)
 reported_run table c entries report is = by (replayed_by None table c entries) is
@@ -45,13 +45,13 @@ reported_run table c entries report is = by (replayed_by None table c entries) i
     by (Ok events) e = (events, refl)
     by (Err fault) e = cc
 
--- and a refusal of none.
+-- If the certificate is refused, it gives no run.
 pub refused_run : (table : Table) (c : Certificate) (entries : List Entry) (fault : CheckFault) (events : List Event)
     → (let x : Result Report CheckFault = Err fault in x) ≡ map_ok (reported None) (replayed_by None table c entries)
     → replayed_by None table c entries ≡ Ok events → ⊥
 refused_run table c entries fault events is given =
     let no : (let x : Result Report CheckFault = Err fault in x) ≡ Ok (reported None events) = is ∙ ap (map_ok (reported None)) given in cc
 
--- A refusal for lack of memory has that reason.
+-- If the fault is that of lacking memory, so is its reason.
 pub memory_is : (fault : CheckFault) → (let x : Result Report CheckFault = Err fault in x) ≡ Err (fault_at Memory 0) → fault.reason ≡ Memory
 memory_is fault e = let same : fault ≡ fault_at Memory 0 = cc in ap (λ (f : CheckFault). f.reason) same

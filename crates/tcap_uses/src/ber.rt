@@ -4,13 +4,13 @@ ghost use Rattle.tcap_ber.specs.Integer.{IsInteger};
 
 use tcap_ber::{Fault, Window, integer, required};
 
-/// The contents of the INTEGER element (tag 02, X.690 8.3) at the front of `octets`.
+/// Reads the INTEGER element (tag 02, X.690 8.3) at the front of `octets`. Returns its contents.
 pub fn integer_content(octets: &[u8]) -> Result<&[u8], Fault>
-    // Such an element stands there, and these are its contents.
+    // `octets` begin with such an element, and these are its contents.
     ensures found { IfOk result (λ content. IsInteger content.now
         × ((element rest : List ℕ) × IsElement (0x02 ∷ []) content.now element
         × (octets.now ≡ element ++ rest))) }
-    // Where such an element stands there, its contents are the answer.
+    // If `octets` begin with such an element, its contents are returned.
     ensures only { (content element rest : List ℕ) → IsElement (0x02 ∷ []) content element → IsInteger content
         → octets.now ≡ element ++ rest → IsOkAnd result (λ found. found.now ≡ content) }
 {

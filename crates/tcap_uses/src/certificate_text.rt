@@ -6,9 +6,10 @@ use std::alloc::Global;
 use tcap_certificate::Certificate;
 use tcap_certificate_text::CertificateText;
 
-/// The text of a certificate, written without spaces. `None` where it is none, or where memory ran out.
+/// Reads a certificate and writes it again, without spaces. Returns `None` if `text` is no certificate, or if memory
+/// runs out.
 pub fn written_again(alloc: Global, text: &[u8]) -> Option<String>
-    // Both texts say the same certificate.
+    // Both texts mean the same certificate.
     ensures same { IfSome result (λ again. (c : Meant) × IsCertificateText text.now c
         × IsCertificateText (string_bytes again) c) }
 {

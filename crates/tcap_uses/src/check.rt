@@ -8,8 +8,11 @@ use tcap_check::{Certificate, CheckFault, check};
 use tcap_end::Table;
 use tcap_record::Record;
 
-/// How many steps a run of two lawful ends has that sends a record, where a certificate gives one; else the first
-/// reason why it gives none.
+/// Counts the steps of the run of two lawful ends that a certificate gives for a record.
+///
+/// # Errors
+///
+/// The first reason why the certificate gives no run.
 pub fn count_steps(
     alloc: Global,
     record: &Record,

@@ -9,8 +9,10 @@ use tcap_check::{Certificate, CheckFault, Checker, Report};
 use tcap_end::Table;
 use tcap_record::End;
 
-/// How many messages wait behind a quiet mark, none, and the certificate. It guards callers that move a certificate
-/// before all is dropped that had a checker over it: here, what `match` looks at is dropped behind the move.
+/// Returns how many messages wait to be received after a quiet mark, which is none, and the certificate.
+///
+/// Callers may move a certificate before everything that borrowed it is dropped: here, the value that `match` looks at
+/// is dropped after the move.
 pub fn waits_after_mark(
     alloc: Global,
     table: &Table,
@@ -32,7 +34,7 @@ pub fn waits_after_mark(
     }
 }
 
-/// The same of a checker of one end.
+/// Returns how many messages an end that is judged alone has to receive after a quiet mark, and the certificate.
 pub fn end_waits_after_mark(
     alloc: Global,
     table: &Table,
@@ -55,8 +57,8 @@ pub fn end_waits_after_mark(
     }
 }
 
-/// What a certificate gives, by a table, for a record of nothing but a quiet mark. It guards callers that declare a
-/// checker before what it is made over.
+/// Checks a certificate for a record that is one quiet mark. Callers may declare a checker before the table and the
+/// certificate that it borrows.
 pub fn given_of_mark(alloc: Global, given: (Table, Certificate)) -> Result<Report, CheckFault>
     ensures { result ≢ Err (fault_at reasons.Memory 0)
         → result ≡ map_ok (reported None) (run_by None given.0 given.1 (Ok Item.Quiet ∷ [])) }
@@ -71,7 +73,7 @@ pub fn given_of_mark(alloc: Global, given: (Table, Certificate)) -> Result<Repor
     checker.finish()
 }
 
-/// What it gives for one end alone: the same of a checker of that end.
+/// Checks a certificate of one end for a record that is one quiet mark.
 pub fn heard_of_mark(
     alloc: Global,
     given: (Table, Certificate),

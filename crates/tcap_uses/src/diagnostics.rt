@@ -3,7 +3,7 @@ use tcap_ber::Counted;
 use tcap_diagnostics::run_why;
 use tcap_lines::{Status, WriteFailed};
 
-/// What `tcapjudge show --why` prints of a record whose octets are in memory, and how the run ends.
+/// Returns what `tcapjudge show --why` prints for a record in memory, and the status with which it ends.
 pub fn explained(alloc: Global, octets: &[u8]) -> Result<(Vec<u8>, Status), WriteFailed> {
     let mut reader = Counted::new(octets);
     let mut writer = Counted::new(Vec::new(alloc));

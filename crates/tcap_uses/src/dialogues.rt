@@ -7,7 +7,7 @@ ghost use Rattle.tcap_dialogues.specs.Part.{IsClosed, part_of};
 
 use tcap_dialogues::laws;
 
-/// A part that an end can't have sent shows that it can't have sent the whole.
+/// Shows that an end can't have sent a list of messages if it can't have sent a part that shares no ID with the rest.
 pub fn fault_of_a_part()
     ensures { (side : Side) (items : List Item) (table : Table) (keeps : ℕ → Bool) → IsClosed keeps items
         → (IsLawfulFor side (part_of keeps 0 items) table → ⊥) → IsLawfulFor side items table → ⊥ }

@@ -7,11 +7,15 @@ use std::alloc::Global;
 use tcap_end::{EndFault, EndState, Table};
 use tcap_msg::Message;
 
-/// The end that sent this message and nothing before it; or the first reason why it may not, or `Memory`.
+/// Returns the state of an end after it sends its first message.
+///
+/// # Errors
+///
+/// The first reason why the end may not send the message, or `Memory`.
 pub fn first_sent(alloc: Global, table: &Table, message: &Message) -> Result<EndState, EndFault>
-    // The end is the one behind the step that is defined.
+    // The state is that after the step that `send` defines.
     ensures sent { IfOk result (λ end. send table.now nothing message.now ≡ Ok end) }
-    // What is refused is refused for the reason that is defined, unless memory ran out.
+    // The reason is that of `send`, unless memory ran out.
     ensures refused { IfErr result (λ reason. reason ≢ EndFault.Memory
         → send table.now nothing message.now ≡ Err reason) }
 {
@@ -20,15 +24,18 @@ pub fn first_sent(alloc: Global, table: &Table, message: &Message) -> Result<End
     Ok(end)
 }
 
-/// The end that received a message and nothing before it, and then sent this answer; or the first reason why it may
-/// not, or `Memory`.
+/// Returns the state of an end after it receives its first message and sends this answer.
+///
+/// # Errors
+///
+/// The first reason why the end may not do so, or `Memory`.
 pub fn answered(
     alloc: Global,
     table: &Table,
     received: &Message,
     answer: &Message,
 ) -> Result<EndState, EndFault>
-    // It is the end behind both steps that are defined.
+    // The state is that after the steps that `receive` and `send` define.
     ensures answers { IfOk result (λ end. (heard : End) × (receive table.now nothing received.now ≡ Ok heard)
         × (send table.now heard answer.now ≡ Ok end)) }
 {

@@ -8,7 +8,7 @@ use tcap_evidence::push_why;
 use tcap_record::{End, Record};
 use tcap_refute::Refutation;
 
-/// What the entry that `blame` names of that end breaks, and the entries that show it, in words.
+/// Says in words which rule the entry breaks that `blame` found at fault, and which entries show it.
 pub fn blamed_text(
     alloc: Global,
     record: &Record,

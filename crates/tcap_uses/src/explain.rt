@@ -3,7 +3,8 @@ use tcap_ber::Counted;
 use tcap_explain::{ExplainOptions, run_explain};
 use tcap_lines::{Status, WriteFailed};
 
-/// What `tcapjudge explain` prints of a record and an operation table whose octets are in memory, and how the run ends.
+/// Returns what `tcapjudge explain` prints for a record and an operation table in memory, and the status with which it
+/// ends.
 pub fn verdict_text(
     alloc: Global,
     octets: &[u8],

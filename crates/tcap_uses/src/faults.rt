@@ -7,7 +7,8 @@ use tcap_faults::{blame, laws};
 use tcap_record::{End, Record};
 use tcap_refute::{Refutation, SearchFault};
 
-/// The first fault of an end: it is no message, or no run in which that end keeps the rules has it there.
+/// Finds the first entry at which an end is at fault: the entry is no message, or no run in which the end keeps the
+/// rules has it there.
 pub fn fault_of(
     alloc: Global,
     record: &Record,

@@ -9,15 +9,15 @@ use std::alloc::Global;
 use tcap_ber::Counted;
 use tcap_judge::{Status, WriteFailed, run_check};
 
-/// Whether `tcapjudge check` calls a record lawful, whose octets are in memory, as the texts of the table and of the
-/// certificate are.
+/// Returns whether `tcapjudge check` calls a record lawful. The record, the table and the certificate are in memory.
 pub fn is_called_lawful(
     alloc: Global,
     octets: &[u8],
     table: &[u8],
     certificate: &[u8],
 ) -> Result<bool, WriteFailed>
-    // Then the octets spell items that two lawful ends may have sent, in this order, whatever the certificate says.
+    // If it does, the octets spell items that two lawful ends may have sent in this order, no matter what the
+    // certificate says.
     ensures lawful { result ≡ Ok true → (items : List Item) × (operations : Table) × (moves : ℕ)
         × SpellsRecord items octets.now × IsTableOf table.now (Ok operations) × IsLawful items operations moves }
 {

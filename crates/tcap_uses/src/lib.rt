@@ -1,5 +1,4 @@
-//! A use of each library, as the page of that library shows it. What each function says is proved from what the
-//! library's public calls promise.
+//! Examples of the libraries, as their pages show them. Each clause is proved from the contracts of public calls alone.
 #![tactic(auto)]
 
 mod ber;

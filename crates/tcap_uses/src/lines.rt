@@ -8,9 +8,9 @@ use std::alloc::Global;
 use tcap_ber::Counted;
 use tcap_lines::{Status, WriteFailed, run_show};
 
-/// What `tcapjudge show` prints of a record whose octets are in memory, and how the run ends.
+/// Returns what `tcapjudge show` prints for a record in memory, and the status with which it ends.
 pub fn shown(alloc: Global, octets: &[u8]) -> Result<(Vec<u8>, Status), WriteFailed>
-    // What was read is entries and the end behind them, and what is printed is their lines and the line of that end.
+    // The octets that were read are entries, and an end or a fault after them. Their lines are printed.
     ensures prints { IfOk result (λ x. (returned rest : List ℕ) × (octets.now ≡ returned ++ rest)
         × ((entries : List Entry) × (end : Result (Unit {0}) FeedFault) × IsReadAs entries end returned
         × Prints entries end x.0.items x.1)) }

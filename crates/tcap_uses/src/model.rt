@@ -6,7 +6,7 @@ ghost use Rattle.tcap_model.specs.Run.{Event, Runs, numbers_sent, numbers_taken}
 
 use tcap_model::laws;
 
-/// Where nothing is on its way from an end any more, what was taken from its channel is all that it sent, in order.
+/// Shows that the messages taken from a channel are all messages that its end sent, in order, if none is in transit.
 pub fn all_taken()
     ensures { (table : Table) (events : List Event) (w : World) (side : Side) → Runs table events w
         → channel_from side w ≡ [] → numbers_taken side events ≡ numbers_sent side 0 w.sent }

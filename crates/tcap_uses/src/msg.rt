@@ -4,9 +4,9 @@ use std::alloc::Global;
 use tcap_ber::Counted;
 use tcap_msg::{Message, decode, encode, laws};
 
-/// Writes a message and reads it again. `None` where it is too long to be written, or where memory ran out.
+/// Writes a message and reads it again. Returns `None` if the message is too long to be written, or if memory runs out.
 pub fn read_again(alloc: Global, message: &Message) -> Option<Message>
-    // What is read is the message that was written.
+    // The message that is read is the one that was written.
     ensures same { IfSome result (λ again. again ≡ message.now) }
 {
     laws::is_message(message);

@@ -6,12 +6,12 @@ use std::alloc::{AllocError, Global};
 use tcap_ber::Window;
 use tcap_parts::{Component, view_component};
 
-/// The component (Q.773 4.2.2) at the front of `octets`, as a value of its own; `None` where none stands there.
+/// Copies the component (Q.773 4.2.2) at the front of `octets`. Returns `None` if they begin with no component.
 pub fn first_component(alloc: Global, octets: &[u8]) -> Result<Option<Component>, AllocError>
-    // What is read is spelled by the octets at the front.
+    // The octets begin with a spelling of the component that is returned.
     ensures found { IfOk result (λ answer. IfSome answer (λ component. (front rest : List ℕ)
         × SpellsComponent component front × (octets.now ≡ front ++ rest))) }
-    // What they spell is read, unless memory runs out.
+    // If the octets begin with a spelling of a component, it is returned, unless memory runs out.
     ensures only { (component : Component) (front rest : List ℕ) → SpellsComponent component front
         → octets.now ≡ front ++ rest → IfOk result (λ answer. answer ≡ Some component) }
 {

@@ -15,7 +15,8 @@ use tcap_end::Table;
 use tcap_judge::laws;
 use tcap_record::read_record;
 
-/// The certificate by which each of so many messages is received before another is sent; `None` if memory runs out.
+/// Creates the certificate by which each of `count` messages is received before another is sent. Returns `None` if
+/// memory runs out.
 fn prompt_certificate(alloc: Global, count: usize) -> Option<Certificate>
     requires few { count ≤ entry_limit }
     ensures { IfSome result (λ c. c ≡ prompt count) }
@@ -31,13 +32,14 @@ fn prompt_certificate(alloc: Global, count: usize) -> Option<Certificate>
     Certificate::new(fates, Vec::new(alloc), Vec::new(alloc))
 }
 
-/// Whether two lawful ends may have sent the record of these octets, each message received before another is sent, and
-/// nothing unseen; `None` if the octets can't be read, or memory runs out.
+/// Returns whether two lawful ends may have sent a record in a run that delivers each message before another is sent.
+///
+/// The answer is `None` if the octets can't be read, or if memory runs out.
 pub fn is_prompt(alloc: Global, octets: &[u8], table: &Table) -> Option<bool>
-    // Then some such run sends the items that the octets spell; invocations may end unseen in it.
+    // If true, such a run sends the items that the octets spell. Invocations may expire in it.
     ensures prompt { result ≡ Some true → (items : List Item) × (events : List Event) × SpellsRecord items octets.now
         × IsRunOf items table.now events × DeliversAtOnce table.now events × AllByRecursion IsPlain events }
-    // Else no run does in which nothing happens unseen.
+    // If false, no such run sends the items without a loss, an expiry or a closing.
     ensures other { result ≡ Some false → (items : List Item) (events : List Event) → SpellsRecord items octets.now
         → length items ≤ entry_limit → IsRunOf items table.now events → AllByRecursion IsVisible events
         → DeliversAtOnce table.now events → ⊥ }

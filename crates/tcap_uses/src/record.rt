@@ -6,9 +6,9 @@ use std::alloc::{AllocError, Global};
 use tcap_msg::{MessageParts, TransactionId};
 use tcap_record::{Body, Entry, FeedFault, Feeder};
 
-/// The entries of a record that comes in two pieces.
+/// Returns the entries of a record that comes in two pieces.
 pub fn entries_of(alloc: Global, first: &[u8], second: &[u8]) -> Result<Vec<Entry>, FeedFault>
-    // The octets of both pieces are these entries, one after the other, and nothing else.
+    // The octets of both pieces spell exactly these entries, in this order.
     ensures all { IfOk result (λ entries. Framed entries.items (first.now ++ second.now) []) }
 {
     let mut feeder = Feeder::new(alloc);
@@ -22,7 +22,7 @@ pub fn entries_of(alloc: Global, first: &[u8], second: &[u8]) -> Result<Vec<Entr
     Ok(entries)
 }
 
-/// The originating transaction ID of an entry, where it is a Begin or a Continue.
+/// Returns the originating transaction ID of an entry if it is a Begin or a Continue.
 fn id_of(entry: &Entry) -> Option<TransactionId>
     ensures { result ≡ id_in entry.now }
 {
@@ -32,9 +32,8 @@ fn id_of(entry: &Entry) -> Option<TransactionId>
     }
 }
 
-/// The originating transaction IDs of entries.
+/// Returns the originating transaction IDs of the entries, in order.
 pub fn ids_of(alloc: Global, entries: &[Entry]) -> Result<Vec<TransactionId>, AllocError>
-    // These are all, one after the other.
     ensures all { IfOk result (λ ids. ids.items ≡ ids_in entries.now) }
 {
     let mut ids = Vec::new(alloc);

@@ -11,7 +11,7 @@ ghost use Rattle.tcap_refute.specs.Kind.{refuted};
 use tcap_check::given_run_laws;
 use tcap_refute::laws;
 
-/// Where a record is refuted, no certificate gives a run for it.
+/// Shows that no certificate gives a run for a record that is refuted.
 pub fn no_certificate_helps()
     ensures { (table : Table) (c : Certificate) (entries : List Entry) (r : Refutation) (events : List Event)
         → refuted table (map item_of entries) ≡ Some r → replayed_by None table c entries ≡ Ok events → ⊥ }

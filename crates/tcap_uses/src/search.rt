@@ -9,10 +9,10 @@ use tcap_end::Table;
 use tcap_record::Record;
 use tcap_search::search;
 
-/// Whether the certificate that is proposed for a record shows that two lawful ends may have sent it.
+/// Returns whether the search finds a certificate by which two lawful ends may have sent a record.
 pub fn is_shown_lawful(alloc: Global, record: &Record, table: &Table) -> bool
     requires few { length «record».now.entries.items ≤ 100000 }
-    // Then they may have sent exactly its items, in this order, whatever the search proposed.
+    // If it does, they may have sent exactly the record's items in this order, no matter what the search proposed.
     ensures lawful { result ≡ true → (items : List Item) × (moves : ℕ)
         × AreItems «record».now.entries.items items × IsLawful items table.now moves }
 {

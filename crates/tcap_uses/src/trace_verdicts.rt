@@ -1,4 +1,4 @@
-//! What the verdict on a trace means for its entries and its ends, by the laws of tcap_traces.
+//! The meaning of a verdict on a trace for its entries and its ends, by the laws of tcap_traces.
 
 ghost use Rattle.std.specs.Prelude.{◌≡◌, ℕ, List, true, Contains};
 ghost use Rattle.tcap_record.specs.declared.entry.End.{End as Side};

@@ -7,7 +7,7 @@ use tcap_end::Table;
 use tcap_record::Record;
 use tcap_traces::{Circumstances, Verdict, judge_dialogue};
 
-/// The verdict on a dialogue, of both ends: the worse one. Its entries stay as they are.
+/// Judges both ends of a dialogue. Returns the worse verdict. The entries stay as they are.
 pub fn verdict_on(
     alloc: Global,
     dialogue: &mut Record,

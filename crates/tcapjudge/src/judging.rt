@@ -8,10 +8,10 @@ use tcap_diagnostics::{FaultWriter, Role};
 use tcap_judge::{run_blame, run_check, run_judge};
 use tcap_record::End;
 
-/// What is asked of a record and an operation table.
+/// A question about a record, given an operation table.
 #[derive(Clone, Copy)]
 pub(crate) enum Question {
-    /// The verdict on both ends, or on the given end alone; and whether the certificate that shows it to be lawful is
+    /// The verdict on both ends, or on the given end alone. If the flag is true, the certificate of a lawful record is
     /// printed too.
     Verdict(Option<End>, bool),
     /// The verdict, and which end is at fault.
@@ -55,8 +55,8 @@ pub(crate) fn check<'a>(
     status_of(ended)
 }
 
-/// Answers what is asked of the record of the file `entries`, by the table of the file `table`. The table is opened
-/// first, since it is read first. What is printed goes out at once. Returns the exit status.
+/// Answers a question about the record of the file `entries`, by the table of the file `table`. The table is opened
+/// first, since it is read first. The output is not buffered. Returns the exit status.
 pub(crate) fn judge<'a>(
     rt: &HostRuntime,
     entries: &'a str,

@@ -1,4 +1,4 @@
-//! What the program reads: a file, or the standard input.
+//! The source of the octets that the program reads: a file, or the standard input.
 
 ghost use Rattle.std.specs.Prelude.{◌≡◌, None};
 
@@ -9,7 +9,7 @@ use std::io::StdinLock;
 use tcap_ber::{Counted, Failed, Read};
 use tcap_diagnostics::FirstOctets;
 
-/// Where a source's octets come from.
+/// The origin of a source's octets.
 #[derive(Drop)]
 enum Origin {
     /// A file.

@@ -12,7 +12,7 @@ use Rattle.tcap_uses.proofs.Results.{told_all}
 use Rattle.tcap_uses.proofs.judge.is_called_lawful.Goals.{in-Fine, in_default}
 use Rattle.tcap_uses.proofs.judge.is_called_lawful.Goals as goal
 
--- the same of both readers
+-- A record that is found lawful from two readers of known octets is lawful by these octets.
 known_lawful : (entries table : Device) (taken taken' : Option (List ℕ)) (octets text : List ℕ)
     → entries.before ≡ Some octets → table.before ≡ Some text → FindsLawful entries table taken taken'
     → (items : List Item) × (operations : Table) × (moves : ℕ) × SpellsRecord items octets

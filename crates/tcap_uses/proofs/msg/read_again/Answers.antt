@@ -3,7 +3,7 @@ use Rattle.std.proofs.lemmas.List.{append-nil}
 use Rattle.tcap_uses.proofs.Results.{same_value}
 use Rattle.tcap_uses.proofs.msg.read_again.Goals as goal
 
--- what is decoded is what was encoded, with nothing behind it
+-- The decoded message is the encoded one, and no octet comes after it.
 pub returns-in-Ok-decode : goal.returns-in-Ok-decode
 returns-in-Ok-decode c =
     let wrote = c.in-Ok.ensures.ok in

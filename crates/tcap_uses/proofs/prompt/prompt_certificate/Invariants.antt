@@ -1,4 +1,4 @@
--- the fates so far and those of the entries that are left are all
+-- The fates so far and those of the remaining entries are all fates.
 use Rattle.std.proofs.Common.{◌≡◌, ◌≤◌, ◌++◌, ◌-◌}
 use Rattle.tcap_certificate.specs.Certificate.{prompt_fates}
 use Rattle.tcap_uses.proofs.prompt.prompt_certificate.Given as goal

@@ -1,4 +1,4 @@
--- all octets are the entries taken and those that wait
+-- The octets are those of the entries that were taken and of those that wait.
 use Rattle.std.proofs.Common.{◌≡◌, ◌++◌, [], length}
 use Rattle.tcap_record.specs.FeederState.{IsFedSoFar}
 use Rattle.tcap_uses.proofs.record.entries_of.Given as goal

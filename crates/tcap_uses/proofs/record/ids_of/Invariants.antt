@@ -1,4 +1,4 @@
--- the IDs so far and those of what is left are all
+-- The IDs so far and those of the remaining entries are all IDs.
 use Rattle.std.proofs.Common.{◌≡◌, ◌++◌, drop}
 use Rattle.tcap_uses.specs.Ids.{ids_in}
 use Rattle.tcap_uses.proofs.record.ids_of.Given as goal
