@@ -103,18 +103,18 @@ named table row found code (Some None) = Ok found
 named table row found None (Some (Some name)) = Ok found
 named table row found (Some code) (Some (Some name)) = Ok (found ++ (code, name) ∷ [])
 
--- these names and that of one more row, if it has one; or the fault of its name
+-- the names, with that of a row added
 abbrev pub with_name : ℕ → ℕ → List (Code × List ℕ) → Data → Result (List (Code × List ℕ)) BookFault
 with_name table row found d =
     named table row found (option_and_then code_in (get (codes "code") d)) (name_in (get (codes "name") d))
 
--- these names and those of the rows from number `row` on; or the first fault of a name
+-- the names, with those of the rows from number `row` on added
 abbrev pub names_with : ℕ → ℕ → List (Code × List ℕ) → Items → Result (List (Code × List ℕ)) BookFault
 names_with table row found no_items = Ok found
 names_with table row found (item d more) = then_ok (with_name table row found d)
     (λ next. names_with table (suc row) next more)
 
--- the names of the operations of a table, or the first fault of a name
+-- the names of the operations of a table
 abbrev pub names_in : ℕ → Option Data → Result (List (Code × List ℕ)) BookFault
 names_in table (Some (array rows)) = names_with table 0 [] rows
 names_in table _ = Ok []

@@ -305,7 +305,7 @@ fn read_book(alloc: Global, octets: &[u8]) -> Result<Book, BookFault>
 }
 
 impl Book {
-    /// Reads a book from a JSON text, whose shape docs/TABLES.md describes.
+    /// Reads a book from a JSON text, whose shape FORMAT.md describes.
     ///
     /// A text without a key `"tables"` is read as a single table.
     ///

@@ -24,7 +24,7 @@ pub enum BookFault {
     TableName(u64),
     /// The contexts of the table with this number are not a list of strings of hex digits, two for each octet.
     Contexts(u64),
-    /// The name of a row is not a string. The first number is that of the table, the second that of the row.
+    /// In the table with the first number, the name of the row with the second number is not a string.
     RowName(u64, u64),
     /// Memory ran out.
     Memory,

@@ -1,4 +1,4 @@
-//! The requests that a command line can make.
+//! What a user can ask the program to do.
 
 use tcap_record::End;
 
@@ -22,9 +22,9 @@ pub struct Test<'a> {
     pub tables: Vec<&'a str>,
     /// The rule for reusing the IDs of a finished dialogue.
     pub ids: Ids,
-    /// True if a dialogue that is open at the end of its trace, or at a quiet mark, does not pass (`--complete`).
+    /// Whether the traces are complete.
     pub complete: bool,
-    /// True if an end that did not hear each message of its peer does not pass (`--heard`).
+    /// Whether each message was heard.
     pub heard: bool,
     /// The number of entries after the end of a dialogue at which it is judged.
     pub linger: u64,
@@ -34,7 +34,7 @@ pub struct Test<'a> {
     pub junit: Option<&'a str>,
     /// The path of the file for a page of the dialogues that do not pass, if requested.
     pub html: Option<&'a str>,
-    /// True if progress is printed.
+    /// Whether to print progress.
     pub progress: bool,
     /// The paths of the traces, in order; `-` is the standard input.
     pub traces: Vec<&'a str>,

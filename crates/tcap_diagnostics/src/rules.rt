@@ -194,8 +194,7 @@ pub(crate) fn push_broken(text: &mut String, broken: BrokenRule) -> Result<(), A
     text.push_str("\n")
 }
 
-/// Returns the line that explains which rule the last lines break. It is empty if they break none, or were lost because
-/// memory ran out.
+/// Returns the line on the rule that the last lines break, or no text if they break none.
 fn rule_line(alloc: Global, tail: &Tail) -> Result<String, AllocError> {
     let mut text = String::new(alloc);
     if !tail.lost {
