@@ -52,6 +52,7 @@ TESTS = {
     "archive": "looks at archives",
     "compared": "looks at compared reports",
     "live": "looks at pipes of a bench that runs",
+    "ci": "runs of examples for CI systems",
     "books": "tables, pages and the book that agree",
     "page": "looks at pages of reports",
 }
