@@ -43,6 +43,7 @@ TESTS = {
     "explain": "verdicts in words",
     "fault_kinds": "faults that are read anew",
     "facts": "faults at entries in words",
+    "planted": "dialogues with a planted fault",
     "pages": "examples and commands of pages",
     "rules": "examples of rules",
     "theorem": "parts of the page of theorems",
