@@ -43,6 +43,7 @@ TESTS = {
     "explain": "verdicts in words",
     "fault_kinds": "faults that are read anew",
     "facts": "faults at entries in words",
+    "planted": "dialogues with a planted fault",
     "pages": "examples and commands of pages",
     "rules": "examples of rules",
     "theorem": "parts of the page of theorems",
@@ -52,6 +53,7 @@ TESTS = {
     "archive": "looks at archives",
     "compared": "looks at compared reports",
     "live": "looks at pipes of a bench that runs",
+    "ci": "runs of examples for CI systems",
     "books": "tables, pages and the book that agree",
     "page": "looks at pages of reports",
 }

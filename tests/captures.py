@@ -1,4 +1,4 @@
-"""Makes captures (capture_rows.py, made_captures.py), has tools/lines_of_capture.py make lines from them, packs and
+"""Makes captures (capture_rows.py, capture_malformed.py ..), has tools/lines_of_capture.py make lines from them, packs and
 shows these with the built program, and compares. Then it compares the output of `tshark` and of `tcapjudge show` for
 every named vector and for random messages (wireshark.py). Last it runs the commands of the pages (capture_recipes.py).
 If tshark is not installed, it says so and counts nothing."""
@@ -25,6 +25,7 @@ sys.path.insert(0, "tools")
 import capture_answers
 import capture_carried
 import capture_frames
+import capture_malformed
 import capture_recipes
 import capture_shapes
 import capture_rows
@@ -32,7 +33,7 @@ import cut_rows
 import lines_of_capture
 import wireshark
 
-TOOL = "tools/lines_of_capture.py"
+TOOL, OPERATIONS = "tools/lines_of_capture.py", "examples/operations.json"
 VECTORS = "crates/tcap_vectors/src/vectors.rt"
 DAMAGED = 3000
 # The number of messages of the network.
@@ -107,6 +108,18 @@ def are_broken(row, files):
     return True
 
 
+def are_judged(row, files):
+    """Returns whether the program makes the wanted record of each file or, if the row has expressions,
+    prints what they match."""
+    if row.judged is None:
+        return all(packed(path)[0] == record_of(entries_of(lines)) for path, lines in files)
+    printed = [run(PROGRAM, "test", "--table", OPERATIONS, path).stdout.decode() for path, _ in files]
+    holds = len(row.judged) == len(files) and all(map(re.search, row.judged, printed))
+    if not holds:
+        print(f"{row.name}: {printed}, not {row.judged}")
+    return holds
+
+
 def record_of(lines):
     """Returns the record that lines of digits spell."""
     return b"".join(line[:1].encode() + bytes.fromhex(line[2:]) for line in lines)
@@ -134,7 +147,7 @@ def is_so(row, said, files):
     holds = holds and all(word in errors for word in row.said) and "Traceback" not in errors
     # Nothing unforeseen may be printed in any run.
     holds = holds and (row.said or not errors)
-    holds = holds and all(packed(path)[0] == record_of(entries_of(lines)) for path, lines in files)
+    holds = holds and are_judged(row, files)
     if not holds:
         print(f"{row.name}: {said.returncode}\n{said.stdout.decode()}{errors}{files}")
     return holds
@@ -313,7 +326,8 @@ def main():
     with tempfile.TemporaryDirectory() as folder:
         # Most of the time goes into the start of tshark.
         with concurrent.futures.ThreadPoolExecutor(os.cpu_count()) as lanes:
-            rows = [*capture_rows.rows(), *cut_rows.rows(), *capture_answers.rows(), *capture_carried.rows()]
+            rows = [*capture_rows.rows(), *capture_malformed.rows(), *cut_rows.rows(), *capture_answers.rows()]
+            rows += capture_carried.rows()
             held = list(lanes.map(is_as_wanted, rows))
         held += [*examples_come_back(folder), vectors_come_back(folder), is_network_lawful(folder), is_steady()]
         held += [is_progress_said(folder), words_are_refused(folder), cut_rows.are_cuts_met(folder)]

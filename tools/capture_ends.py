@@ -110,8 +110,9 @@ class Answers:
         self.ends, self.messages, self.words = ends, messages, words
         # For each end: the address to which it sent an ID last.
         self.called = collections.defaultdict(dict)
-        # Earlier uses of an ID: the ID, and the addresses of its sender and of its receiver.
-        self.earlier, self.sent = set(), Sent()
+        # Earlier uses of an ID: the ID, and the addresses of its sender and of its receiver. Then these two addresses of
+        # each message whose IDs can't be read.
+        self.earlier, self.sent, self.unread = set(), Sent(), set()
         self.speaking = {ends.find(message.sender) for message in messages}
         # For each end: each ID that it sent in the whole capture, with what identifies its dialogues. Made when it is
         # needed.
@@ -122,6 +123,8 @@ class Answers:
         if message.fault:
             return
         sender, receiver = message.sender.name, message.receiver.name
+        if message.tag is None:
+            self.unread.add((sender, receiver))
         if message.dtid and not self.words.apart:
             self.settle(message, sender, receiver)
         if message.otid and not message.fault:
@@ -156,7 +159,8 @@ class Answers:
         return is_known and self.ends.find(called) in self.speaking
 
     def settle_strange(self, message, sender, receiver):
-        """Decides whose ID it is if the receiver did not send it: another address of the receiver may have."""
+        """Decides whose ID it is if the receiver did not send it: another address of the receiver may have, or a message
+        of the receiver whose IDs can't be read."""
         find = self.ends.find
         ends = find(sender), find(receiver)
         own, others = {}, {}
@@ -168,13 +172,19 @@ class Answers:
             elif called.gt is not None or are_near(sender, called):
                 others[find(asker), find(called)] = asker, called
         pairs = list((own or others).values())
-        if pairs and (self.words.join or len(pairs) == 1 and self.is_pair(sender, receiver, *pairs[0])):
+        is_only = len(pairs) == 1 and not self.has_unread(receiver, sender)
+        if pairs and (self.words.join or is_only and self.is_pair(sender, receiver, *pairs[0])):
             self.join(receiver, pairs[-1][0])
             self.join(sender, pairs[-1][1])
         elif pairs:
             self.refuse(message, pairs)
         else:
             self.settle_far(message, sender, receiver)
+
+    def has_unread(self, sender, receiver):
+        """Returns whether one end sent the other a message whose IDs can't be read."""
+        find = self.ends.find
+        return any((find(one), find(other)) == (find(sender), find(receiver)) for one, other in self.unread)
 
     def is_older(self, receiver, asker):
         """Returns whether a message more likely belongs to a dialogue older than the capture, of a receiver that

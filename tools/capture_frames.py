@@ -43,12 +43,13 @@ class Addresses:
 
 
 class Message:
-    """A message of TCAP. Messages are sorted by place: the frame, the number in the frame, and a TSN among messages at
-    the same place. `way` is that of SCTP if it has one; `hops` are the codes that other copies of it went between."""
+    """A message of TCAP, or what was sent in place of one. Messages are sorted by place: the frame, the number in the
+    frame, and a TSN among messages at the same place. `way` is that of SCTP if it has one; `hops` are the codes that
+    other copies of it went between."""
 
     __slots__ = "place", "frames", "sender", "receiver", "octets", "fault", "way", "hops", "tag", "otid", "dtid"
 
-    def __init__(self, place, frames, sender, receiver, octets, fault, way=None):
+    def __init__(self, place, frames, sender, receiver, octets, fault=None, way=None):
         self.place, self.frames, self.sender, self.receiver = place, frames, sender, receiver
         self.octets, self.fault, self.way, self.hops = octets, fault, way, frozenset()
         self.tag, self.otid, self.dtid = signalling.ids_of(octets)
@@ -270,13 +271,14 @@ class Reader:
         self.add(place, (self.number,), *ends, octets)
 
     def add(self, place, frames, sender, receiver, octets, way=None):
-        """Adds a message, with its fault if it has one."""
-        fault = None
-        try:
-            signalling.refuse_no_message(octets)
-        except Refused as refused:
-            fault = Fault(place, refused.name, refused.why)
-        self.messages.append(Message(place, frames, sender, receiver, octets, fault, way))
+        """Adds what SCCP or SUA carries as a whole, whatever it is: `test` says what is wrong with it. No line has no
+        octets, so nothing is added if there are none."""
+        if not octets:
+            self.told["left out: messages without octets"] += 1
+            return
+        if octets[0] in signalling.ANSI:
+            self.told["messages with a tag of ANSI TCAP, which `test` takes for no messages (F1)"] += 1
+        self.messages.append(Message(place, frames, sender, receiver, octets, way=way))
 
     def close(self):
         """Adds the faults of parts that are still missing after the last frame, and finds the labels of the

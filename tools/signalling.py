@@ -1,6 +1,6 @@
 """Reads the octets of the layers below TCAP: packets of SCTP (RFC 9260), messages of M3UA (RFC 4666) and of SCCP
-(ITU-T Q.713), and the outside of a TCAP message (ITU-T Q.773, X.690). Nothing here keeps a state. What can't be read
-is refused with a name and a reason."""
+(ITU-T Q.713), and the outside of a TCAP message (ITU-T Q.773, X.690). Nothing here keeps a state. Below TCAP, what
+can't be read is refused with a name and a reason."""
 
 import collections
 import struct
@@ -21,8 +21,11 @@ CLDT, CLDR = 0x701, 0x702
 # The messages that bring a message back to its sender.
 SERVICE = {0x0A, 0x12, 0x14, CLDR}
 NAMES = {0x09: "UDT", 0x11: "XUDT", 0x13: "LUDT", 0x0A: "UDTS", 0x12: "XUDTS", 0x14: "LUDTS", CLDR: "CLDR"}
+# The tags of the messages of TCAP (Q.773 4.2.1), of those with an originating and with a destination transaction ID, and
+# of these IDs, which have 1 to 4 octets; and the tags of ANSI TCAP.
 UNIDIRECTIONAL, BEGIN = 0x61, 0x62
-WITH_OTID, WITH_DTID = {0x62, 0x65}, {0x64, 0x65, 0x67}
+MESSAGES, WITH_OTID, WITH_DTID = {0x61, 0x62, 0x64, 0x65, 0x67}, {0x62, 0x65}, {0x64, 0x65, 0x67}
+OTID, DTID, LONGEST_ID = 0x48, 0x49, 4
 ANSI = {0xE1, 0xE2, 0xE3, 0xE4, 0xE5, 0xE6, 0xF6}
 
 # The head of a chunk; the TSN and the payload protocol identifier of a chunk of data; the head of a message of M3UA,
@@ -270,35 +273,28 @@ def end_of(octets):
             return at
 
 
-def refuse_no_message(octets):
-    """Refuses what `pack` does not take as an entry, and messages of another protocol: all that is not one whole
-    element."""
-    if octets[:1] and octets[0] in ANSI:
-        raise Refused("ansi", f"a message of ANSI TCAP (tag {octets[0]:02x}), which the profile does not read")
-    over = len(octets) - end_of(octets)
-    if over:
-        raise Refused("element", f"{over} octets stand behind the message")
-
-
-def id_at(octets, at, tag):
-    """Returns the content of the element there if it has that tag, else None; and where it ends."""
-    if at >= len(octets) or octets[at] != tag:
-        return None, at
-    begin, length = header(octets, at)
-    return part(octets, begin, length, "element", "a transaction ID"), begin + length
+def id_at(content, at, tag):
+    """Returns the transaction ID that begins there, and where it ends."""
+    if content[at : at + 1] != bytes([tag]):
+        raise Refused("element", "no transaction ID with its tag")
+    begin, length = header(content, at)
+    if length is None or not 1 <= length <= LONGEST_ID:
+        raise Refused("element", "a transaction ID of another length than 1 to 4 octets")
+    return part(content, begin, length, "element", "a transaction ID"), begin + length
 
 
 def ids_of(octets):
-    """Returns the tag of a message and its originating and destination transaction ID, with None for those that can't
-    be read."""
-    tag, otid, dtid = octets[0] if octets else None, None, None
+    """Returns the tag of a message and its originating and destination transaction ID, with None for those that it does
+    not have. They are read as `test` reads them: all are None if the octets do not begin with a whole element that has
+    the tag of a message, or if an ID can't be read. What comes after the IDs does not matter."""
+    otid, dtid, at = None, None, 0
     try:
-        at, _ = header(octets, 0)
-        if tag in WITH_OTID:
-            otid, at = id_at(octets, at, 0x48)
-        if tag in WITH_DTID:
-            dtid, _ = id_at(octets, at, 0x49)
+        end, (begin, length) = end_of(octets), header(octets, 0)
+        content = octets[begin : end if length is not None else end - 2]
+        if octets[0] in WITH_OTID:
+            otid, at = id_at(content, at, OTID)
+        if octets[0] in WITH_DTID:
+            dtid, at = id_at(content, at, DTID)
     except Refused:
-        # It is no message of the profile: `judge` reports that for the entry.
-        pass
-    return tag, otid, dtid
+        return None, None, None
+    return octets[0] if octets[0] in MESSAGES else None, otid, dtid
