@@ -8,6 +8,7 @@ and prints `N passed, M failed`. The exit status is 0 if none failed."""
 
 import base64
 import hashlib
+import re
 import sys
 
 FOLDER = "page"
@@ -15,6 +16,8 @@ FRAME = "crates/tcap_page/src/frame.rt"
 SCRIPTS = ["text", "report", "list", "filters", "ladder", "parts", "dialogue", "rows", "links", "run", "frame"]
 SCRIPT_FORM = '"use strict";\n(() => {{\n{}}})();\n'
 MARKER = "MARKER\n"
+# What a script defines for all scripts.
+DEFINED = re.compile(r"^(?:function|class|const|let) (\w+)", re.MULTILINE)
 POLICY = "default-src 'none'; base-uri 'none'; form-action 'none'; img-src data:; style-src '{}'; script-src '{}'"
 FORM = """//! The frame of a page. dev/page.py writes this file from the files in page/.
 
@@ -70,8 +73,10 @@ def checks():
     """Yields each check with whether it holds."""
     head, tail = frame()
     parts = [text_of(f"{FOLDER}/{name}") for name in ["frame.css", *(f"{name}.js" for name in SCRIPTS)]]
+    names = [name for part in parts for name in DEFINED.findall(part)]
     yield "each file of the frame is there", all(parts) and head != "" and tail != ""
     yield "the frame is ASCII", (head + tail).isascii()
+    yield "no name is defined twice", len(names) == len(set(names))
     yield "no style or script ends its element or is markup", not any("</" in part or "<!--" in part for part in parts)
     yield f"{FRAME} is made of {FOLDER}/", text_of(FRAME) == constants()
 

@@ -84,10 +84,10 @@ function reasonOf(text, evidence) {
   return make("div", {class: "reason"}, ...lines.map((it) => reasonLine(it.slice(margin), evidence?.shows ?? [])));
 }
 
-/** Returns the lines of a reason that identify the fault within its kind, or null if there are none. */
-function tellingView(said) {
-  const telling = tellingOf(said);
-  return telling === "" ? null : make("span", {class: "telling"}, cut(seen(telling), LONG_TITLE));
+/** Returns the sentence that identifies the fault within its kind, or null if there is none. */
+function sentenceView(said) {
+  const sentence = sentenceOf(said);
+  return sentence === "" ? null : make("span", {class: "sentence"}, cut(seen(sentence), LONG_TITLE));
 }
 
 /** Returns the verdict on an end in one line. `before` is the entry at fault of the other end, if it has one. */
@@ -95,7 +95,8 @@ function summaryOf(end, said, before) {
   if (said.kind !== undefined) {
     const place = placeOfFault(said), later = before < said.entry ? " It comes later and may follow from the first." : "";
     const words = `${place === "" ? "" : `, ${place}`}, ${said.kind}. ${wordsOfKind(said.kind)}${later}`;
-    return make("p", {class: "summary"}, badge(said.verdict), ` ${end}: at entry `, leap(said.entry), words, tellingView(said));
+    return make("p", {class: "summary"}, badge(said.verdict), ` ${end}: at entry `, leap(said.entry), words,
+      sentenceView(said));
   }
   const words = said.verdict === "pass"
     ? `sent ${counted(said.sent, "message")}, with ${counted(said.unheard, "message")} of its peer taken as unheard.`
@@ -148,12 +149,17 @@ function factsOf(head) {
     fact("Entries", words), told.length > 0 ? fact("State", told.join("; ")) : null);
 }
 
-/** Returns the ladder of a dialogue, with a note if entries are not listed. */
-function ladderOf(dialogue) {
+/** Returns what is above the lifeline of an end: its letter, its name if it has one, and its IDs. */
+function lifelineHead(end, name, ids) {
+  return [`${end} `, name === undefined ? null : named(name), ` ${cut(ids.join(" "), LONG_NAME)}`];
+}
+
+/** Returns the ladder of a dialogue, with a note if entries are not listed. `names` has the names of its ends. */
+function ladderOf(dialogue, names) {
   const found = messagesOf(dialogue);
   if (found === null) return make("p", {class: "note"}, "The messages of this dialogue can't be read: its line is cut.");
   const joins = joinsOf(dialogue), {ids} = dialogue.head;
-  const heads = ENDS.map((end) => `${end} ${cut(ids[end].join(" "), LONG_NAME)}`);
+  const heads = ENDS.map((end) => lifelineHead(end, names[end], ids[end]));
   const operations = operationsIn(found.messages, reasonsIn(dialogue.head));
   const steps = withOperations(found.messages).map((it) => stepOf(it, operations));
   const count = dialogue.head.entries.length;
@@ -162,21 +168,29 @@ function ladderOf(dialogue) {
   return make("div", {}, note, ladder("The entries of the dialogue", heads, steps, joins, count));
 }
 
-/** Returns a heading with the name of a trace, which can be opened if it is long. */
-function headingOf(trace, words, verdict) {
-  const heading = make("h2", {tabindex: "-1"}, named(trace), words, verdict === null ? null : badge(verdict));
-  return make("div", {class: "heading"}, heading, opening("The whole name", trace));
+/** Returns a line for each end that has a name. A long name can be opened. */
+function endNamesView(names) {
+  return ENDS.filter((end) => names[end] !== undefined).flatMap((end) => [
+    make("p", {class: "end"}, make("b", {}, end), " is ", named(names[end])),
+    opening(`The whole name of ${end}`, names[end]),
+  ]);
 }
 
-/** Returns the view of a dialogue. The end at fault comes first; if both are, the one with the earlier entry at
- * fault. */
-function dialogueView(dialogue) {
+/** Returns a heading with the name of a trace, which can be opened if it is long, and the names of its ends. */
+function headingOf(trace, words, verdict, names) {
+  const heading = make("h2", {tabindex: "-1"}, named(trace), words, verdict === null ? null : badge(verdict));
+  return make("div", {class: "heading"}, heading, opening("The whole name", trace), ...endNamesView(names));
+}
+
+/** Returns the view of a dialogue, whose ends have these names. The end at fault comes first; if both are, the one with
+ * the earlier entry at fault. */
+function dialogueView(dialogue, names) {
   const {head, blamed} = dialogue;
   const ends = [...blamed, ...ENDS.filter((end) => head[end] !== undefined && !blamed.includes(end))];
   const made = make("article", {class: "dialogue", "aria-label": `Dialogue ${head.dialogue}`},
-    headingOf(head.trace, ` dialogue ${head.dialogue} `, head.verdict), factsOf(head),
+    headingOf(head.trace, ` dialogue ${head.dialogue} `, head.verdict, names), factsOf(head),
     ...ends.map((end) => summaryOf(end, head[end], head[otherEnd(end)]?.entry)),
-    make("div", {class: "beside"}, ladderOf(dialogue), reasonsOf(head, ends)));
+    make("div", {class: "beside"}, ladderOf(dialogue, names), reasonsOf(head, ends)));
   const there = new Set([...made.querySelectorAll(".step[data-entry]")].map((it) => it.dataset.entry));
   for (const it of made.querySelectorAll(".leap")) it.disabled = !there.has(it.dataset.to);
   return made;
@@ -207,6 +221,7 @@ function traceView(trace, count, enter, note) {
   const text = head.text === undefined ? null : make("div", {class: "reason"}, seen(`${head.text}${hint}`, KEPT));
   const button = make("button", {type: "button"}, `List its dialogues that do not pass (${count.toLocaleString("en")})`);
   button.addEventListener("click", enter);
-  return make("article", {class: "trace"}, headingOf(head.trace, " ", head.verdict), ...notes, text, traceSums(head),
+  return make("article", {class: "trace"},
+    headingOf(head.trace, " ", head.verdict, head.names ?? NO_NAMES), ...notes, text, traceSums(head),
     count > 0 ? button : null);
 }

@@ -10,11 +10,12 @@ function tally(values) {
   return counts;
 }
 
-/** Fills a choice with `any` and an option for each pair of a value and words; null makes a disabled option. Keeps
- * the choice made. */
+/** Fills a choice with `any` and an option for each value with its words and, if there is one, its title; null makes a
+ * disabled option. Keeps the choice made. */
 function fillChoice(choice, options) {
   const {value} = choice;
-  const made = options.map(([it, words]) => make("option", {value: it, disabled: it === null ? "" : null}, words));
+  const made = options.map(([it, words, title]) =>
+    make("option", {value: it, disabled: it === null ? "" : null, title: title ?? null}, words));
   choice.replaceChildren(make("option", {value: ""}, "any"), ...made);
   choice.value = value;
 }
@@ -34,25 +35,29 @@ function tableOptions(dialogues) {
   return options.sort((one, other) => (one[1] < other[1] ? -1 : 1));
 }
 
-/** Returns the options for the first traces with dialogues in the report, and an option that counts the others. */
-function traceOptions(report) {
+/** Returns the options for the first traces with dialogues in the report, and an option that counts the others. The
+ * names of the traces begin with `folder`. */
+function traceOptions(report, folder) {
   const counts = [...tally(report.dialogues.map((it) => it.trace))], others = counts.length - MOST_OPTIONS;
-  const options = counts.slice(0, MOST_OPTIONS).map(([number, count]) =>
-    [String(number), `${cut(seen(report.traces[number].head.trace), LONG_NAME)} (${count})`]);
+  const options = counts.slice(0, MOST_OPTIONS).map(([number, count]) => {
+    const [words, title] = shortened(report.traces[number].head.trace, LONG_NAME, folder);
+    return [String(number), `${words} (${count})`, title];
+  });
   return others > 0 ? [...options, [null, `${others.toLocaleString("en")} more in the list of traces`]] : options;
 }
 
-/** Chooses a trace, and adds an option for it if there is none. */
-function chooseTrace(form, {number, head}) {
+/** Chooses a trace, whose name begins with `folder`, and adds an option for it if there is none. */
+function chooseTrace(form, {number, head}, folder) {
   const choice = form.elements.trace, value = String(number);
   if ([...choice.options].every((it) => it.value !== value)) {
-    choice.append(make("option", {value}, cut(seen(head.trace), LONG_NAME)));
+    const [words, title] = shortened(head.trace, LONG_NAME, folder);
+    choice.append(make("option", {value, title}, words));
   }
   choice.value = value;
 }
 
-/** Fills the filters with the values in the report. */
-function fillFilters(form, report) {
+/** Fills the filters with the values in the report. The names of its traces begin with `folder`. */
+function fillFilters(form, report, folder) {
   const {dialogues} = report;
   const verdicts = tally([...report.traces.filter(isInError), ...dialogues].map(({head}) => head.verdict));
   const ends = tally(dialogues.flatMap((it) => it.blamed));
@@ -62,7 +67,7 @@ function fillFilters(form, report) {
   fillChoice(end, ENDS.map((it) => [it, `${it} (${ends.get(it) ?? 0})`]));
   fillChoice(kind, kindOptions(dialogues));
   fillChoice(table, tableOptions(dialogues));
-  fillChoice(trace, traceOptions(report));
+  fillChoice(trace, traceOptions(report, folder));
 }
 
 /** Returns a term of the search. `part` is looked for in IDs, names and kinds; `line` is a line number, or null;

@@ -55,6 +55,11 @@ function notesOn({dialogues, total, unread, isRead}) {
   return notes.map((it) => make("p", {class: "note"}, it));
 }
 
+/** Returns the words on the program that judged, or an empty text if the report does not have its version. */
+function versionWords({total}) {
+  return total?.version === undefined ? "" : `Judged by tcapjudge ${seen(total.version)}`;
+}
+
 /** Returns the kinds of fault, each with its words. */
 function kindsView() {
   const rows = Object.keys(KINDS).map((kind) => make("div", {}, make("dt", {}, kind), make("dd", {}, wordsOfKind(kind))));
@@ -69,11 +74,14 @@ class Page {
     this.shown = byId("shown");
     this.lists = {
       dialogues: new RowList(byId("dialogues"),
-        {row: rowOf, chosen: (it) => this.choose(it), clicked: () => this.uncover(), entered: () => this.enter()}),
+        {row: (it) => rowOf(it, this.folder), chosen: (it) => this.choose(it), clicked: () => this.uncover(),
+          entered: () => this.enter()}),
       traces: new RowList(byId("traces"),
-        {row: traceRow, chosen: (it) => this.choose(it), clicked: () => this.uncover(), entered: (it) => this.listTrace(it)}),
+        {row: (it) => traceRow(it, this.folder), chosen: (it) => this.choose(it), clicked: () => this.uncover(),
+          entered: (it) => this.listTrace(it)}),
     };
     this.listed = {dialogues: [], inError: [], rows: [], traces: []};
+    this.folder = "";
     this.fragment = window.location.hash;
     byId("kinds").append(kindsView());
     this.hear();
@@ -85,11 +93,13 @@ class Page {
       this.showRun(this.report.run);
       return;
     }
-    fillFilters(this.form, this.report);
+    this.folder = folderOf(this.report);
+    fillFilters(this.form, this.report, this.folder);
     const list = (...what) => this.listBy(...what);
     if (this.report.isRead) byId("sums").replaceChildren(...sumsView(sumsOf(this.report), list));
     byId("notes").replaceChildren(...notesOn(this.report));
-    if (!this.isUsed) this.chosen = null;
+    byId("version").textContent = versionWords(this.report);
+    if (!this.isUsed) this.chosen = firstFailing(this.report);
     this.refresh();
     if (this.follow(this.fragment)) this.fragment = "";
   }
@@ -166,7 +176,7 @@ class Page {
   choose(item) {
     const {report} = this;
     if (this.listed.rows.includes(item)) this.chosen = item;
-    this.view(item, () => this.viewOf(item, ""));
+    this.view(item, () => this.viewOf(item, ""), endNamesOf(item, report));
     this.name(isTrace(item) ? fragmentOfTrace(item, report) : fragmentOf(item, report));
   }
 
@@ -178,7 +188,7 @@ class Page {
 
   /** Returns the view of a dialogue or a trace; `note` is a further note on a trace. */
   viewOf(item, note) {
-    if (!isTrace(item)) return dialogueView(item);
+    if (!isTrace(item)) return dialogueView(item, endNamesOf(item, this.report));
     const count = this.report.dialogues.filter((it) => it.trace === item.number).length;
     return traceView(item, count, () => this.listTrace(item), note);
   }
@@ -211,10 +221,10 @@ class Page {
     this.list().box.focus();
   }
 
-  /** Shows the view that `made` returns for an item, unless that item is shown already. */
-  view(item, made) {
-    if (item !== null && item === this.viewed) return;
-    this.viewed = item;
+  /** Shows the view that `made` returns for an item, unless that item is shown already with these names of its ends. */
+  view(item, made, names = NO_NAMES) {
+    if (item !== null && item === this.viewed && names === this.viewedNames) return;
+    Object.assign(this, {viewed: item, viewedNames: names});
     this.shown.replaceChildren(made());
     this.shown.scrollTop = 0;
   }
@@ -281,7 +291,7 @@ class Page {
       return;
     }
     this.form.reset();
-    chooseTrace(this.form, trace);
+    chooseTrace(this.form, trace, this.folder);
     this.refresh();
     this.turnTo("dialogues");
     this.list().box.focus();

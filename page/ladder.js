@@ -149,7 +149,7 @@ function spanned(join, steps) {
   return {...join, spans: tied.length > 0 ? [[tied[0], tied.at(-1)]] : []};
 }
 
-/** Returns the ladder with this name. `count` is the number of all steps, and `heads` has the words above each
+/** Returns the ladder with this name. `count` is the number of all steps, and `heads` has what is above each
  * lifeline. */
 function ladder(name, heads, steps, given, count) {
   const joins = given.map((it) => spanned(it, steps));
@@ -161,6 +161,6 @@ function ladder(name, heads, steps, given, count) {
     next = step.number + 1;
   }
   if (next < count) rows.push(gap(next, count - 1, joins));
-  const top = make("div", {class: "heads", "aria-hidden": "true"}, ...heads.map((it) => make("span", {}, it)));
+  const top = make("div", {class: "heads", "aria-hidden": "true"}, ...heads.map((it) => make("span", {}, ...it)));
   return make("div", {class: "ladder"}, top, make("ol", {"aria-label": name}, ...rows));
 }

@@ -5,6 +5,8 @@
 const MESSAGES = ',"messages":[';
 // The words for dialogues that pass although an end did not hear everything or did not answer.
 const UNHEARD = "unheard or unanswered";
+// The names of ends of which a trace says nothing.
+const NO_NAMES = {};
 
 /** Returns the object in a line, or null if there is none. */
 function objectOf(line) {
@@ -120,6 +122,29 @@ function wordsOf(dialogue) {
 /** Returns a count of 0 for each verdict. */
 function noCounts() {
   return Object.fromEntries(VERDICTS.map((it) => [it, 0]));
+}
+
+/** Returns what the directives of a trace say of its ends, of a trace or of a dialogue of it. The object of the trace
+ * has it, which comes after those of its dialogues. */
+function endNamesOf(item, report) {
+  const {head} = isTrace(item) ? item : report.traces[item.trace];
+  return head.names ?? NO_NAMES;
+}
+
+/** Returns the folder that all traces of a report are in, with a slash at its end, or an empty text. */
+function folderOf({traces}) {
+  const paths = traces.map(({head}) => head.trace.split("/"));
+  let shared = (paths[0] ?? []).slice(0, -1);
+  for (const path of paths) {
+    const end = shared.findIndex((it, at) => at >= path.length - 1 || path[at] !== it);
+    if (end >= 0) shared = shared.slice(0, end);
+  }
+  return shared.map((it) => `${it}/`).join("");
+}
+
+/** Returns the first dialogue that fails, or null if none does. */
+function firstFailing({dialogues}) {
+  return dialogues.find(({head}) => head.verdict === "fail") ?? null;
 }
 
 /** Returns the counts at the end of the report, or else those of the traces that have arrived. */

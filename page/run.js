@@ -161,7 +161,7 @@ function headOfEnd(end, of) {
 /** Returns the view of a run. */
 function runView(run) {
   const {title, of, count, text} = run, made = rowsOf(run), [word, more] = verdictOf(title);
-  const heads = ENDS.map((end) => headOfEnd(end, of));
+  const heads = ENDS.map((end) => [headOfEnd(end, of)]);
   const words = of === undefined ? null
     : fact("Judged", `${of} alone: nothing is asked of what ${otherEnd(of)} sends, nor of what it hears`);
   const why = text === undefined ? null : make("div", {class: "reasons"}, make("h3", {}, "Why"), reasonOf(text, null));

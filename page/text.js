@@ -20,14 +20,6 @@ const KINDS = {
   F14: ["It is an Abort of the provider that answers nothing which is left.", "Q.774 3.3, abnormal procedures"],
   F15: ["It is a quiet mark, and a transaction of the end is surely open there.", "the bench's word that all was quiet"],
 };
-// The lines of a reason that identify the fault within its kind, the most telling ones first. docs/TRACES.md has
-// them, and docs/FORMAT.md has the line of F8.
-const TELLING = {
-  F1: [/^why: (.*)/],
-  F6: [/^(the result names .*)/, /^(.* and a Unidirectional may invoke .*)/, /^(invocation -?\d+ in entry \d+ is of .*)/],
-  F8: [/^(the transaction of [AB]: .*)/],
-  F9: [/^(an AARE is missing: .*)/, /^(the (?:AARE|ABRT) is one too many: .*)/],
-};
 const ENDS = ["A", "B"];
 const VERDICTS = ["error", "fail", "inconc", "pass"];
 const SVG = "http://www.w3.org/2000/svg";
@@ -58,10 +50,11 @@ function wordsOfKind(kind) {
   return `${words} (${section})`;
 }
 
-/** Returns, as one line, the lines of a reason that identify the fault within its kind; empty if there are none. */
-function tellingOf({kind, text}) {
-  const lines = text.split("\n").map((it) => it.trim());
-  return (TELLING[kind] ?? []).flatMap((form) => lines.map((it) => form.exec(it)?.[1])).filter((it) => it !== undefined).join("; ");
+/** Returns the sentence that identifies the fault within its kind: the first line of its text. If that has only the
+ * words of the kind, returns an empty text. */
+function sentenceOf({kind, text}) {
+  const [sentence] = text.trim().split("\n"), [words] = KINDS[kind] ?? [""];
+  return words.toLowerCase().startsWith(sentence.toLowerCase()) ? "" : sentence;
 }
 
 /** Returns in words how often something occurs, if it is more than once. */
@@ -95,10 +88,17 @@ function drawn(tag, attributes, ...children) {
   return filled(document.createElementNS(SVG, tag), attributes, children);
 }
 
-/** Returns a name from a trace, cut if it is long; its title has more of it. */
-function named(text, longest = LONG_NAME) {
-  const all = seen(text);
-  return make("bdi", {class: "name", title: all.length > longest ? cut(all, LONG_TITLE) : null}, cut(all, longest));
+/** Returns a name from a trace without the folder that it begins with, cut if it is long; and a title with more of the
+ * name, or null if nothing is left out. */
+function shortened(text, longest, folder) {
+  const all = seen(text), isWhole = folder === "" && all.length <= longest;
+  return [cut(seen(text.slice(folder.length)), longest), isWhole ? null : cut(all, LONG_TITLE)];
+}
+
+/** Returns an element with a name from a trace, without the folder that it begins with; its title has more of it. */
+function named(text, longest = LONG_NAME, folder = "") {
+  const [words, title] = shortened(text, longest, folder);
+  return make("bdi", {class: "name", title}, words);
 }
 
 /** Returns an element that opens to show a text from a trace, or null if the text is short. */

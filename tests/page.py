@@ -1,7 +1,8 @@
-"""Compares the frame of a page with the files that it is made from (dev/page.py). Then it checks pages of made reports
-and runs (made_reports.py), and pages that the program writes, in a browser (browser.py). The cases are those of
-page_cases.py, page_parts.py, page_traces.py, page_limits.py, page_runs.py and page_written.py. If no browser starts,
-or there is no loopback interface to drive it, it says so and counts only the frame."""
+"""Compares the frame of a page with the files that it is made from (dev/page.py). Then it calls functions of the page's
+scripts in Node.js (node.py), with the cases of page_functions.py. At last it checks pages of made reports and runs
+(made_reports.py), and pages that the program writes, in a browser (browser.py), with the cases of page_cases.py,
+page_parts.py, page_traces.py, page_limits.py, page_runs.py and page_written.py. If there is no Node.js, no browser
+starts, or there is no loopback interface to drive it, it says so and leaves these cases out."""
 
 import contextlib
 import signal
@@ -13,8 +14,10 @@ sys.path.insert(0, "dev")
 import rooms  # noqa: F401
 import browser
 import loopback
+import node
 import page
 import page_cases
+import page_functions
 import page_limits
 import page_parts
 import page_runs
@@ -40,13 +43,26 @@ def made_checks():
     shows the octets of planted messages as they say."""
     checks = Checks("made reports")
     for it in [*planted(), *hostile(), open_at_end(), looked_like("a capture")]:
-        if SCHEMA is not None and "total" not in it:
+        if SCHEMA is not None:
             checks.same("by the schema", [error.message for error in SCHEMA.iter_errors(it)], [])
     messages = [message for it in planted() if "dialogue" in it for message in it["messages"]]
     for it in [message for message in messages if "kind" in message]:
         shown = run(["show", "--lines"], f"{it['end']} {it['octets']}\n".encode()).stdout.decode()
         checks.same(f"octets of {it['show']!r}", shown.split(" ", 1)[1], it["show"].split(" ", 1)[1])
     return checks
+
+
+def function_checks():
+    """Runs the cases of page_functions.py, if Node.js is installed."""
+    if node.missing():
+        print(f"skipped: functions of the page's scripts, for want of {', '.join(node.missing())}")
+        return []
+    every = []
+    for case in page_functions.CASES:
+        every.append(Checks(case.__name__))
+        with tempfile.TemporaryDirectory() as folder:
+            case(every[-1], folder)
+    return every
 
 
 def looked_at_once(shown, case):
@@ -79,7 +95,7 @@ def main():
     # If the gate stops this, it ends its browser.
     signal.signal(signal.SIGTERM, lambda *_: sys.exit(1))
     missing = browser.missing() or ([] if loopback.is_had() else ["a loopback interface"])
-    found = [frame_checks(), made_checks()]
+    found = [frame_checks(), made_checks(), *function_checks()]
     if missing:
         print(f"skipped: pages in a browser, for want of {', '.join(missing)}")
     else:

@@ -9,6 +9,7 @@ sys.path.insert(0, "dev")
 import page
 
 VERDICTS = ["pass", "inconc", "fail", "error"]
+VERSION = "0.1.0 (proved, kit 1 <logic> 2)"
 # What is no name, or would be more than one where it is not taken for data.
 HOSTILE = [
     "</script><script>alert(1)</script><img src=x onerror=alert(2)>.hex",
@@ -31,7 +32,8 @@ def pass_of(sent, unheard=0):
 
 
 def blamed(entry, kind, text, shows=(), **more):
-    """An end at fault at an entry, which stands in the line of its number and two more; with `doubt` it is inconclusive."""
+    """An end at fault at an entry, whose line has its number plus two. With `doubt` it is inconclusive. The first line of
+    `text` is the sentence on the fault."""
     evidence = {key: more.pop(key) for key in ("component", "invoke") if key in more}
     evidence["shows"] = [{"what": what, "entries": entries} for what, entries in shows]
     verdict = "inconc" if "doubt" in more else "fail"
@@ -56,10 +58,11 @@ def dialogue(trace, number, verdict, messages, a_ids, b_ids, ends, **more):
             "ids": ids, **more, **flags, **(ends or {}), "messages": messages, **behind}
 
 
-def trace(name, verdict, messages, unheard=0, text=None, line=None, hint=None, **counts):
+def trace(name, verdict, messages, unheard=0, names=None, text=None, line=None, hint=None, **counts):
     """The object of a trace."""
     dialogues = {it: counts.get(it, 0) for it in VERDICTS}
-    more = {key: value for key, value in (("text", text), ("line", line), ("hint", hint)) if value is not None}
+    others = {"names": names, "text": text, "line": line, "hint": hint}
+    more = {key: value for key, value in others.items() if value is not None}
     return {"trace": name, "verdict": verdict, "messages": messages, "dialogues": dialogues, "unheard": unheard, **more}
 
 
@@ -70,7 +73,7 @@ def total(objects, left_out=0):
             "messages": sum(one["messages"] for one in traces),
             "dialogues": {it: sum(one["dialogues"][it] for one in traces) for it in VERDICTS},
             "unheard": sum(one["unheard"] for one in traces)}
-    return {"total": sums, "left_out": left_out}
+    return {"total": sums, "left_out": left_out, "version": VERSION}
 
 
 # ---- planted faults
@@ -89,7 +92,8 @@ def answered_already():
         message(2, "A", "Continue", "otid=0b000001 dtid=7f01", "650a48040b00000149027f01"),
         message(3, "B", "End", "dtid=0b000001", "641249040b0000016c0aa203020101a203020101", [result, result], comment=comment),
     ]
-    text = ("  entry 3 of B, component 1: it answers an invocation that was answered already\n    End dtid=0b000001\n"
+    text = ("  invocation 1 of updateLocation 2 was answered already, by the Return Result in this message\n"
+            "  entry 3 of B, component 1: it answers an invocation that was answered already\n    End dtid=0b000001\n"
             "      ReturnResultLast id=1\n  the transaction of B: began by the peer's Begin, own ID 7f01\n"
             "  A: Invokes of 1 in this transaction: entry 0\n  B: Return Results Last of 1 before it: entry 3\n")
     shows = [("A: Invokes of 1 in this transaction", [0]), ("A: Invokes of 1 of class 2 in this transaction", []),
@@ -108,8 +112,10 @@ def both_at_fault():
         message(3, "B", "Continue", "otid=c1 dtid=d2", "65064801c14901d2", comment=comment),
         message(4, "A", "Continue", "otid=d3 dtid=c1", "65064801d34901c1"),
     ]
-    of_a = "  entry 4 of A: its end has no transaction over which it may send it\n  B: Begins: entry 0\n"
-    of_b = "  entry 3 of B: its end has ended this dialogue\n  B: Ends before it: entry 2\n"
+    of_a = ("  its originating ID is d3; A's ID in this transaction is d2\n"
+            "  entry 4 of A: its end has no transaction over which it may send it\n  B: Begins: entry 0\n")
+    of_b = ("  its end has ended this dialogue\n"
+            "  entry 3 of B: its end has ended this dialogue\n  B: Ends before it: entry 2\n")
     shows = [("B: Begins", [0]), ("A: Continues to its destination ID before it", [1])]
     ends = {"A": blamed(4, "F8", of_a, shows), "B": blamed(3, "F4", of_b, [("B: Ends before it", [2])], comment=comment)}
     return dialogue("calls.hex", 1, "fail", messages, "d2 d3", "c1", ends)
@@ -122,7 +128,8 @@ def open_at_mark():
         message(1, "B", "Continue", "otid=bb02 dtid=aa01", "65084802bb024902aa01"),
         {"entry": 2, "line": 4, "mark": True},
     ]
-    text = "  entry 2: the mark stands where a transaction of B is open\n  B: Continues from it: entry 1\n"
+    text = ("  a transaction of B is open at this quiet mark: that from bb02, as in entry 1\n"
+            "  entry 2: a transaction of B is open at this quiet mark\n  B: Continues from it: entry 1\n")
     shows = [("B: Continues from it", [1])]
     ends = {"A": pass_of(1), "B": blamed(2, "F15", text, shows, reason="at_mark", doubt="the quiet mark is the bench's word")}
     return dialogue("calls.hex", 2, "inconc", messages, "aa01", "bb02", ends, table="CAP", marked=True)
@@ -131,7 +138,7 @@ def open_at_mark():
 def no_table():
     """A dialogue for which there is no table."""
     messages = [message(0, "A", "Begin", "otid=e5", "62034801e5")]
-    text = "no table is for a dialogue without a context\n"
+    text = "no table is for a dialogue without an application context name; give one with --table FILE\n"
     return dialogue("calls.hex", 3, "error", messages, "e5", "", None, text=text, open=True)
 
 
@@ -147,7 +154,8 @@ def long_dialogue():
         message(98, "A", "Continue", "otid=f0 dtid=f1", go_on),
         message(99, "A", "Continue", "otid=f0 dtid=f1", go_on),
     ]
-    text = "  entry 50 of A, component 0: it invokes an ID that is in use\n  A: Invokes of 5 before it: entries 0, 20\n"
+    text = ("  not all invocations of ID 5 are over: 2 of them do not expire\n"
+            "  entry 50 of A, component 0: it invokes an ID that is in use\n  A: Invokes of 5 before it: entries 0, 20\n")
     ends = {"A": blamed(50, "F10", text, [("A: Invokes of 5 before it", [0, 20])], component=0, invoke=5, comment=comment)}
     behind = {"left_out": 94, "entries": list(range(100))}
     return dialogue("long.hex", 0, "fail", messages, "f0", "f1", ends, table="MAP", **behind)
@@ -319,14 +327,14 @@ def hostile():
     return [*objects, total(objects)]
 
 
-def many(count, left_out=0, each=100):
+def many(count, left_out=0, each=100, names=None):
     """So many dialogues that fail, each with IDs of its own, so many in a trace."""
     lines, traces = [], []
     form = line_of(answered_already())
     for at in range(count):
         if at % each == 0:
             name = f"calls-{at // each:04}.hex"
-            traces.append(trace(name, "fail", 4 * each, fail=min(each, count - at)))
+            traces.append(trace(name, "fail", 4 * each, names=names, fail=min(each, count - at)))
         ids = form.replace("0b000001", f"{0xA0000000 + at:08x}").replace('"calls.hex"', f'"{name}"')
         lines.append(ids.replace('"dialogue":0', f'"dialogue":{at % each}'))
         if at % each == each - 1 or at == count - 1:

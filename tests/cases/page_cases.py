@@ -73,16 +73,20 @@ STEPS = [
 ]
 PLACES = ["line 2: frame 12, 2025-11-25T09:13:55.000001Z, entry 0", "line 3", "line 4",
           "line 5: frame 15, 2025-11-25T09:13:55.300001Z, entry 3"]
-# What the list says of each fault: of CALLS, and of LONG.
+# What the list says of each fault: of CALLS, and of LONG. The sentence on the fault of B in the second one only has the
+# words of its kind, which the page has with their section.
 FAULTS = [["B F12"], ["B F4", "A F8"], ["B F15"], ["A F10"]]
-OF_MARK = "It is a quiet mark, and a transaction of the end is surely open there. (the bench's word that all was quiet)"
+OF_ANSWER = "invocation 1 of updateLocation 2 was answered already, by the Return Result in this message"
+OF_ID = "its originating ID is d3; A's ID in this transaction is d2"
+OF_OPEN = "a transaction of B is open at this quiet mark: that from bb02, as in entry 1"
+OF_MARK = f"It is a quiet mark, and a transaction of the end is surely open there. (the bench's word that all was quiet) {OF_OPEN}"
 FAULT_WORDS = [
-    "line 5, frame 15: It answers an invocation that was answered already. (Q.774 3.2; Q.771, classes)",
-    "B line 5, Frame 812: Its end has ended this dialogue before. (Q.774 3.3) "
-    "A line 6: Its end has no transaction over which it may send it. (Q.774 3.3)",
-    f"line 4: {OF_MARK}",
-    "line 52, frames 21 to 23: It invokes an ID that is in use. (Q.774 3.2, invocations; Q.771, classes)",
+    f"line 5, frame 15: {OF_ANSWER}",
+    f"B line 5, Frame 812: Its end has ended this dialogue before. (Q.774 3.3) A line 6: {OF_ID}",
+    f"line 4: {OF_OPEN}",
+    "line 52, frames 21 to 23: not all invocations of ID 5 are over: 2 of them do not expire",
 ]
+NO_TABLE = "no table is for a dialogue without an application context name; give one with --table FILE"
 OF_RESULT = "ReturnResultLast 1 answers updateLocation 2"
 DUMP = """0000  64 12 49 04 0b 00 00 01  6c 0a a2 03 02 01 01 a2  d.I.....l.......
 0010  03 02 01 01                                       ...."""
@@ -134,6 +138,7 @@ def sums(checks, shown):
     checks.same("traces", rows[0], ["traces", "2", "1", "1", "1", "5"])
     checks.same("dialogues", rows[1], ["dialogues", "1", "3", "2", "31", "37"])
     checks.same("others", shown.text("#sums p"), "1,396 messages; 3 pass unheard or unanswered")
+    checks.same("the program", shown.text("#version"), f"Judged by tcapjudge {made.VERSION}")
     checks.same("notes", shown.texts("#notes p"), [])
 
 
@@ -208,7 +213,7 @@ def typed_search(checks, shown):
 
 def a_click(checks, shown):
     open_planted(shown)
-    checks.same("at first", heading(shown), "broken.hex error")
+    checks.same("at first", heading(shown), "calls.hex dialogue 0 fail")
     shown.click("#dialogues .row", 5)
     checks.same("the sixth", heading(shown), "long.hex dialogue 0 fail")
     checks.same("chosen", shown.texts("#dialogues .row[aria-selected=true] .name"), ["long.hex", "MAP"])
@@ -254,10 +259,11 @@ def ladder(checks, shown):
 def reasons(checks, shown):
     open_planted(shown, "#0")
     wanted = ["fail B: at entry 3, line 5, frame 15, F12. It answers an invocation that was answered already. "
-              "(Q.774 3.2; Q.771, classes)", "pass A: sent 2 messages, with 0 messages of its peer taken as unheard."]
+              f"(Q.774 3.2; Q.771, classes) {OF_ANSWER}", "pass A: sent 2 messages, with 0 messages of its peer taken as unheard."]
     checks.same("summaries", shown.texts(".summary"), wanted)
     lines = shown.texts(".reason .line")
-    checks.same("first line", lines[0], "entry 3 of B, component 1: it answers an invocation that was answered already")
+    wanted = [OF_ANSWER, "entry 3 of B, component 1: it answers an invocation that was answered already"]
+    checks.same("first lines", lines[:2], wanted)
     evidence = ["A: Invokes of 1 in this transaction: 0", "B: Return Results Last of 1 before it: 3"]
     checks.same("evidence", lines[-2:], evidence)
     shown.click(".reason .leap")
@@ -271,7 +277,7 @@ def reasons(checks, shown):
     shown.click(".summary .leap")
     checks.same("it leads to the mark", focus(shown), "between")
     open_planted(shown, "#3")
-    checks.same("an error", shown.text(".reasons"), "Why no table is for a dialogue without a context")
+    checks.same("an error", shown.text(".reasons"), f"Why {NO_TABLE}")
     open_planted(shown, "#5")
     checks.same("no message", shown.texts(".step .first")[1], "1 No message a component portion without content")
     checks.same("no lines", shown.texts(".step .place"), ["", ""])
@@ -290,7 +296,7 @@ def both_ends(checks, shown):
     checks.same("marks", shown.texts(".mark"), marks)
     lower = "fail B: at entry 3, line 5, Frame 812, F4. Its end has ended this dialogue before. (Q.774 3.3)"
     later = ("fail A: at entry 4, line 6, F8. Its end has no transaction over which it may send it. (Q.774 3.3) "
-             "It comes later and may follow from the first.")
+             f"It comes later and may follow from the first. {OF_ID}")
     checks.same("the lower entry first", shown.texts(".summary"), [lower, later])
     checks.same("so the reasons", shown.texts(".reasons h3"), ["Why, of B", "Why, of A"])
     shown.open(shown.put("both", made.page_with([made.open_at_both_ends()])))
@@ -319,7 +325,7 @@ def list_of_faults(checks, shown):
     checks.same("kinds", rows, [[], *FAULTS[:3], [], FAULTS[3], []])
     checks.same("words", shown.texts("#dialogues .faults"), FAULT_WORDS)
     others = [it for it in shown.texts("#dialogues .row") if "calls.hex dialogue 3" in it or "record.bin" in it]
-    checks.same("others", others, ["error calls.hex dialogue 3 no table is for a dialogue without a context A e5 B -", "inconc record.bin "
+    checks.same("others", others, [f"error calls.hex dialogue 3 {NO_TABLE} A e5 B -", "inconc record.bin "
                                    "dialogue 0 it is not found how it can have sent its part, and no entry of it is blamed A 0b99 B -"])
     titles = shown.run("[...document.querySelectorAll('#dialogues b')].map(it => it.title)")
     checks.same("title", titles[1], "Its end has ended this dialogue before. (Q.774 3.3)")
@@ -380,7 +386,7 @@ def keys(checks, shown):
     checks.same("Tab leads to the list", focus(shown), "dialogues")
     checks.same("the focus is seen", shown.run("getComputedStyle(document.activeElement).outlineStyle"), "solid")
     rows = [["broken.hex", "error"], *([name, "dialogue", str(number)] for name, number in ALL)]
-    for name, wanted in (("ARROW_DOWN", 1), ("END", 6), ("ARROW_UP", 5), ("HOME", 0), ("ARROW_UP", 0), ("PAGE_DOWN", 6)):
+    for name, wanted in (("ARROW_DOWN", 2), ("END", 6), ("ARROW_UP", 5), ("HOME", 0), ("ARROW_UP", 0), ("PAGE_DOWN", 6)):
         shown.press(getattr(Keys, name))
         active = shown.run("document.getElementById('dialogues').getAttribute('aria-activedescendant')")
         checks.same(f"{name}, its row", shown.run("document.getElementById(arguments[0]).dataset.at", active), str(wanted))

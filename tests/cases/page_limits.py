@@ -49,6 +49,7 @@ def stopped(checks, shown):
     note = ("This report is not whole: the run was stopped before its end. "
             "The sums are of the traces that were judged to their ends.")
     checks.same("without its total", shown.texts("#notes p"), [note])
+    checks.same("the program", shown.run("document.getElementById('version').offsetHeight"), 0)
     checks.same("sums of two traces", shown.texts("#sums tr:nth-child(2) > *"), ["traces", "1", "0", "0", "1", "2"])
     checks.same("what is listed", listed(shown)[-1], ("long.hex", 0))
     shown.click("#tab-traces")

@@ -42,23 +42,10 @@ PARTS = [
         ("Reject 6", "Reject id=6 error=9", "Reject 6 with return error problem 9"),
     ]),
 ]
-MISSING = "an AARE is missing: this is the first answer to a Begin with an AARQ"
-WHY = "element past its end; place 58 of the message"
-# Kinds of fault, the lines behind the first one of what is said of an end, and which fault of its kind it is.
-TOLD = [
-    ("F1", f"  why: {WHY}\n", WHY),
-    ("F6", "  A: Invokes of 1 from its destination ID: entry 0\n  invocation 1 in entry 0 is of ask 45, of class 1\n"
-           "  the result names tell 46\n", "the result names tell 46; invocation 1 in entry 0 is of ask 45, of class 1"),
-    ("F6", "  invocation 1 in entry 0 is of ask 45, of class 4, which allows no Return Result\n",
-     "invocation 1 in entry 0 is of ask 45, of class 4, which allows no Return Result"),
-    ("F6", "  ask 45 is of class 1, and a Unidirectional may invoke operations of class 4 alone\n",
-     "ask 45 is of class 1, and a Unidirectional may invoke operations of class 4 alone"),
-    ("F8", "  the transaction of A: began by its own Begin\n  B: Begins: none\n", "the transaction of A: began by its own Begin"),
-    ("F9", f"  the transaction of A: began by the peer's Begin\n  {MISSING}\n", MISSING),
-    ("F9", "  the AARE is one too many: a Continue was that\n", "the AARE is one too many: a Continue was that"),
-    ("F9", "  the ABRT is one too many: no AARQ\n", "the ABRT is one too many: no AARQ"),
-    ("F12", "  the transaction of A: began by its own Begin\n", ""),
-]
+# The sentences of the program on the rows of docs/RULES.md, each after its kind.
+SENTENCES = [it.split(": ", 1) for it in made.page.text_of("tests/cases/rule_sentences.txt").splitlines()]
+# Sentences that only have the words of their kinds.
+OF_KINDS = [["F3", "its end has used the originating ID"], ["F12", "it answers an invocation that was answered already"]]
 
 
 def operations(checks, shown):
@@ -86,27 +73,27 @@ def parts(checks, shown):
     checks.same("components", shown.run("[...document.querySelectorAll('.part')].map(it => it.textContent)"), wanted)
 
 
-def told_page(shown):
-    """Opens a page with a dialogue for each kind of TOLD."""
-    objects = []
-    for at, (kind, text, _) in enumerate(TOLD):
-        ends = {"A": made.blamed(0, kind, f"  entry 0 of A: the words of it\n{text}"), "B": made.pass_of(0)}
-        objects.append(made.dialogue("a.hex", at, "fail", [made.message(0, "A", "Begin", f"otid=a{at}", "")], f"a{at}", "", ends))
-    shown.open(shown.put("told", made.page_with(objects)))
-
-
 def which_fault(checks, shown):
-    """Which fault of its kind it is stands in the row and below the first line of what is said of the end; the search finds it."""
-    told_page(shown)
-    rows = shown.texts("#dialogues .faults")
-    for at, (kind, _, told) in enumerate(TOLD):
-        shown.click("#dialogues .row", at)
-        checks.same(f"{at}, {kind}", shown.run("[...document.querySelectorAll('.telling')].map(it => it.innerText)"), [told] * (told != ""))
-        checks.holds(f"{at}, its row: {rows[at]}", rows[at] == f"line 2: {told}" if told else "answered already" in rows[at])
-    for words, wanted in (("AARE missing", [5]), ("past its end", [0]), ("F6", [1, 2, 3]), ("f9 many", [6, 7]), ("F1", [0]), ("f12", [8]),
-                          ("58", []), ("words of", [*range(9)])):
+    """The sentence on a fault is in the row and in the headline of its dialogue, and the search finds it. If it only has
+    the words of the kind, these are there once, with the section."""
+    objects = []
+    for at, (kind, sentence) in enumerate([*SENTENCES, *OF_KINDS]):
+        ends = {"A": made.blamed(0, kind, f"  {sentence}\n  entry 0 of A: the words of its kind\n"), "B": made.pass_of(0)}
+        messages = [made.message(0, "A", "Begin", f"otid=a{at:03}", "")]
+        objects.append(made.dialogue("a.hex", at, "fail", messages, f"a{at:03}", "", ends))
+    shown.open(shown.put("told", made.page_with(objects)))
+    last = len(SENTENCES)
+    for at, (kind, sentence) in enumerate([*SENTENCES, *OF_KINDS]):
+        shown.run("location.hash = arguments[0]", f"#{at}")
+        shown.settle()
+        row, found = shown.text("#dialogues [aria-selected=true] .faults"), shown.texts(".sentence")
+        checks.same(f"{at}, {kind}", found, [sentence] if at < last else [])
+        checks.holds(f"{at}, its row: {row}", row == f"line 2: {sentence}" if at < last else sentence in row.lower() and "Q.77" in row)
+    for kind, words in (("F9", "AARE missing"), ("F9", "f9 only"), ("F1", "five messages"), ("F15", "quiet mark")):
         shown.choose("words", words)
+        wanted = [at for at, (it, sentence) in enumerate(SENTENCES) if it == kind and words.split()[-1] in sentence]
         checks.same(f"searched: {words}", [number for _, number in listed(shown)], wanted)
+        checks.holds(f"there are some: {words}", wanted)
 
 
 def as_often(checks, shown):

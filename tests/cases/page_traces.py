@@ -13,6 +13,17 @@ MISSING = [
     ("#trace=broken.hex&dialogue=0", "broken.hex error", "Dialogue 0 of this trace was not judged: 0 dialogues of it were."),
     ("#trace=passing.hex&dialogue=0", "passing.hex pass", "Dialogue 0 of this trace is not in this page: those that pass are only counted."),
 ]
+# The names of traces, and those that the lists have.
+SHORTENED = [
+    (["/home/x/night/a/calls.hex", "/home/x/night/b/calls.hex"], ["a/calls.hex", "b/calls.hex"]),
+    (["night/calls.hex"], ["calls.hex"]),
+    (["night/calls.hex", "night/calls.hex"], ["calls.hex", "calls.hex"]),
+    (["/a/x.hex", "/b/y.hex"], ["a/x.hex", "b/y.hex"]),
+    (["a/b", "a/b/c"], ["b", "b/c"]),
+    (["a/b/c", "a/b"], ["b/c", "b"]),
+    (["ab/x.hex", "a/x.hex"], ["ab/x.hex", "a/x.hex"]),
+    (["a/x.hex", "-"], ["a/x.hex", "-"]),
+]
 NOWHERE = [("#trace=nothing.hex&dialogue=0", "The trace nothing.hex is not in this page."),
            ("#99", "No dialogue of this page has the number in this link."), ("#t99", "No trace of this page has the number in this link.")]
 
@@ -21,7 +32,8 @@ def traces_in_error(checks, shown):
     """A trace that is an error by itself stands before the dialogues, and what became of its messages is said."""
     open_planted(shown)
     checks.same("the first row", shown.text("#dialogues .row"), "error broken.hex line 7: odd count of digits; column 9")
-    checks.same("at first", (heading(shown), shown.text("#shown .reason")), ("broken.hex error", "line 7: odd count of digits; column 9"))
+    shown.click("#dialogues .row")
+    checks.same("a click", (heading(shown), shown.text("#shown .reason")), ("broken.hex error", "line 7: odd count of digits; column 9"))
     checks.same("counts", shown.texts("#filters [name=verdict] option")[1], "error (2)")
     for chosen, wanted in (("broken", ["broken.hex"]), ("odd digits", ["broken.hex"]), ("long", [])):
         shown.choose("words", chosen)
@@ -83,7 +95,7 @@ def missing(checks, shown):
     # Nothing of the page is named.
     for fragment in ("#nothing", ""):
         open_planted(shown, fragment)
-        checks.same(f"{fragment!r}", heading(shown), "broken.hex error")
+        checks.same(f"{fragment!r}", heading(shown), "calls.hex dialogue 0 fail")
 
 
 def links_to_traces(checks, shown):
@@ -130,4 +142,63 @@ def layout(checks, shown):
     checks.same("keeps with what follows", kept, ["avoid"] * 4)
 
 
-CASES = [traces_in_error, counts_list, unheard, missing, links_to_traces, narrow_windows, layout]
+def first_shown(checks, shown):
+    """The first dialogue that fails is shown when the page is opened, unless the link leads elsewhere. If none fails, the
+    first row is shown."""
+    open_planted(shown)
+    checks.same("behind an error", (heading(shown), len(shown.all("#shown .detail"))), ("calls.hex dialogue 0 fail", 1))
+    checks.same("its row", shown.run("document.querySelector('#dialogues [aria-selected=true]').dataset.at"), "1")
+    waiting = [made.open_at_end() | {"dialogue": at} for at in range(200)]
+    fails = made.long_dialogue()
+    shown.open(shown.put("late", made.page_with([*waiting, made.trace("open.hex", "inconc", 200, inconc=200), fails])))
+    checks.same("behind many", (heading(shown), in_view(shown, "#dialogues [aria-selected=true]")), ("long.hex dialogue 0 fail", True))
+    shown.choose("verdict", "inconc")
+    checks.same("without it", heading(shown), "open.hex dialogue 0 inconc")
+    shown.open(shown.put("waits", made.page_with(waiting)))
+    checks.same("if none fails", heading(shown), "open.hex dialogue 0 inconc")
+    open_planted(shown, "#2")
+    checks.same("a link", heading(shown), "calls.hex dialogue 2 inconc")
+
+
+def folders(checks, shown):
+    """The lists leave out the folder that all traces are in; their titles and the headings have it."""
+    for names, wanted in SHORTENED:
+        objects = [it for name in names for it in (made.long_dialogue() | {"trace": name}, made.trace(name, "fail", 100, fail=1))]
+        shown.open(shown.put("folders", made.page_with(objects)))
+        rows = "[...document.querySelectorAll(arguments[0])].map(it => [it.textContent, it.title])"
+        titles = [[word, "" if word == name else name] for word, name in zip(wanted, names)]
+        checks.same(f"{names}, dialogues", shown.run(rows, "#dialogues .upper .name"), titles)
+        checks.same(f"{names}, traces", shown.run(rows, "#traces .upper .name") or titles, titles)
+        options = shown.run(rows, "#filters [name=trace] option:not(:first-child)")
+        checks.same(f"{names}, options", options, [[f"{word} (1)", title] for word, title in titles])
+        checks.same(f"{names}, the heading", heading(shown), f"{names[0]} dialogue 0 fail")
+        shown.choose("words", names[-1].upper())
+        checks.same(f"{names}, searched", [name for name, _ in listed(shown)], [wanted[-1]] * names.count(names[-1]))
+
+
+def end_names(checks, shown):
+    """What a trace says of its ends is in the headings and above the lifelines."""
+    names, long = {"A": "HLR of <b>the bench</b>\u202e", "B": "x" * 100}, "x" * 80 + "\u2026"
+    said = ["A is HLR of <b>the bench</b>\\u{202e}", f"B is {long}"]
+    objects = [made.answered_already(), made.trace("calls.hex", "fail", 4, fail=1, names=names),
+               made.long_dialogue(), made.trace("long.hex", "fail", 100, fail=1, names={"B": "MSC"}),
+               made.undecided(), made.trace("record.bin", "inconc", 2, inconc=1)]
+    address = shown.put("names", made.page_with([*objects, made.total(objects)]))
+    for fragment, ends, heads in (
+        ("#0", said, [f"{said[0].replace(' is', '')} 0b000001", f"B {long} 7f01"]), ("#1", ["B is MSC"], ["A f0", "B MSC f1"]),
+        ("#2", [], ["A 0b99", "B"]), ("#t0", said, []), ("#t2", [], []),
+    ):
+        shown.open(address + fragment)
+        checks.same(f"{fragment}, the heading", shown.texts("#shown .heading .end"), ends)
+        checks.same(f"{fragment}, the lifelines", shown.texts("#shown .heads span"), heads)
+        width = shown.run("(it => it.scrollWidth - it.clientWidth)(document.getElementById('shown'))")
+        checks.same(f"{fragment}, the width", width, 0)
+    shown.open(address)
+    checks.same("a long one", shown.run("document.querySelector('.heading .long .name').textContent"), names["B"])
+    checks.same("what opens it", shown.texts(".heading .long summary"), ["The whole name of B"])
+    # The names come after the dialogues.
+    shown.open(shown.put("behind", made.page_of(made.many(3000, each=3000, names=names))))
+    checks.same("of the first of many", shown.texts("#shown .heading .end"), said)
+
+
+CASES = [first_shown, folders, end_names, traces_in_error, counts_list, unheard, missing, links_to_traces, narrow_windows, layout]

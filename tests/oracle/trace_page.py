@@ -59,13 +59,15 @@ def shown(lines):
 
 
 def look_at_page(checks, page, found, text):
-    """Checks that the page has the lines of JSON of traces and of dialogues that do not pass, and then the sum."""
+    """Checks that the page has the lines of JSON of traces and of dialogues that do not pass, and then the sum, with the
+    version that the line of the run has."""
     # The last line is that of the run.
-    *lines, _ = [line for line in text.split("\n") if line]
+    *lines, ran = [line for line in text.split("\n") if line]
     checks.holds("JSON has nothing that means something to HTML", not TOLD_BY_NUMBER.search(text))
     wanted, left_out = shown(lines)
     *found, last = found or ["null"]
     checks.same("one report, and an end", (page.count('<script type="application/x-ndjson" id="report">\n'), page[-8:]), (1, "</html>\n"))
     checks.holds("the lines of the page are those of JSON", found == wanted)
     traces = [it for it in map(json.loads, lines) if "dialogue" not in it]
-    checks.same("the sum", json.loads(last), {"total": sum_of(traces), "left_out": left_out})
+    wanted = {"total": sum_of(traces), "left_out": left_out, "version": json.loads(ran)["version"]}
+    checks.same("the sum", json.loads(last), wanted)

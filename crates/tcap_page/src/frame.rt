@@ -6,7 +6,7 @@ pub const FRAME_HEAD: &str = r##"<!doctype html>
 <head>
 <meta charset="utf-8">
 <meta name="viewport" content="width=device-width, initial-scale=1">
-<meta http-equiv="Content-Security-Policy" content="default-src 'none'; base-uri 'none'; form-action 'none'; img-src data:; style-src 'sha256-b0zgqhZQcEiID3cAmXbQG5ZjidSJJ+1gn/Cjo2FQ6OU='; script-src 'sha256-WYHptVLNLCwU150nCZdjofgZcxE4+jo/Du+v1BQl5KY='">
+<meta http-equiv="Content-Security-Policy" content="default-src 'none'; base-uri 'none'; form-action 'none'; img-src data:; style-src 'sha256-pGEs1PkuiP9I2q6Z3MG7N5H82xG5Crjr7KwNfCQkkLw='; script-src 'sha256-7NrpOjj36mRyrQeJYgkdZBf3QmKZxA7KISThoNdPsIc='">
 <meta name="referrer" content="no-referrer">
 <title>TCAP dialogues, judged</title>
 <link rel="icon" href="data:,">
@@ -100,6 +100,8 @@ button:disabled { border-color: var(--rule); color: var(--muted); cursor: defaul
 header { display: flex; flex-wrap: wrap; gap: 6px 28px; align-items: center; padding: 8px 12px; }
 #sums { display: flex; flex-wrap: wrap; gap: 4px 20px; align-items: center; }
 #notes { display: grid; gap: 4px; }
+#version { overflow-wrap: anywhere; }
+#version:empty { display: none; }
 #kinds { min-width: 0; }
 #kinds[open] { flex-basis: 100%; }
 #kinds summary { cursor: pointer; }
@@ -171,7 +173,7 @@ article > button { justify-self: start; }
 .facts dd { overflow-wrap: anywhere; }
 .summary { font-weight: 600; }
 .summary .badge { min-width: 52px; text-align: center; }
-.telling { display: block; margin-left: 58px; font: 12px/1.5 var(--mono); overflow-wrap: anywhere; }
+.sentence { display: block; margin-left: 58px; font: 12px/1.5 var(--mono); overflow-wrap: anywhere; }
 .lister { padding: 0 2px; border: 0; background: none; text-decoration: underline; text-underline-offset: 2px; }
 .small .lister { color: inherit; }
 .beside { display: grid; grid-template-columns: minmax(0, 1fr); gap: 16px 24px; }
@@ -279,7 +281,7 @@ article > button { justify-self: start; }
   .lane.fault.right::after { right: 4px; }
   .part, .place { margin-left: 0; }
   .number { min-width: 0; }
-  .telling { margin-left: 0; }
+  .sentence { margin-left: 0; }
 }
 
 @media print {
@@ -320,6 +322,7 @@ article > button { justify-self: start; }
 <h1>TCAP dialogues, judged</h1>
 <div id="sums"><p>The report is being read.</p></div>
 <details id="kinds"><summary>The kinds of fault, F1 to F15</summary></details>
+<p id="version" class="small"></p>
 <noscript><p>It is shown by a script, which is not run here.</p></noscript>
 <div id="notes" role="status"></div>
 </header>
@@ -376,14 +379,6 @@ const KINDS = {
   F14: ["It is an Abort of the provider that answers nothing which is left.", "Q.774 3.3, abnormal procedures"],
   F15: ["It is a quiet mark, and a transaction of the end is surely open there.", "the bench's word that all was quiet"],
 };
-// The lines of a reason that identify the fault within its kind, the most telling ones first. docs/TRACES.md has
-// them, and docs/FORMAT.md has the line of F8.
-const TELLING = {
-  F1: [/^why: (.*)/],
-  F6: [/^(the result names .*)/, /^(.* and a Unidirectional may invoke .*)/, /^(invocation -?\d+ in entry \d+ is of .*)/],
-  F8: [/^(the transaction of [AB]: .*)/],
-  F9: [/^(an AARE is missing: .*)/, /^(the (?:AARE|ABRT) is one too many: .*)/],
-};
 const ENDS = ["A", "B"];
 const VERDICTS = ["error", "fail", "inconc", "pass"];
 const SVG = "http://www.w3.org/2000/svg";
@@ -414,10 +409,11 @@ function wordsOfKind(kind) {
   return `${words} (${section})`;
 }
 
-/** Returns, as one line, the lines of a reason that identify the fault within its kind; empty if there are none. */
-function tellingOf({kind, text}) {
-  const lines = text.split("\n").map((it) => it.trim());
-  return (TELLING[kind] ?? []).flatMap((form) => lines.map((it) => form.exec(it)?.[1])).filter((it) => it !== undefined).join("; ");
+/** Returns the sentence that identifies the fault within its kind: the first line of its text. If that has only the
+ * words of the kind, returns an empty text. */
+function sentenceOf({kind, text}) {
+  const [sentence] = text.trim().split("\n"), [words] = KINDS[kind] ?? [""];
+  return words.toLowerCase().startsWith(sentence.toLowerCase()) ? "" : sentence;
 }
 
 /** Returns in words how often something occurs, if it is more than once. */
@@ -451,10 +447,17 @@ function drawn(tag, attributes, ...children) {
   return filled(document.createElementNS(SVG, tag), attributes, children);
 }
 
-/** Returns a name from a trace, cut if it is long; its title has more of it. */
-function named(text, longest = LONG_NAME) {
-  const all = seen(text);
-  return make("bdi", {class: "name", title: all.length > longest ? cut(all, LONG_TITLE) : null}, cut(all, longest));
+/** Returns a name from a trace without the folder that it begins with, cut if it is long; and a title with more of the
+ * name, or null if nothing is left out. */
+function shortened(text, longest, folder) {
+  const all = seen(text), isWhole = folder === "" && all.length <= longest;
+  return [cut(seen(text.slice(folder.length)), longest), isWhole ? null : cut(all, LONG_TITLE)];
+}
+
+/** Returns an element with a name from a trace, without the folder that it begins with; its title has more of it. */
+function named(text, longest = LONG_NAME, folder = "") {
+  const [words, title] = shortened(text, longest, folder);
+  return make("bdi", {class: "name", title}, words);
 }
 
 /** Returns an element that opens to show a text from a trace, or null if the text is short. */
@@ -476,6 +479,8 @@ function badge(verdict) {
 const MESSAGES = ',"messages":[';
 // The words for dialogues that pass although an end did not hear everything or did not answer.
 const UNHEARD = "unheard or unanswered";
+// The names of ends of which a trace says nothing.
+const NO_NAMES = {};
 
 /** Returns the object in a line, or null if there is none. */
 function objectOf(line) {
@@ -593,6 +598,29 @@ function noCounts() {
   return Object.fromEntries(VERDICTS.map((it) => [it, 0]));
 }
 
+/** Returns what the directives of a trace say of its ends, of a trace or of a dialogue of it. The object of the trace
+ * has it, which comes after those of its dialogues. */
+function endNamesOf(item, report) {
+  const {head} = isTrace(item) ? item : report.traces[item.trace];
+  return head.names ?? NO_NAMES;
+}
+
+/** Returns the folder that all traces of a report are in, with a slash at its end, or an empty text. */
+function folderOf({traces}) {
+  const paths = traces.map(({head}) => head.trace.split("/"));
+  let shared = (paths[0] ?? []).slice(0, -1);
+  for (const path of paths) {
+    const end = shared.findIndex((it, at) => at >= path.length - 1 || path[at] !== it);
+    if (end >= 0) shared = shared.slice(0, end);
+  }
+  return shared.map((it) => `${it}/`).join("");
+}
+
+/** Returns the first dialogue that fails, or null if none does. */
+function firstFailing({dialogues}) {
+  return dialogues.find(({head}) => head.verdict === "fail") ?? null;
+}
+
 /** Returns the counts at the end of the report, or else those of the traces that have arrived. */
 function sumsOf(report) {
   if (report.total !== null) return report.total.total;
@@ -704,11 +732,12 @@ function tally(values) {
   return counts;
 }
 
-/** Fills a choice with `any` and an option for each pair of a value and words; null makes a disabled option. Keeps
- * the choice made. */
+/** Fills a choice with `any` and an option for each value with its words and, if there is one, its title; null makes a
+ * disabled option. Keeps the choice made. */
 function fillChoice(choice, options) {
   const {value} = choice;
-  const made = options.map(([it, words]) => make("option", {value: it, disabled: it === null ? "" : null}, words));
+  const made = options.map(([it, words, title]) =>
+    make("option", {value: it, disabled: it === null ? "" : null, title: title ?? null}, words));
   choice.replaceChildren(make("option", {value: ""}, "any"), ...made);
   choice.value = value;
 }
@@ -728,25 +757,29 @@ function tableOptions(dialogues) {
   return options.sort((one, other) => (one[1] < other[1] ? -1 : 1));
 }
 
-/** Returns the options for the first traces with dialogues in the report, and an option that counts the others. */
-function traceOptions(report) {
+/** Returns the options for the first traces with dialogues in the report, and an option that counts the others. The
+ * names of the traces begin with `folder`. */
+function traceOptions(report, folder) {
   const counts = [...tally(report.dialogues.map((it) => it.trace))], others = counts.length - MOST_OPTIONS;
-  const options = counts.slice(0, MOST_OPTIONS).map(([number, count]) =>
-    [String(number), `${cut(seen(report.traces[number].head.trace), LONG_NAME)} (${count})`]);
+  const options = counts.slice(0, MOST_OPTIONS).map(([number, count]) => {
+    const [words, title] = shortened(report.traces[number].head.trace, LONG_NAME, folder);
+    return [String(number), `${words} (${count})`, title];
+  });
   return others > 0 ? [...options, [null, `${others.toLocaleString("en")} more in the list of traces`]] : options;
 }
 
-/** Chooses a trace, and adds an option for it if there is none. */
-function chooseTrace(form, {number, head}) {
+/** Chooses a trace, whose name begins with `folder`, and adds an option for it if there is none. */
+function chooseTrace(form, {number, head}, folder) {
   const choice = form.elements.trace, value = String(number);
   if ([...choice.options].every((it) => it.value !== value)) {
-    choice.append(make("option", {value}, cut(seen(head.trace), LONG_NAME)));
+    const [words, title] = shortened(head.trace, LONG_NAME, folder);
+    choice.append(make("option", {value, title}, words));
   }
   choice.value = value;
 }
 
-/** Fills the filters with the values in the report. */
-function fillFilters(form, report) {
+/** Fills the filters with the values in the report. The names of its traces begin with `folder`. */
+function fillFilters(form, report, folder) {
   const {dialogues} = report;
   const verdicts = tally([...report.traces.filter(isInError), ...dialogues].map(({head}) => head.verdict));
   const ends = tally(dialogues.flatMap((it) => it.blamed));
@@ -756,7 +789,7 @@ function fillFilters(form, report) {
   fillChoice(end, ENDS.map((it) => [it, `${it} (${ends.get(it) ?? 0})`]));
   fillChoice(kind, kindOptions(dialogues));
   fillChoice(table, tableOptions(dialogues));
-  fillChoice(trace, traceOptions(report));
+  fillChoice(trace, traceOptions(report, folder));
 }
 
 /** Returns a term of the search. `part` is looked for in IDs, names and kinds; `line` is a line number, or null;
@@ -972,7 +1005,7 @@ function spanned(join, steps) {
   return {...join, spans: tied.length > 0 ? [[tied[0], tied.at(-1)]] : []};
 }
 
-/** Returns the ladder with this name. `count` is the number of all steps, and `heads` has the words above each
+/** Returns the ladder with this name. `count` is the number of all steps, and `heads` has what is above each
  * lifeline. */
 function ladder(name, heads, steps, given, count) {
   const joins = given.map((it) => spanned(it, steps));
@@ -984,7 +1017,7 @@ function ladder(name, heads, steps, given, count) {
     next = step.number + 1;
   }
   if (next < count) rows.push(gap(next, count - 1, joins));
-  const top = make("div", {class: "heads", "aria-hidden": "true"}, ...heads.map((it) => make("span", {}, it)));
+  const top = make("div", {class: "heads", "aria-hidden": "true"}, ...heads.map((it) => make("span", {}, ...it)));
   return make("div", {class: "ladder"}, top, make("ol", {"aria-label": name}, ...rows));
 }
 
@@ -1169,10 +1202,10 @@ function reasonOf(text, evidence) {
   return make("div", {class: "reason"}, ...lines.map((it) => reasonLine(it.slice(margin), evidence?.shows ?? [])));
 }
 
-/** Returns the lines of a reason that identify the fault within its kind, or null if there are none. */
-function tellingView(said) {
-  const telling = tellingOf(said);
-  return telling === "" ? null : make("span", {class: "telling"}, cut(seen(telling), LONG_TITLE));
+/** Returns the sentence that identifies the fault within its kind, or null if there is none. */
+function sentenceView(said) {
+  const sentence = sentenceOf(said);
+  return sentence === "" ? null : make("span", {class: "sentence"}, cut(seen(sentence), LONG_TITLE));
 }
 
 /** Returns the verdict on an end in one line. `before` is the entry at fault of the other end, if it has one. */
@@ -1180,7 +1213,8 @@ function summaryOf(end, said, before) {
   if (said.kind !== undefined) {
     const place = placeOfFault(said), later = before < said.entry ? " It comes later and may follow from the first." : "";
     const words = `${place === "" ? "" : `, ${place}`}, ${said.kind}. ${wordsOfKind(said.kind)}${later}`;
-    return make("p", {class: "summary"}, badge(said.verdict), ` ${end}: at entry `, leap(said.entry), words, tellingView(said));
+    return make("p", {class: "summary"}, badge(said.verdict), ` ${end}: at entry `, leap(said.entry), words,
+      sentenceView(said));
   }
   const words = said.verdict === "pass"
     ? `sent ${counted(said.sent, "message")}, with ${counted(said.unheard, "message")} of its peer taken as unheard.`
@@ -1233,12 +1267,17 @@ function factsOf(head) {
     fact("Entries", words), told.length > 0 ? fact("State", told.join("; ")) : null);
 }
 
-/** Returns the ladder of a dialogue, with a note if entries are not listed. */
-function ladderOf(dialogue) {
+/** Returns what is above the lifeline of an end: its letter, its name if it has one, and its IDs. */
+function lifelineHead(end, name, ids) {
+  return [`${end} `, name === undefined ? null : named(name), ` ${cut(ids.join(" "), LONG_NAME)}`];
+}
+
+/** Returns the ladder of a dialogue, with a note if entries are not listed. `names` has the names of its ends. */
+function ladderOf(dialogue, names) {
   const found = messagesOf(dialogue);
   if (found === null) return make("p", {class: "note"}, "The messages of this dialogue can't be read: its line is cut.");
   const joins = joinsOf(dialogue), {ids} = dialogue.head;
-  const heads = ENDS.map((end) => `${end} ${cut(ids[end].join(" "), LONG_NAME)}`);
+  const heads = ENDS.map((end) => lifelineHead(end, names[end], ids[end]));
   const operations = operationsIn(found.messages, reasonsIn(dialogue.head));
   const steps = withOperations(found.messages).map((it) => stepOf(it, operations));
   const count = dialogue.head.entries.length;
@@ -1247,21 +1286,29 @@ function ladderOf(dialogue) {
   return make("div", {}, note, ladder("The entries of the dialogue", heads, steps, joins, count));
 }
 
-/** Returns a heading with the name of a trace, which can be opened if it is long. */
-function headingOf(trace, words, verdict) {
-  const heading = make("h2", {tabindex: "-1"}, named(trace), words, verdict === null ? null : badge(verdict));
-  return make("div", {class: "heading"}, heading, opening("The whole name", trace));
+/** Returns a line for each end that has a name. A long name can be opened. */
+function endNamesView(names) {
+  return ENDS.filter((end) => names[end] !== undefined).flatMap((end) => [
+    make("p", {class: "end"}, make("b", {}, end), " is ", named(names[end])),
+    opening(`The whole name of ${end}`, names[end]),
+  ]);
 }
 
-/** Returns the view of a dialogue. The end at fault comes first; if both are, the one with the earlier entry at
- * fault. */
-function dialogueView(dialogue) {
+/** Returns a heading with the name of a trace, which can be opened if it is long, and the names of its ends. */
+function headingOf(trace, words, verdict, names) {
+  const heading = make("h2", {tabindex: "-1"}, named(trace), words, verdict === null ? null : badge(verdict));
+  return make("div", {class: "heading"}, heading, opening("The whole name", trace), ...endNamesView(names));
+}
+
+/** Returns the view of a dialogue, whose ends have these names. The end at fault comes first; if both are, the one with
+ * the earlier entry at fault. */
+function dialogueView(dialogue, names) {
   const {head, blamed} = dialogue;
   const ends = [...blamed, ...ENDS.filter((end) => head[end] !== undefined && !blamed.includes(end))];
   const made = make("article", {class: "dialogue", "aria-label": `Dialogue ${head.dialogue}`},
-    headingOf(head.trace, ` dialogue ${head.dialogue} `, head.verdict), factsOf(head),
+    headingOf(head.trace, ` dialogue ${head.dialogue} `, head.verdict, names), factsOf(head),
     ...ends.map((end) => summaryOf(end, head[end], head[otherEnd(end)]?.entry)),
-    make("div", {class: "beside"}, ladderOf(dialogue), reasonsOf(head, ends)));
+    make("div", {class: "beside"}, ladderOf(dialogue, names), reasonsOf(head, ends)));
   const there = new Set([...made.querySelectorAll(".step[data-entry]")].map((it) => it.dataset.entry));
   for (const it of made.querySelectorAll(".leap")) it.disabled = !there.has(it.dataset.to);
   return made;
@@ -1292,7 +1339,8 @@ function traceView(trace, count, enter, note) {
   const text = head.text === undefined ? null : make("div", {class: "reason"}, seen(`${head.text}${hint}`, KEPT));
   const button = make("button", {type: "button"}, `List its dialogues that do not pass (${count.toLocaleString("en")})`);
   button.addEventListener("click", enter);
-  return make("article", {class: "trace"}, headingOf(head.trace, " ", head.verdict), ...notes, text, traceSums(head),
+  return make("article", {class: "trace"},
+    headingOf(head.trace, " ", head.verdict, head.names ?? NO_NAMES), ...notes, text, traceSums(head),
     count > 0 ? button : null);
 }
 
@@ -1301,11 +1349,11 @@ function traceView(trace, count, enter, note) {
 // The number of IDs of an end in a row.
 const SOME_IDS = 4;
 
-/** Returns the fault of an end for the row of a dialogue: its place, and the lines that identify it, or else the
- * words of its kind. */
+/** Returns the fault of an end for the row of a dialogue: its place, and the sentence on it, or else the words of its
+ * kind. */
 function faultInRow(end, said, isAlone) {
   const place = [isAlone ? "" : end, placeOfFault(said)].filter((it) => it !== "").join(" ");
-  const kind = wordsOfKind(said.kind), words = cut(seen(tellingOf(said)), LONG_TITLE) || kind;
+  const kind = wordsOfKind(said.kind), words = cut(seen(sentenceOf(said)), LONG_TITLE) || kind;
   return make("span", {title: words === kind ? kind : `${kind} ${words}`}, place === "" ? words : `${place}: ${words}`);
 }
 
@@ -1315,14 +1363,14 @@ function undecidedInRow(head) {
   return make("span", {class: "lower"}, make("span", {}, cut(seen(text.trim().split("\n")[0]), LONG_TITLE)));
 }
 
-/** Returns the row of a dialogue. */
-function dialogueRow({head, blamed}) {
+/** Returns the row of a dialogue. The name of its trace begins with `folder`, which is left out. */
+function dialogueRow({head, blamed}, folder) {
   const ids = ENDS.map((end) => `${end} ${head.ids[end].slice(0, SOME_IDS).join(" ") || "-"}`).join("  ");
   const kinds = blamed.map((end) => make("b", {title: wordsOfKind(head[end].kind)}, `${end} ${head[end].kind}`));
   const faults = blamed.map((end) => faultInRow(end, head[end], blamed.length === 1));
   const number = make("span", {}, `dialogue ${head.dialogue}`);
   return [
-    make("span", {class: "upper"}, badge(head.verdict), ...kinds, named(head.trace), number),
+    make("span", {class: "upper"}, badge(head.verdict), ...kinds, named(head.trace, LONG_NAME, folder), number),
     faults.length > 0 ? make("span", {class: "lower faults"}, ...faults) : undecidedInRow(head),
     make("span", {class: "lower"}, make("code", {}, ids), head.table === undefined ? null : named(head.table)),
   ];
@@ -1334,19 +1382,19 @@ function countsIn({dialogues, unheard}) {
   return unheard > 0 ? [...counts, `${unheard.toLocaleString("en")} pass ${UNHEARD}`] : counts;
 }
 
-/** Returns the row of a trace. */
-function traceRow({head}) {
+/** Returns the row of a trace. Its name begins with `folder`, which is left out. */
+function traceRow({head}, folder) {
   const {trace, verdict, text} = head;
   const counts = verdict === null ? ["not judged to its end"] : countsIn(head);
   return [
-    make("span", {class: "upper"}, verdict === null ? null : badge(verdict), named(trace)),
+    make("span", {class: "upper"}, verdict === null ? null : badge(verdict), named(trace, LONG_NAME, folder)),
     make("span", {class: "lower"}, counts.length > 0 ? make("span", {}, counts.join(", ")) : null, text === undefined ? null : named(text)),
   ];
 }
 
 /** Returns the row of a dialogue, or of a trace among the dialogues. */
-function rowOf(item) {
-  return isTrace(item) ? traceRow(item) : dialogueRow(item);
+function rowOf(item, folder) {
+  return isTrace(item) ? traceRow(item, folder) : dialogueRow(item, folder);
 }
 
 // Links: the dialogue or trace that a fragment of the address leads to, and the fragment that leads to each.
@@ -1569,7 +1617,7 @@ function headOfEnd(end, of) {
 /** Returns the view of a run. */
 function runView(run) {
   const {title, of, count, text} = run, made = rowsOf(run), [word, more] = verdictOf(title);
-  const heads = ENDS.map((end) => headOfEnd(end, of));
+  const heads = ENDS.map((end) => [headOfEnd(end, of)]);
   const words = of === undefined ? null
     : fact("Judged", `${of} alone: nothing is asked of what ${otherEnd(of)} sends, nor of what it hears`);
   const why = text === undefined ? null : make("div", {class: "reasons"}, make("h3", {}, "Why"), reasonOf(text, null));
@@ -1636,6 +1684,11 @@ function notesOn({dialogues, total, unread, isRead}) {
   return notes.map((it) => make("p", {class: "note"}, it));
 }
 
+/** Returns the words on the program that judged, or an empty text if the report does not have its version. */
+function versionWords({total}) {
+  return total?.version === undefined ? "" : `Judged by tcapjudge ${seen(total.version)}`;
+}
+
 /** Returns the kinds of fault, each with its words. */
 function kindsView() {
   const rows = Object.keys(KINDS).map((kind) => make("div", {}, make("dt", {}, kind), make("dd", {}, wordsOfKind(kind))));
@@ -1650,11 +1703,14 @@ class Page {
     this.shown = byId("shown");
     this.lists = {
       dialogues: new RowList(byId("dialogues"),
-        {row: rowOf, chosen: (it) => this.choose(it), clicked: () => this.uncover(), entered: () => this.enter()}),
+        {row: (it) => rowOf(it, this.folder), chosen: (it) => this.choose(it), clicked: () => this.uncover(),
+          entered: () => this.enter()}),
       traces: new RowList(byId("traces"),
-        {row: traceRow, chosen: (it) => this.choose(it), clicked: () => this.uncover(), entered: (it) => this.listTrace(it)}),
+        {row: (it) => traceRow(it, this.folder), chosen: (it) => this.choose(it), clicked: () => this.uncover(),
+          entered: (it) => this.listTrace(it)}),
     };
     this.listed = {dialogues: [], inError: [], rows: [], traces: []};
+    this.folder = "";
     this.fragment = window.location.hash;
     byId("kinds").append(kindsView());
     this.hear();
@@ -1666,11 +1722,13 @@ class Page {
       this.showRun(this.report.run);
       return;
     }
-    fillFilters(this.form, this.report);
+    this.folder = folderOf(this.report);
+    fillFilters(this.form, this.report, this.folder);
     const list = (...what) => this.listBy(...what);
     if (this.report.isRead) byId("sums").replaceChildren(...sumsView(sumsOf(this.report), list));
     byId("notes").replaceChildren(...notesOn(this.report));
-    if (!this.isUsed) this.chosen = null;
+    byId("version").textContent = versionWords(this.report);
+    if (!this.isUsed) this.chosen = firstFailing(this.report);
     this.refresh();
     if (this.follow(this.fragment)) this.fragment = "";
   }
@@ -1747,7 +1805,7 @@ class Page {
   choose(item) {
     const {report} = this;
     if (this.listed.rows.includes(item)) this.chosen = item;
-    this.view(item, () => this.viewOf(item, ""));
+    this.view(item, () => this.viewOf(item, ""), endNamesOf(item, report));
     this.name(isTrace(item) ? fragmentOfTrace(item, report) : fragmentOf(item, report));
   }
 
@@ -1759,7 +1817,7 @@ class Page {
 
   /** Returns the view of a dialogue or a trace; `note` is a further note on a trace. */
   viewOf(item, note) {
-    if (!isTrace(item)) return dialogueView(item);
+    if (!isTrace(item)) return dialogueView(item, endNamesOf(item, this.report));
     const count = this.report.dialogues.filter((it) => it.trace === item.number).length;
     return traceView(item, count, () => this.listTrace(item), note);
   }
@@ -1792,10 +1850,10 @@ class Page {
     this.list().box.focus();
   }
 
-  /** Shows the view that `made` returns for an item, unless that item is shown already. */
-  view(item, made) {
-    if (item !== null && item === this.viewed) return;
-    this.viewed = item;
+  /** Shows the view that `made` returns for an item, unless that item is shown already with these names of its ends. */
+  view(item, made, names = NO_NAMES) {
+    if (item !== null && item === this.viewed && names === this.viewedNames) return;
+    Object.assign(this, {viewed: item, viewedNames: names});
     this.shown.replaceChildren(made());
     this.shown.scrollTop = 0;
   }
@@ -1862,7 +1920,7 @@ class Page {
       return;
     }
     this.form.reset();
-    chooseTrace(this.form, trace);
+    chooseTrace(this.form, trace, this.folder);
     this.refresh();
     this.turnTo("dialogues");
     this.list().box.focus();

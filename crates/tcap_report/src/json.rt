@@ -292,11 +292,11 @@ fn push_sum(json: &mut String, sum: &Sum) -> Result<(), AllocError> {
     json.push_str("}")
 }
 
-/// Appends the object of all traces in a page. `left_out` is the number of dialogues that do not pass and found no
-/// room.
+/// Appends the object of all traces in a page, without its closing `}`. `left_out` is the number of dialogues that do
+/// not pass and found no room.
 pub(crate) fn push_total(json: &mut String, sum: &Sum, left_out: u64) -> Result<(), AllocError> {
     push_sum(json, sum)?;
-    writeln!(json, ",\"left_out\":{left_out}}}")
+    write!(json, ",\"left_out\":{left_out}")
 }
 
 /// Appends the object of the run. `version` is that of the program.

@@ -6,7 +6,7 @@ use crate::sinks::write_text;
 use crate::sum::Sum;
 use std::alloc::Global;
 use tcap_ber::Write;
-use tcap_page::{FRAME_HEAD, FRAME_TAIL};
+use tcap_page::{FRAME_HEAD, FRAME_TAIL, push_named};
 
 /// The most dialogues in a page.
 const MOST: u64 = 10_000;
@@ -51,13 +51,15 @@ impl<'a, J: Write> Page<'a, J> {
         write_text(self.writer, line)
     }
 
-    /// Writes the object with the sum of all traces, and the rest of the frame.
+    /// Writes the object with the sum of all traces and the version of the program, and the rest of the frame.
     ///
     /// # Errors
     /// `Stop::Write` if the writer fails, `Stop::Memory` if memory runs out.
-    pub(crate) fn end(&mut self, alloc: Global, sum: &Sum) -> Result<(), Stop> {
+    pub(crate) fn end(&mut self, alloc: Global, sum: &Sum, version: &str) -> Result<(), Stop> {
         let mut line = String::new(alloc);
         push_total(&mut line, sum, self.left_out)?;
+        push_named(&mut line, "version", version)?;
+        line.push_str("}\n")?;
         self.write(&line)?;
         self.write(FRAME_TAIL)
     }

@@ -158,8 +158,8 @@ impl<W: Write, J: Lines, P> Sinks<'_, W, J, P> {
         Ok(())
     }
 
-    /// Ends the reports on all traces: writes the object of the run as JSON, and ends the page. `version` is that of
-    /// the program.
+    /// Ends the reports on all traces: writes the object of the run as JSON, and ends the page. Both have `version`,
+    /// which is that of the program.
     ///
     /// # Errors
     /// `Stop::Memory` if memory runs out, `Stop::Write` if a sink fails.
@@ -172,7 +172,7 @@ impl<W: Write, J: Lines, P> Sinks<'_, W, J, P> {
             write_text(*writer, &line)?;
         }
         match &mut self.page {
-            Some(page) => page.end(alloc, self.sum),
+            Some(page) => page.end(alloc, self.sum, version),
             None => Ok(()),
         }
     }
