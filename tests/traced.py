@@ -14,7 +14,7 @@ import sys
 import rooms  # noqa: F401
 from evidence import WORDS
 from tested import PROGRAM
-from trace_junit import OPEN, OPEN_AT_MARK, VERDICTS, in_order, look_at_junit
+from trace_junit import MOST_UNHEARD, OPEN, OPEN_AT_MARK, VERDICTS, blocks_of, in_order, is_unheard, look_at_junit, unnamed
 from trace_page import lines_in, look_at_page, sum_of
 from trace_rows import CAME_AGAIN, OPERATIONS
 
@@ -144,12 +144,6 @@ def counts(verdicts):
 def says_counts(text, found):
     """Returns whether a line of text has these counts of verdicts."""
     return ", ".join(f"{found[verdict]} {verdict}" for verdict in VERDICTS) in text
-
-
-def is_unheard(it):
-    """Returns whether a dialogue passes although an end did not hear all messages, or sent nothing."""
-    asked = [it[end] for end in "AB" if end in it]
-    return it["verdict"] == "pass" and any(it["ids"].values()) and any(of["unheard"] or not of["sent"] for of in asked)
 
 
 def look_by_schema(checks, report):
@@ -311,6 +305,67 @@ def look_at_names(checks, dialogues):
         judged.add(it["dialogue"])
 
 
+def place_of(spot):
+    """Returns the words for the line and the comment of an entry."""
+    line = f", line {spot['line']}" if spot["line"] else ""
+    return line + (f" ({as_printed(spot['comment'])})" if "comment" in spot else "")
+
+
+def as_printed(text):
+    """Returns a text without characters that a terminal may take for a command."""
+    return re.sub("[\x00-\x1f\x7f-\x9f]", "\ufffd", text)
+
+
+def line_of_passing(end, said):
+    """Returns the line on an end that passes unheard or unanswered, as a pattern: JSON has no kind of a message."""
+    line = f"  {end}: pass"
+    if said["unheard"]:
+        last, others = said["last_unheard"], said["unheard"] - 1
+        line += f", and may not have heard {'BA'[end == 'B']}'s KIND at entry {last['entry']} of the dialogue{place_of(last)}"
+        line += f", and {others} message{'s' * (others > 1)} before it" if others else ""
+    if not said["sent"]:
+        line += "; it sent nothing"
+    if "unanswered" in said:
+        begin = said["unanswered"]
+        line += f", and the dialogue waits for an answer of {end} to the Begin in entry {begin['entry']}{place_of(begin)}"
+    return re.escape(line).replace("KIND", "(Unidirectional|Begin|Continue|End|Abort)")
+
+
+def look_at_passing(checks, report, name, trace, dialogues):
+    """Checks that the text names the dialogues that pass unheard or unanswered, as far as they have room, and the ends
+    with the entries that JSON has."""
+    blocks, passing = blocks_of(report.text, name), [it for it in dialogues if is_unheard(it)]
+    named = [number for number, block in blocks.items() if block.split("\n")[0].endswith(": pass")]
+    checks.same("the named ones that pass", named, [it["dialogue"] for it in passing][:MOST_UNHEARD])
+    for it in passing[:MOST_UNHEARD]:
+        ends = [end for end in "AB" if end in it and (it[end]["unheard"] or not it[end]["sent"])]
+        wanted = [line_of_passing(end, it[end]) for end in ends]
+        wanted += [re.escape(f"  note: {note['text']}") for note in it.get("notes", [])[:8]]
+        found = blocks[it["dialogue"]].splitlines()[1:]
+        is_so = len(found) == len(wanted) and all(map(re.fullmatch, wanted, found))
+        checks.same("the lines on what passes", found, found if is_so else wanted)
+    found = [line for line in report.text.splitlines() if line.startswith(f"{name}: and ")]
+    wanted = [f"{name}: {line}" for line in unnamed(trace["unheard"]).splitlines()]
+    checks.same("the others that pass", found, wanted)
+
+
+def look_at_spots(checks, dialogues):
+    """Checks which ends have an entry that their run shows, and that its line is that of the entry."""
+    for it in dialogues:
+        lines = [*it["lines"], *it.get("mark", [])[1:]]
+        for end in "AB":
+            said = it.get(end, {})
+            is_passing, reason = said.get("verdict") == "pass", said.get("reason")
+            checks.same("a last unheard one", "last_unheard" in said, (is_passing and said["unheard"] > 0) or reason == "unheard")
+            checks.same("a stop", "stopped_at" in said, reason == "undecided")
+            checks.holds("what is unanswered", "unanswered" not in said or (is_passing and said["sent"] == 0))
+            for spot in [said[key] for key in ("last_unheard", "stopped_at", "unanswered") if key in said]:
+                checks.same("a line", spot["line"], lines[spot["entry"]] if spot["entry"] < len(lines) else 0)
+                checks.holds("its place in the text", reason is None or said["text"].endswith(f"entry {spot['entry']} of the dialogue{place_of(spot)}\n"))
+        for note in it.get("notes", []):
+            checks.same("the line of a note", note["line"], lines[note["entry"]])
+
+
 @functools.cache
 def version():
     """Returns what the program prints as its version, without its name."""
@@ -338,6 +393,8 @@ def agree(checks, report):
         look_at_names(checks, report.dialogues[name])
         look_at_texts(checks, report.dialogues[name])
         look_at_reasons(checks, report.dialogues[name])
+        look_at_spots(checks, report.dialogues[name])
+        look_at_passing(checks, report, name, trace, report.dialogues[name])
     verdicts = [it["verdict"] for it in report.traces.values()]
     checks.same("status", report.status, STATUS[worst(verdicts)])
     front, *rest = report.text.splitlines()[-1].split(";")

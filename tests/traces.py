@@ -1,7 +1,8 @@
 """Runs the built program's word `test` over traces. The rows of trace_rows.py, trace_again.py, trace_broken.py and
 trace_doubts.py have the verdicts on each trace. trace_files.py has cases of files, lines, comments and words,
 trace_outputs.py of written files, trace_messages.py of the messages of dialogues, trace_words.py of the words about a
-fault, trace_waits.py of what an open dialogue waits for, and trace_testcases.py of the testcases of JUnit XML. Then
+fault, trace_waits.py of what an open dialogue waits for, trace_unheard.py of dialogues that pass unheard and of notes,
+and trace_testcases.py of the testcases of JUnit XML. Then
 come traces of random dialogues: for each dialogue, as trace_cut.py cuts it, `test` must give the verdict that `blame`
 gives for the record of that dialogue alone. And nobody may fail in the traces of lawful_traces.py, whose ends keep the
 rules. All JSON is checked against docs/report.schema.json if python's jsonschema is installed, and all JUnit XML with
@@ -27,11 +28,12 @@ import trace_messages
 import trace_outputs
 import trace_rows
 import trace_testcases
+import trace_unheard
 import trace_waits
 import trace_words
 from trace_cut import Segment
 from trace_rows import BEHIND, UNDECIDED, lines
-from traced import Checks, Report, agree, in_order, look_at_end, look_at_messages, missing, put, run, worst
+from traced import Checks, Report, agree, in_order, is_unheard, look_at_end, look_at_messages, missing, put, run, worst
 
 RANDOM_TRACES, SIDE_BY_SIDE = 30, 4
 # How a random trace is cut: the words, and how many entries a dialogue lingers. IDs are used once, or may come again;
@@ -99,7 +101,7 @@ def look_at_row(checks, row, report, path, has_lines):
 
 
 def blocks(text):
-    """Returns the text for each dialogue that does not pass: its lines, by its number."""
+    """Returns the text for each dialogue that it names: its lines, by its number."""
     found, now = {}, None
     for line in text.splitlines():
         at = re.match(r".*: dialogue (\d+)", line)
@@ -111,10 +113,11 @@ def blocks(text):
 
 
 def look_at_text(checks, row, report, path):
-    """Checks the text: it has a block for each dialogue that does not pass, with the ends that do not."""
+    """Checks the text: it has a block for each dialogue that does not pass, with the ends that do not, and for each that
+    passes unheard or unanswered."""
     found, said = sorted(report.dialogues[path], key=lambda it: it["entries"]), blocks(report.text)
-    wrong = sorted(it["dialogue"] for it in found if it["verdict"] != "pass")
-    checks.same("the dialogues in the text", sorted(said), wrong)
+    named = sorted(it["dialogue"] for it in found if it["verdict"] != "pass" or is_unheard(it))
+    checks.same("the dialogues in the text", sorted(said), named)
     for it, want in zip(found, sorted(row.dialogues, key=lambda it: it.entries)):
         block = said.get(it["dialogue"], "")
         for word in want.says:
@@ -222,10 +225,12 @@ class Alone:
         is_live = bool(cut.ids) and not cut.is_over
         # With a table with prearranged ends it may have ended in silence before the mark.
         self.is_open = is_live and not (is_marked and table.prearranged)
-        self.said = blamed(folder, b"".join(octets) + b"Q" * (is_marked and is_live))
+        self.record = b"".join(octets) + b"Q" * (is_marked and is_live)
+        self.said = blamed(folder, self.record)
         # Nothing after an entry that is no message is looked at.
         looked_at = [it[1] for it in self.said.values() if it[0] == "not blamed" and it[1] < len(octets)]
-        self.before = blamed(folder, b"".join(octets[: looked_at[0]])) if looked_at else {}
+        self.record = b"".join(octets[: looked_at[0]]) if looked_at else self.record
+        self.before = blamed(folder, self.record) if looked_at else {}
         self.was_open = self.why_open()
 
     def why_open(self):
@@ -308,14 +313,14 @@ class RandomTrace:
 
     def wanted(self, folder, flags, linger):
         """Yields the wanted dialogues: the numbers of their entries, their IDs, how they are cut, whether they are
-        open, and the verdict on each end."""
+        open, the verdict on each end, and the record of what each end is judged by."""
         cuts = trace_cut.cut(self.segments, "once" in flags, linger)
         for first, headed, marked, dialogues in zip(self.first, self.headed, self.marked, cuts):
             for cut in dialogues:
                 alone = Alone(folder, self.table, headed, cut, marked, flags == SETTLED)
                 ids = {end: sorted(id.hex() for of, id in cut.ids if of == end) for end in "AB"}
                 ends = {end: alone.wanted(end) for end in "AB"}
-                yield [first + number for number in cut.numbers], ids, cut, alone.is_open, ends
+                yield [first + number for number in cut.numbers], ids, cut, alone.is_open, ends, alone.record
 
 
 def look_at_in_use(checks, name, end, cut):
@@ -323,6 +328,22 @@ def look_at_in_use(checks, name, end, cut):
     named = re.search("ID ([0-9a-f]+) of ([AB]) was in use before it", end.get("doubt", end.get("text", "")))
     if named:
         checks.holds(f"{name}, {named[0]}", (named[2], bytes.fromhex(named[1])) in cut.in_use)
+
+
+def look_at_shown(checks, name, folder, record, end, said):
+    """Checks the entry that is named as the last unheard one, or as that at which the search for a run stopped, by the
+    run that `explain` prints for that end. Returns whether one is named."""
+    if not {"last_unheard", "stopped_at"} & {*said}:
+        return False
+    text = run(["explain", "--end", end, put(folder, "one", record), f"{folder}/table.json"]).stdout.decode()
+    if "stopped_at" in said:
+        checks.same(f"{name}, the stop", text.split()[:2], ["UNDECIDED", str(said["stopped_at"]["entry"])])
+        return True
+    unheard = re.findall(rf"^  (\d+) is taken as lost before {end}$", text, re.MULTILINE)
+    unheard += re.findall(rf"^  {end} could not receive (\d+): ", text, re.MULTILINE)
+    found = len(unheard), max(map(int, unheard), default=None)
+    checks.same(f"{name}, the last unheard one", found, (said["unheard"], said["last_unheard"]["entry"]))
+    return True
 
 
 def look_at_random(seed, folder):
@@ -338,7 +359,7 @@ def look_at_random(seed, folder):
         wanted = [*made.wanted(folder, flags, linger)]
         found = sorted(report.dialogues[path], key=lambda it: it["entries"])
         checks.same(f"{flags}, dialogues", [it["entries"] for it in found], [it[0] for it in wanted])
-        for it, (entries, ids, cut, is_open, ends) in zip(found, wanted):
+        for it, (entries, ids, cut, is_open, ends, record) in zip(found, wanted):
             name = f"{flags}, {entries}"
             checks.same(f"{name}, IDs", {end: sorted(it["ids"][end]) for end in "AB"}, ids)
             checks.same(f"{name}, again and open", (it["again"], it["open"]), (cut.again, is_open))
@@ -346,6 +367,7 @@ def look_at_random(seed, folder):
             for end, said in ends.items():
                 look_at_end(checks, f"{name}, {end}", it[end], said)
                 look_at_in_use(checks, f"{name}, {end}", it[end], cut)
+                seen["with an entry that a run shows"] += look_at_shown(checks, f"{name}, {end}", folder, record, end, it[end])
             checks.same(f"{name}, verdict", it["verdict"], worst([said.split()[0] for said in ends.values()]))
             look_at_messages(checks, folder, it, lines(*made.text))
             seen[it["verdict"]] += 1
@@ -379,7 +401,7 @@ def main():
     # The longest cases begin first.
     jobs = [*lawful_traces.jobs(seed), *((look_at_random, seed * 1000 + number) for number in range(RANDOM_TRACES))]
     jobs += [*trace_files.jobs(), *trace_outputs.jobs(), *trace_messages.jobs(), *trace_words.jobs(), *trace_waits.jobs()]
-    jobs += trace_testcases.jobs()
+    jobs += [*trace_testcases.jobs(), *trace_unheard.jobs()]
     jobs += [(look_at, row) for row in trace_rows.ROWS + trace_again.ROWS + trace_broken.ROWS + trace_doubts.ROWS]
     passed, failed, seen = 0, 0, collections.Counter()
     with concurrent.futures.ThreadPoolExecutor(SIDE_BY_SIDE) as pool:

@@ -6,8 +6,9 @@ import re
 import xml.etree.ElementTree
 
 VERDICTS = ["pass", "inconc", "fail", "error"]
-# The length that no message of a testcase exceeds, and the most dialogues whose lines its text has.
-LONGEST, MOST_TOLD = 600, 20
+# The length that no message of a testcase exceeds, the most dialogues whose lines its text has, and the most dialogues
+# of a trace that pass unheard or unanswered and are named.
+LONGEST, MOST_TOLD, MOST_UNHEARD = 600, 20, 20
 # The attributes that the elements of JUnit's XML have, and the elements in them. Jenkins' schema allows all of these.
 JUNIT = {
     "testsuites": ({"tests", "failures", "errors"}, {"testsuite"}),
@@ -49,6 +50,8 @@ def headline(it):
 def headline_of(it, end):
     """Returns the part of the message for an end."""
     said, words = it[end], it[end].get("text", "").split("\n")[0]
+    # The message leaves out the comment above an entry, whose length is not limited.
+    words = re.sub(r"((?:stopped at|last unheard one is) [^(]*?) \(.*\)$", r"\1", words)
     behind = re.match(r"entry (\d+) of the dialogue.* (is no message that .*)", words)
     at = int(behind[1]) if behind else said.get("entry")
     # The mark that ends a dialogue is the last of its entries.
@@ -76,8 +79,21 @@ def told_of(dialogues):
     return told
 
 
+def is_unheard(it):
+    """Returns whether a dialogue passes although an end did not hear all messages, or sent nothing."""
+    asked = [it[end] for end in "AB" if end in it]
+    return it["verdict"] == "pass" and any(it["ids"].values()) and any(of["unheard"] or not of["sent"] for of in asked)
+
+
+def unnamed(count):
+    """Returns the line on the dialogues that pass unheard or unanswered and are not named."""
+    others = count - MOST_UNHEARD
+    thing = "dialogue passes" if others == 1 else "dialogues pass"
+    return f"and {others} more {thing} unheard or unanswered\n" if others > 0 else ""
+
+
 def blocks_of(text, name):
-    """Returns the lines of the text on each dialogue of a trace that does not pass, by the dialogue's number."""
+    """Returns the lines of the text on each dialogue of a trace that it names, by the dialogue's number."""
     blocks = re.split(f"^(?={re.escape(name)}: )", text, flags=re.MULTILINE)
     found = [(re.match(r"dialogue (\d+)", block[len(name) + 2 :]), block) for block in blocks]
     return {int(number[1]): block for number, block in found if number}
@@ -102,7 +118,9 @@ def look_at_testcase(checks, report, name, case):
     count = [f"{number} {thing}{'s' * (number != 1)}" for number, thing in ((trace["messages"], "message"), (sum(found.values()), "dialogue"))]
     of = ", ".join(f"{found[verdict]} {verdict}" for verdict in VERDICTS)
     out = f"{', '.join(count)}: {of}; {trace['unheard']} pass unheard or unanswered\n"
-    checks.same("its counts", [it.text for it in case.findall("system-out")], [out])
+    passing = [it["dialogue"] for it in report.dialogues[name] if is_unheard(it)][:MOST_UNHEARD]
+    out += as_xml("".join(blocks[number] for number in passing), "") + unnamed(trace["unheard"])
+    checks.same("its counts, and what passes unheard", [it.text for it in case.findall("system-out")], [out])
 
 
 def names_of(paths):

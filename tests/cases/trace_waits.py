@@ -113,7 +113,7 @@ def waits(case, folder):
         for it in path, record:
             look_at_waits(checks, Report(folder, ["--complete", *words], [it]), it, case, of)
     passing = Report(folder, [], [path])
-    checks.same("nothing of it without --complete", ("waits" in passing.text, "text" in passing.dialogues[path][0]), (False, False))
+    checks.same("nothing of it without --complete", ("it waits" in passing.text, "text" in passing.dialogues[path][0]), (False, False))
     return checks
 
 

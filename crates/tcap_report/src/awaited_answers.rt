@@ -1,11 +1,12 @@
-//! The answers that an open dialogue waits for.
+//! The answers that a dialogue waits for.
 
+use crate::places::push_place;
 use std::alloc::{AllocError, Global};
 use tcap_end::reports;
 use tcap_msg::{Kind as Form, Message, MessageParts};
 use tcap_parts::ComponentView;
 use tcap_record::{Body, End, Entry};
-use tcap_traces::JudgedDialogue;
+use tcap_traces::{Case, JudgedDialogue};
 
 /// The most answers that are listed.
 const MOST: usize = 8;
@@ -138,23 +139,27 @@ fn all_waits(alloc: Global, judged: &JudgedDialogue) -> Result<Vec<Wait>, AllocE
     Ok(waits)
 }
 
-/// Appends one answer that the dialogue waits for; without one, that it waits for its end.
-fn push_wait(text: &mut String, wait: Option<Wait>) -> Result<(), AllocError> {
-    let Some(
-        Wait {
-            of,
-            entry,
-            invocation,
-        },
-    ) = wait
-    else {
-        return text.push_str("it waits for an End or an Abort");
-    };
-    text.push_str("it waits for an answer of ")?;
+/// Appends an answer that is waited for.
+fn push_awaited(text: &mut String, wait: Wait) -> Result<(), AllocError> {
+    let Wait {
+        of,
+        entry,
+        invocation,
+    } = wait;
+    text.push_str("waits for an answer of ")?;
     text.push_str(of.letter())?;
     match invocation {
         Some(id) => write!(text, " to invocation {id} in entry {entry}, of class 1"),
         None => write!(text, " to the Begin in entry {entry}"),
+    }
+}
+
+/// Appends one answer that the dialogue waits for; without one, that it waits for its end.
+fn push_wait(text: &mut String, wait: Option<Wait>) -> Result<(), AllocError> {
+    text.push_str("it ")?;
+    match wait {
+        Some(wait) => push_awaited(text, wait),
+        None => text.push_str("waits for an End or an Abort"),
     }
 }
 
@@ -195,4 +200,47 @@ pub(crate) fn push_first_wait(
 ) -> Result<(), AllocError> {
     let waits = all_waits(alloc, judged)?;
     push_wait(text, waits.last().copied())
+}
+
+/// Returns the first Begin of its peer that an end owes an answer.
+fn first_unanswered(
+    alloc: Global,
+    judged: &JudgedDialogue,
+    of: End,
+) -> Result<Option<Wait>, AllocError> {
+    let waits = all_waits(alloc, judged)?;
+    for wait in waits.iter().rev() {
+        if wait.of == of && wait.invocation.is_none() {
+            return Ok(Some(*wait));
+        }
+    }
+    Ok(None)
+}
+
+/// Returns the number of the first Begin of its peer to which an end sent no answer, if there is one.
+pub(crate) fn unanswered_by(
+    alloc: Global,
+    judged: &JudgedDialogue,
+    end: End,
+) -> Result<Option<u64>, AllocError> {
+    match first_unanswered(alloc, judged, end)? {
+        Some(wait) => Ok(Some(wait.entry as u64)),
+        None => Ok(None),
+    }
+}
+
+/// Appends to a line that the dialogue waits for the answer of an end to a Begin, if it does.
+pub(crate) fn push_unanswered(
+    alloc: Global,
+    text: &mut String,
+    case: &Case,
+    judged: &JudgedDialogue,
+    end: End,
+) -> Result<(), AllocError> {
+    let Some(wait) = first_unanswered(alloc, judged, end)? else {
+        return Ok(());
+    };
+    text.push_str(", and the dialogue ")?;
+    push_awaited(text, wait)?;
+    push_place(alloc, text, case, wait.entry as u64)
 }

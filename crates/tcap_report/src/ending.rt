@@ -10,6 +10,7 @@ use crate::fault::{FormFault, Stop};
 use crate::sinks::{Lines, Sinks, TraceSummary, write_text};
 use crate::sum::{Sum, push_counts};
 use crate::trace::{Trace, TraceOptions};
+use crate::unheard::push_unnamed;
 use crate::watch::Watch;
 use std::alloc::{AllocError, Global};
 use tcap_ber::Write;
@@ -83,6 +84,7 @@ impl Trace<'_> {
         let mut why = String::new(self.alloc);
         push_fault(&mut why, &fault, self.readable)?;
         let mut line = String::new(self.alloc);
+        self.push_others(&mut line)?;
         self.push_line(&mut line, verdict, &why)?;
         push_hint(&mut line, hint)?;
         write_text(sinks.text, &line)?;
@@ -120,6 +122,13 @@ impl Trace<'_> {
             Some(text) => self.end(Some(FormFault { line: None, text }), None, sinks),
             None => self.end(None, None, sinks),
         }
+    }
+
+    /// Appends a line with the number of dialogues that pass unheard or unanswered and are not named, if there are any.
+    fn push_others(&self, text: &mut String) -> Result<(), AllocError> {
+        let mut before = String::from_str(self.alloc, self.name)?;
+        before.push_str(": ")?;
+        push_unnamed(text, &before, self.unheard)
     }
 
     /// Appends the line of the trace: its name, its verdict, `why` and its counts.

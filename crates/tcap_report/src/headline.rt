@@ -7,7 +7,7 @@ use crate::doubt_words::{line_of, push_doubt, push_said};
 use crate::grounds::Grounds;
 use crate::order::{in_order, is_asked};
 use crate::reason::push_alternative;
-use crate::text::no_table_words;
+use crate::text::{no_table_words, push_shown_by_run};
 use std::alloc::{AllocError, Global};
 use tcap_record::End;
 use tcap_refute::Refutation;
@@ -67,7 +67,11 @@ fn push_end(
             text.push_str("; ")?;
             push_first_wait(alloc, text, judged)
         }
-        _ => push_said(alloc, text, case, said),
+        _ => {
+            push_said(alloc, text, case, said)?;
+            let shown = grounds.shown_by_run(end);
+            push_shown_by_run(alloc, text, case, judged, said, shown, false)
+        }
     }
 }
 

@@ -3,12 +3,14 @@
 //!
 //! Each function returns `AllocError` if memory runs out.
 
-use crate::awaited_answers::push_waiting;
+use crate::awaited_answers::{push_waiting, unanswered_by};
+use crate::context_notes::push_array;
 use crate::doubt_words::{comment_of, ids_of, line_of, push_doubt};
 use crate::fields::{push_some, push_sums, push_verdicts};
 use crate::grounds::Grounds;
 use crate::messages::push_messages;
 use crate::order::{is_asked, last_open};
+use crate::places::push_spot;
 use crate::reason::{push_alternative, push_reason};
 use crate::reason_codes::reason_code;
 use crate::sinks::TraceSummary;
@@ -149,6 +151,14 @@ fn id_of(id: Option<i8>) -> Option<i64> {
     }
 }
 
+/// Returns the name of the field with the entry that the run of an end shows for a result.
+fn shown_name(said: EndResult) -> &'static str {
+    match said {
+        EndResult::Undecided => "stopped_at",
+        _ => "last_unheard",
+    }
+}
+
 /// Appends the result for an end.
 fn push_end(
     alloc: Global,
@@ -169,6 +179,11 @@ fn push_end(
         EndResult::Pass(unheard) => {
             let sent = sent_by(&judged.record, end);
             write!(json, ",\"unheard\":{unheard},\"sent\":{sent}")?;
+            push_spot(alloc, json, "last_unheard", case, grounds.shown_by_run(end))?;
+            if sent == 0 {
+                let begin = unanswered_by(alloc, judged, end)?;
+                push_spot(alloc, json, "unanswered", case, begin)?;
+            }
         }
         EndResult::Fail(at) => push_blamed(alloc, json, case, judged, end, at, grounds)?,
         EndResult::Doubtful(at, doubt) => {
@@ -178,9 +193,11 @@ fn push_end(
             push_named(json, "doubt", &text)?;
         }
         _ => {
+            let shown = grounds.shown_by_run(end);
             let mut text = String::new(alloc);
-            push_undecided(alloc, &mut text, case, said)?;
+            push_undecided(alloc, &mut text, case, judged, said, shown)?;
             push_named(json, "text", &text)?;
+            push_spot(alloc, json, shown_name(said), case, shown)?;
         }
     }
     json.push_str("}")
@@ -254,6 +271,7 @@ pub(crate) fn push_case(
     push_flag(json, "again", case.gathered.earlier.is_some())?;
     push_flag(json, "marked", case.is_marked())?;
     push_ends(alloc, json, case, judged, of, grounds)?;
+    push_array(alloc, json, case, judged)?;
     if judged.verdict != Verdict::Pass {
         push_messages(alloc, json, case, judged, grounds)?;
     }

@@ -6,6 +6,7 @@ use crate::grounds::Grounds;
 use crate::headline::push_headline;
 use crate::sinks::TraceSummary;
 use crate::sum::{Counts, push_counts};
+use crate::unheard::push_unnamed;
 use crate::xml::{push_text, push_value};
 use std::alloc::{AllocError, Global};
 use tcap_record::End;
@@ -35,6 +36,8 @@ pub struct Junit {
     headline: String,
     // The lines of the dialogues of the current trace that do not pass, as far as they have room.
     dialogues: Vec<String>,
+    // The lines of the dialogues of the current trace that pass unheard or unanswered and are named.
+    passing: String,
 }
 
 /// The XML of a run that did not end: one error.
@@ -123,6 +126,7 @@ impl Junit {
             worst: Verdict::Pass,
             headline: String::new(alloc),
             dialogues: Vec::new(alloc),
+            passing: String::new(alloc),
         }
     }
 
@@ -140,7 +144,7 @@ impl Junit {
         Ok(())
     }
 
-    /// Adds a dialogue of the current trace that does not pass, with the lines on it.
+    /// Adds a dialogue of the current trace that does not pass, or passes unheard or unanswered, with the lines on it.
     pub(crate) fn add_dialogue(
         &mut self,
         case: &Case,
@@ -149,6 +153,9 @@ impl Junit {
         grounds: &Grounds,
         lines: &str,
     ) -> Result<(), AllocError> {
+        if judged.verdict == Verdict::Pass {
+            return self.passing.push_str(lines);
+        }
         let worst = self.worst.worse(judged.verdict);
         let is_worse = worst != self.worst;
         if is_worse {
@@ -197,10 +204,13 @@ impl Junit {
             &returned.dialogues,
             returned.unheard,
         )?;
+        push_text(xml, &self.passing)?;
+        push_unnamed(xml, "", returned.unheard)?;
         xml.push_str("</system-out>\n    </testcase>\n")?;
         self.worst = Verdict::Pass;
         self.headline = String::new(self.alloc);
         self.dialogues = Vec::new(self.alloc);
+        self.passing = String::new(self.alloc);
         Ok(())
     }
 

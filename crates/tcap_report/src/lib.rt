@@ -4,8 +4,10 @@
 
 mod awaited_answers;
 mod case_names;
+mod context_notes;
 mod doubt_words;
 mod end_names;
+mod end_runs;
 mod ending;
 mod fault;
 mod fields;
@@ -19,6 +21,8 @@ mod messages;
 mod no_message;
 mod order;
 mod page;
+mod passing;
+mod places;
 mod reason;
 mod reason_codes;
 mod run;

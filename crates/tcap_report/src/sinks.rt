@@ -70,7 +70,8 @@ pub(crate) fn write_text<W: Write>(writer: &mut W, text: &str) -> Result<(), Sto
 }
 
 impl<W: Write, J: Lines, P> Sinks<'_, W, J, P> {
-    /// Reports the verdict on a dialogue. The text, the page and JUnit XML have only dialogues that do not pass.
+    /// Reports the verdict on a dialogue. The page has only dialogues that do not pass; the text and JUnit XML also have
+    /// those that pass and are named.
     pub(crate) fn report_case(
         &mut self,
         alloc: Global,
@@ -79,14 +80,20 @@ impl<W: Write, J: Lines, P> Sinks<'_, W, J, P> {
         case: &Case,
         judged: &JudgedDialogue,
         of: Option<End>,
+        is_named: bool,
     ) -> Result<(), Stop>
         ensures { self.new.sum ≡ self.old.sum }
     {
+        let is_listed = is_named || judged.verdict != Verdict::Pass;
+        if !is_listed && self.json.is_none() {
+            return Ok(());
+        }
         let grounds = Grounds::of(alloc, judged, of)?;
-        self.report_found(alloc, name, names, case, judged, of, &grounds)
+        self.report_found(alloc, name, names, case, judged, of, &grounds, is_listed)
     }
 
-    /// Reports the verdict on a dialogue, with the evidence that was found for it.
+    /// Reports the verdict on a dialogue, with the evidence that was found for it. The text and JUnit XML have it if
+    /// `is_listed` is set.
     fn report_found(
         &mut self,
         alloc: Global,
@@ -96,12 +103,12 @@ impl<W: Write, J: Lines, P> Sinks<'_, W, J, P> {
         judged: &JudgedDialogue,
         of: Option<End>,
         grounds: &Grounds,
+        is_listed: bool,
     ) -> Result<(), Stop>
         ensures { self.new.sum ≡ self.old.sum }
     {
-        let passes = judged.verdict == Verdict::Pass;
         let shown = match &mut self.page {
-            Some(page) if !passes => page.takes_dialogue(),
+            Some(page) if judged.verdict != Verdict::Pass => page.takes_dialogue(),
             _ => false,
         };
         if shown || self.json.is_some() {
@@ -109,7 +116,7 @@ impl<W: Write, J: Lines, P> Sinks<'_, W, J, P> {
             json::push_case(alloc, &mut line, name, case, judged, of, grounds)?;
             self.report_object(&line, shown)?;
         }
-        if passes {
+        if !is_listed {
             return Ok(());
         }
         let mut lines = String::new(alloc);

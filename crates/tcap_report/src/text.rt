@@ -1,13 +1,16 @@
-//! The text on a dialogue that does not pass.
+//! The text on a dialogue that does not pass, or that passes unheard or unanswered.
 //!
 //! Each function returns `AllocError` if memory runs out.
 
 use crate::awaited_answers::push_waiting;
-use crate::doubt_words::{comment_of, ids_of, line_of, push_doubt, push_ids, push_said};
-use crate::end_names::{EndNames, push_printable};
+use crate::context_notes::push_notes;
+use crate::doubt_words::{ids_of, push_doubt, push_ids, push_said};
+use crate::end_names::EndNames;
 use crate::grounds::Grounds;
 use crate::listed_entries::{is_near, last_listed};
 use crate::order::{in_order, is_asked, last_open};
+use crate::passing::push_passing;
+use crate::places::{push_entry_place, push_message_place, push_place};
 use crate::reason::{push_alternative, push_reason};
 use std::alloc::{AllocError, Global};
 use tcap_books::NamedTable;
@@ -65,21 +68,6 @@ fn push_dialogue(
     text.push_str("\n")
 }
 
-/// Appends the line number of an entry and the comment above it, if there are any.
-fn push_place(alloc: Global, text: &mut String, case: &Case, entry: u64) -> Result<(), AllocError> {
-    let line = line_of(case, entry);
-    if line > 0 {
-        write!(text, ", line {line}")?;
-    }
-    let comment = comment_of(alloc, case, entry)?;
-    if !comment.is_empty() {
-        text.push_str(" (")?;
-        push_printable(text, &comment)?;
-        text.push_str(")")?;
-    }
-    Ok(())
-}
-
 /// Appends, if `later` is set, that the peer is blamed for an earlier entry.
 fn push_later(text: &mut String, end: End, later: bool) -> Result<(), AllocError> {
     if !later {
@@ -100,33 +88,55 @@ fn push_blamed(
     at: Refutation,
     grounds: &Grounds,
 ) -> Result<(), AllocError> {
-    let entry = at.entry;
     let kind = at.kind.number();
     text.push_str("  ")?;
     text.push_str(end.letter())?;
     text.push_str(": ")?;
     text.push_str(verdict.word())?;
-    write!(text, " at entry {entry} of the dialogue")?;
-    push_place(alloc, text, case, entry)?;
+    text.push_str(" at ")?;
+    push_entry_place(alloc, text, case, at.entry)?;
     write!(text, ", F{kind}: ")?;
     push_alternative(text, case, judged, end, at, grounds)?;
     push_later(text, end, grounds.later == Some(end))?;
     text.push_str("\n")
 }
 
-/// Appends why the result for an end is undecided, if no entry is blamed on it.
+/// Appends the entry that the run of an end shows for a result, after the words for that result.
+pub(crate) fn push_shown_by_run(
+    alloc: Global,
+    text: &mut String,
+    case: &Case,
+    judged: &JudgedDialogue,
+    said: EndResult,
+    shown: Option<u64>,
+    with_comment: bool,
+) -> Result<(), AllocError> {
+    let Some(entry) = shown else {
+        return Ok(());
+    };
+    text.push_str(match said {
+        EndResult::Undecided => "; the search stopped at ",
+        _ => "; the last unheard one is ",
+    })?;
+    push_message_place(alloc, text, case, judged, entry, with_comment)
+}
+
+/// Appends why the result for an end is undecided, if no entry is blamed on it. `shown` is the entry that its run
+/// shows.
 pub(crate) fn push_undecided(
     alloc: Global,
     text: &mut String,
     case: &Case,
+    judged: &JudgedDialogue,
     said: EndResult,
+    shown: Option<u64>,
 ) -> Result<(), AllocError> {
     if let EndResult::AfterBadEntry(entry) = said {
-        write!(text, "entry {entry} of the dialogue")?;
-        push_place(alloc, text, case, entry)?;
+        push_entry_place(alloc, text, case, entry)?;
         text.push_str(" ")?;
     }
     push_said(alloc, text, case, said)?;
+    push_shown_by_run(alloc, text, case, judged, said, shown, true)?;
     text.push_str("\n")
 }
 
@@ -157,7 +167,7 @@ fn push_end(
             text.push_str("  ")?;
             text.push_str(end.letter())?;
             text.push_str(": inconc: ")?;
-            push_undecided(alloc, text, case, said)
+            push_undecided(alloc, text, case, judged, said, grounds.shown_by_run(end))
         }
     }
 }
@@ -236,7 +246,7 @@ fn push_no_table(text: &mut String, judged: &JudgedDialogue) -> Result<(), Alloc
     text.push_str("\n")
 }
 
-/// Appends the whole text on a dialogue that does not pass.
+/// Appends the whole text on a dialogue.
 pub(crate) fn push_case(
     alloc: Global,
     text: &mut String,
@@ -248,8 +258,13 @@ pub(crate) fn push_case(
     grounds: &Grounds,
 ) -> Result<(), AllocError> {
     push_dialogue(text, trace, case, judged)?;
+    if judged.verdict == Verdict::Pass {
+        push_passing(alloc, text, case, judged, of, grounds)?;
+        return push_notes(alloc, text, case, judged);
+    }
     names.push_lines(text)?;
     push_after(alloc, text, case, judged, of, grounds)?;
+    push_notes(alloc, text, case, judged)?;
     push_entries(alloc, text, case, judged)
 }
 

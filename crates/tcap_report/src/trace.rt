@@ -28,7 +28,7 @@ use crate::fault::{FormFault, Halt, Stop};
 use crate::sinks::{Lines, Sinks};
 use crate::sum::{Counts, Sum};
 use crate::trace_reader::TraceReader;
-use crate::unheard::is_unheard_or_silent;
+use crate::unheard::{is_named, passes_unheard};
 use crate::watch::Watch;
 use std::alloc::{AllocError, Global};
 use std::collections::BTreeMap;
@@ -285,6 +285,7 @@ impl<'a> Trace<'a> {
         if !is_reported(case, judged) {
             return Ok(());
         }
+        let before = self.unheard;
         self.count(case, judged);
         sinks.report_case(
             self.alloc,
@@ -293,6 +294,7 @@ impl<'a> Trace<'a> {
             case,
             judged,
             self.options.of,
+            is_named(before, self.unheard),
         )
     }
 
@@ -302,10 +304,7 @@ impl<'a> Trace<'a> {
             { dialogues = with_one judged.now.verdict self.old.dialogues; unheard = self.new.unheard } }
     {
         self.dialogues.add(judged.verdict);
-        if judged.verdict == Verdict::Pass
-            && case.has_ids()
-            && is_unheard_or_silent(judged, self.options.of)
-        {
+        if passes_unheard(case, judged, self.options.of) {
             self.unheard = self.unheard.saturating_add(1);
         }
     }
