@@ -40,3 +40,4 @@ pub mod CourseEnds
 pub mod AgainLaws
 pub mod OnceLaws
 pub mod HeadingLaws
+pub mod SoundLaws

@@ -2,9 +2,11 @@ pub mod Part
 pub mod DialoguesOfList
 pub mod Course
 pub mod HeadingReading
+pub mod SoundPart
 pub mod CutDialogues
 pub mod CutState
 pub mod CutUpdate
 pub mod WorkedParts
 pub mod WorkedCourses
 pub mod WorkedHeadings
+pub mod WorkedSoundParts

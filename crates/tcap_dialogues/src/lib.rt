@@ -10,9 +10,11 @@ mod join;
 mod known_ids;
 pub mod laws;
 mod live;
+mod malformed;
 mod reuse;
 
 pub use complete_dialogue::CompleteDialogue;
 pub use cut::Cut;
 pub use heading::{HeadingView, heading_of_message, read_heading};
+pub use malformed::{SoundPart, sound_part};
 pub use reuse::Reuse;
