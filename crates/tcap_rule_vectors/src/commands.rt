@@ -4,7 +4,7 @@ use crate::books::{are_names, is_added, is_book, is_carried, is_choice, long_boo
 use crate::certificates::{
     are_refused, are_same, certificate_of, is_certificate, is_made, is_written,
 };
-use crate::cuts::is_cut;
+use crate::cuts::{is_cut, is_sound};
 use crate::dialogues::{are_verdicts, is_judged, is_trace, is_trace_verdict};
 use crate::ends::{are_answered, are_texts, is_linked};
 use crate::packing::{are_packed, lines_of};
@@ -85,6 +85,9 @@ fn holds_of_verdict(alloc: Global, command: &str, columns: &[&str]) -> Option<bo
             is_made(alloc, fate, numbers, wanted)
         }
         ("[cuts]", [linger, entries, wanted @ ..]) => is_cut(alloc, linger, entries, wanted),
+        ("[sound parts]", [digits, message, id]) => {
+            is_sound(alloc, &hex::decode(alloc, digits).ok()?, message, id)
+        }
         ("[dialogues]", [asked @ .., a, b]) => is_judged(alloc, asked, a, b),
         ("[verdicts on dialogues]", [a, b, asked @ ..]) => are_verdicts(alloc, a, b, asked),
         ("[verdicts on traces]", [readable, worst, wanted]) => {

@@ -1,10 +1,11 @@
-//! Rows about how a record is cut into dialogues.
+//! Rows about how a record is cut into dialogues, and about the sound part of malformed messages.
 
 use std::alloc::Global;
 use std::collections::BTreeSet;
 use std::fmt::Write;
-use tcap_dialogues::{CompleteDialogue, Cut, HeadingView, Reuse};
-use tcap_msg::{Kind, TransactionId};
+use tcap_ber::Counted;
+use tcap_dialogues::{CompleteDialogue, Cut, HeadingView, Reuse, sound_part};
+use tcap_msg::{Kind, TransactionId, encode};
 use tcap_record::End;
 
 /// Returns the kind of message that this letter means.
@@ -119,4 +120,20 @@ pub(crate) fn is_cut(alloc: Global, linger: &str, entries: &str, wanted: &[&str]
     let text = cut(alloc, reuse, entries)?;
     let wanted = format!(in alloc; "{dialogues};{begun};{sent}").ok()?;
     Some(text == wanted)
+}
+
+/// Checks a row of `sound parts`: octets; the message that is their sound part, as octets; and the invoke ID of the
+/// malformed component. A dash stands for what is not there.
+pub(crate) fn is_sound(alloc: Global, octets: &[u8], message: &str, id: &str) -> Option<bool> {
+    let Some(sound) = sound_part(alloc, octets).ok()? else {
+        return Some(message == "-" && id == "-");
+    };
+    let mut writer = Counted::new(Vec::new(alloc));
+    encode(&sound.message, &mut writer).ok()?;
+    let wanted = hex::decode(alloc, message).ok()?;
+    let number = match sound.invoke_id {
+        Some(id) => format!(in alloc; "{id}").ok()?,
+        None => format!(in alloc; "-").ok()?,
+    };
+    Some(writer.into_inner() == wanted && number == id)
 }
