@@ -32,7 +32,8 @@ LIBRARIES, HEADER = ["libtcapjudge.a", "libtcapjudge.so"], "clib/tcapjudge.h"
 # Pages for those who change the code or compare its definitions with the standard. All others are packed.
 LEFT_OUT = [f"docs/{name}.md" for name in "CERTIFICATES DECISIONS LAWS PERF PROOFS THEOREM".split()]
 # What is used as it is, in folders of the same names.
-SHARED = ["clib/example.*", "clib/titan/*", "examples/*.*", "examples/ci/*", "examples/pytest/*.py", "examples/tables/*", "tools/*.py"]
+SHARED = ["clib/example.*", "clib/titan/*", "tools/*.py"]
+SHARED += ["examples/*.*", "examples/ci/*", "examples/pytest/*.py", "examples/tables/*"]
 LINK = re.compile(r"(?<!!)\[([^\[\]]*)\]\(([^)#\s]*)(#[^)\s]*)?\)")
 # Brackets with nothing but links between them, and the blanks before them.
 BRACKETS = re.compile(r"\s+\((\[[^\[\]]*\]\([^)\s]*\)(?:,\s+\[[^\[\]]*\]\([^)\s]*\))*)\)")

@@ -1,5 +1,5 @@
-"""Makes captures (capture_rows.py, capture_malformed.py ..), has tools/lines_of_capture.py make lines from them, packs and
-shows these with the built program, and compares. Then it compares the output of `tshark` and of `tcapjudge show` for
+"""Makes captures (capture_rows.py, made_captures.py ..), has tools/lines_of_capture.py make lines from them, packs and
+shows or judges these with the built program, and compares. Then it compares the output of `tshark` and of `tcapjudge show` for
 every named vector and for random messages (wireshark.py). Last it runs the commands of the pages (capture_recipes.py).
 If tshark is not installed, it says so and counts nothing."""
 

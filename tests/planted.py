@@ -1,7 +1,7 @@
-"""Judges the dialogues of cases/planted.json by `tcapjudge test` with its own tables: dialogues of MAP and CAP, each with one planted
-fault. Of each it is known which end is at fault, at which line, by which kind (docs/RULES.md), and a phrase of the sentence that a
-ticket needs: which rule is broken. That was worked out from the standard and the page. The verdict on that end is `fail` if a row has no
-other. The other end must not fail.
+"""Judges the dialogues of cases/planted.json by `tcapjudge test` with its own tables: dialogues of MAP and CAP, each with
+one planted fault. Of each it is known which end is at fault, at which line, by which kind (docs/RULES.md), and a phrase
+of the sentence that a ticket needs: which rule is broken. That was worked out from the standard and the page. The
+verdict on that end is `fail` if a row has no other. The other end must not fail.
 
     tests/planted.py [--show]
 
@@ -35,10 +35,11 @@ def judged(folder, rows):
 
 
 def faults_in(dialogues):
-    """Returns the blames in the dialogues of a trace: the end, the verdict, the line, the kind and the sentence; and all else that
-    is wrong."""
-    ends = [(end, it[end]) for it in dialogues for end in "AB" if end in it]
-    blamed = [(end, of["verdict"], of["line"], of["kind"], of["text"].strip().partition("\n")[0]) for end, of in ends if "kind" in of]
+    """Returns the blames in the dialogues of a trace, each the end, the verdict, the line, the kind and the sentence;
+    and the errors."""
+    ends = [(end, it[end]) for it in dialogues for end in "AB" if "kind" in it.get(end, {})]
+    sentences = [of["text"].strip().partition("\n")[0] for _, of in ends]
+    blamed = [(end, of["verdict"], of["line"], of["kind"], why) for (end, of), why in zip(ends, sentences)]
     return blamed, [it["text"] for it in dialogues if it["verdict"] == "error"]
 
 

@@ -110,8 +110,8 @@ class Answers:
         self.ends, self.messages, self.words = ends, messages, words
         # For each end: the address to which it sent an ID last.
         self.called = collections.defaultdict(dict)
-        # Earlier uses of an ID: the ID, and the addresses of its sender and of its receiver. Then these two addresses of
-        # each message whose IDs can't be read.
+        # Earlier uses of an ID: the ID, and the addresses of its sender and of its receiver. Then these two addresses
+        # of each message whose IDs can't be read.
         self.earlier, self.sent, self.unread = set(), Sent(), set()
         self.speaking = {ends.find(message.sender) for message in messages}
         # For each end: each ID that it sent in the whole capture, with what identifies its dialogues. Made when it is
@@ -159,8 +159,8 @@ class Answers:
         return is_known and self.ends.find(called) in self.speaking
 
     def settle_strange(self, message, sender, receiver):
-        """Decides whose ID it is if the receiver did not send it: another address of the receiver may have, or a message
-        of the receiver whose IDs can't be read."""
+        """Decides whose ID it is if the receiver did not send it: another address of the receiver may have, or a
+        message of the receiver whose IDs can't be read."""
         find = self.ends.find
         ends = find(sender), find(receiver)
         own, others = {}, {}

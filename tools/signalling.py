@@ -21,8 +21,8 @@ CLDT, CLDR = 0x701, 0x702
 # The messages that bring a message back to its sender.
 SERVICE = {0x0A, 0x12, 0x14, CLDR}
 NAMES = {0x09: "UDT", 0x11: "XUDT", 0x13: "LUDT", 0x0A: "UDTS", 0x12: "XUDTS", 0x14: "LUDTS", CLDR: "CLDR"}
-# The tags of the messages of TCAP (Q.773 4.2.1), of those with an originating and with a destination transaction ID, and
-# of these IDs, which have 1 to 4 octets; and the tags of ANSI TCAP.
+# The tags of the messages of TCAP (Q.773 4.2.1), of those with an originating and with a destination transaction ID,
+# and of these IDs, which have 1 to 4 octets; and the tags of ANSI TCAP.
 UNIDIRECTIONAL, BEGIN = 0x61, 0x62
 MESSAGES, WITH_OTID, WITH_DTID = {0x61, 0x62, 0x64, 0x65, 0x67}, {0x62, 0x65}, {0x64, 0x65, 0x67}
 OTID, DTID, LONGEST_ID = 0x48, 0x49, 4

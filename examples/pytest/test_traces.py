@@ -1,10 +1,10 @@
-"""A test of pytest for each trace below a folder. A trace that does not pass fails its test, with the reason as the text.
+"""A test of pytest for each trace below a folder. If a trace does not pass, its test fails with the reason as the text.
 
     TRACES=night pytest test_traces.py
-    TRACES=night python3 test_traces.py     # without pytest: a line for each trace, and the status 1 if one does not pass
+    TRACES=night python3 test_traces.py     # without pytest: a line for each trace; the status is 1 if one does not pass
 
-The environment may have TRACES, the folder (`traces`); TCAPJUDGE, the program (`tcapjudge`); and TCAPJUDGE_WORDS, options of
-`tcapjudge test`, as `--table operations.json --of B`."""
+The environment may have TRACES, the folder (`traces`); TCAPJUDGE, the program (`tcapjudge`); and TCAPJUDGE_WORDS,
+options of `tcapjudge test`, as `--table operations.json --of B`."""
 
 import json
 import os
@@ -52,7 +52,8 @@ def heads_of(it):
 
 
 def reason_of(trace):
-    """Returns why a trace does not pass, or an empty text if it passes: a line for each reason, then what `test` prints."""
+    """Returns why a trace does not pass, or an empty text if it passes: a line for each reason, then what `test`
+    prints."""
     lines, printed = judged(trace)
     heads = [head for it in lines if "trace" in it and it["verdict"] != "pass" for head in heads_of(it)]
     # The last line is that of the run.
@@ -83,8 +84,9 @@ def test_trace(trace):
 
 def main():
     """Runs the tests without pytest. Returns the exit status."""
-    failed = 0
-    for name, test, words in [("the folder", test_there_are_traces, []), *((path, test_trace, [path]) for path in traces())]:
+    failed, tests = 0, [("the folder", test_there_are_traces, [])]
+    tests += [(path, test_trace, [path]) for path in traces()]
+    for name, test, words in tests:
         try:
             test(*words)
             print(f"{name}: passed")

@@ -1,5 +1,6 @@
-"""Captures of what is no message of TCAP, though SCCP brought it whole, as in capture_rows.py: tests/captures.py runs them. Of each
-it is said what `test` prints of the files: one expression for each, of its first dialogue that does not pass, or of the trace."""
+"""Captures of what is no message of TCAP, though SCCP brought it whole, as in capture_rows.py: tests/captures.py runs
+them. Of each it is said what `test` prints of the files: one expression for each, of its first dialogue that does not
+pass, or of the trace."""
 
 import made_captures as made
 from capture_carried import TITLES, Sua
@@ -67,22 +68,24 @@ def layers():
     yield Row("a cut message in segments", over(frames + rest), [], [[long, BEGIN, RESULT]], judged=[fails("A", 0, 5)])
     near, far = Wire(((101, 8), (901, 6)), TITLES, tag=70), Wire(((901, 8), (202, 6)), TITLES, tag=80, hosts=(2, 3))
     turns = [(wire, line) for line in (OPEN, CUT, GOES_ON) for wire in ((near, far) if line[0] == "A" else (far, near))]
-    wanted = ["NOTE messages captured on both sides of a transfer point, the first in frames 1 and 2: only the first is kept: 3"]
-    kept = [OPEN, CUT, GOES_ON]
-    yield Row("a cut message on both sides", frames_of(*turns), ["--one-side"], [kept], 0, wanted, judged=[fails("A", 0, 7)])
+    wanted = ["NOTE messages captured on both sides of a transfer point, the first in frames 1 and 2: only the first"]
+    kept, judged = [OPEN, CUT, GOES_ON], [fails("A", 0, 7)]
+    yield Row("a cut message on both sides", frames_of(*turns), ["--one-side"], [kept], 0, wanted, judged=judged)
 
 
 def dialogues():
     """A message whose IDs can be read is of its dialogue, though it is none; otherwise it is of its two addresses."""
     more = GOES_ON + "00"
     wanted = [fails("B", 1, 7)]
-    yield Row("a Continue with octets behind", over(Wire().all([OPEN, more, END])), [], [[OPEN, more, END]], judged=wanted)
+    lines = [OPEN, more, END]
+    yield Row("a Continue with octets behind", over(Wire().all(lines)), [], [lines], judged=wanted)
     asked, answering = Wire(titles=("4917012", "491710001")), Wire(titles=("4917012", "491702"), tag=9)
     frames = frames_of((asked, BEGIN), (answering, RESULT + "00"))
-    yield Row("another title answers, with octets behind", frames, [], [[BEGIN, RESULT + "00"]], judged=[fails("B", 1, 7)])
+    yield Row("another title answers, with octets behind", frames, [], [[BEGIN, RESULT + "00"]], judged=wanted)
     cut = RESULT[:-2]
     parts, wanted = [[BEGIN], ["A" + cut[1:]]], [PASSES, NO_MESSAGE]
-    yield Row("another title answers, and is cut", frames_of((asked, BEGIN), (answering, cut)), [], parts, judged=wanted)
+    frames = frames_of((asked, BEGIN), (answering, cut))
+    yield Row("another title answers, and is cut", frames, [], parts, judged=wanted)
     begun, wire = "B 62034801", Wire()
     frames = over(wire.all([begun, BEGIN, RESULT]))
     yield Row("a cut Begin names no end A", frames, [], [[begun, BEGIN, RESULT]], judged=[fails("B", 0, 5)])
@@ -90,8 +93,8 @@ def dialogues():
 
 
 def of_unread_ids():
-    """An ID that a message which can't be read may have sent: two registers behind one transfer point, of which both may have
-    sent it."""
+    """An ID that a message which can't be read may have sent: two registers behind one transfer point, of which both
+    may have sent it."""
     one, other = (Wire(((101, 8), (901, 6)), ("4917012", gt), tag=10 * int(gt)) for gt in ("491702", "491703"))
     asked, answered = "A 6203480102", "B 6506480107490102"
     turns = [(one, OPEN), (other, asked), (other, answered), (one, END)]
@@ -99,8 +102,9 @@ def of_unread_ids():
     turns.insert(1, (one, GOES_ON[:-2]))
     wanted = ["FAULT answer, frame 5 of capture", "gt=491702, to the ID 07", "--join"]
     parts = [[OPEN, GOES_ON[:-2]], [asked, answered]]
-    judged = [fails("B", 0, 7), ": error: line 9: the trace was broken off"]
-    yield Row("an ID of another register, or one that can't be read", frames_of(*turns), [], parts, 3, wanted, [", 1 message missing", ""], judged)
+    broken, judged = [", 1 message missing", ""], [fails("B", 0, 7), ": error: line 9: the trace was broken off"]
+    name = "an ID of another register, or one that can't be read"
+    yield Row(name, frames_of(*turns), [], parts, 3, wanted, broken, judged)
     note, judged = ["NOTE pair 1: messages to IDs that their receiver did not send"], [fails("B", 0, 8), PASSES]
     apart = [[*parts[0], END], parts[1]]
     yield Row("an ID that can't be read, apart", frames_of(*turns), ["--apart"], apart, 0, note, judged=judged)

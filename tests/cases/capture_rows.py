@@ -1,7 +1,7 @@
 """Captures, with the options of tools/lines_of_capture.py, and the lines, the exit status and the words on standard
 error that are wanted of it, of layers and of faults: tests/captures.py runs them. Of some rows it is said how each file ends:
-what stands in it after `#: broken off`, and None where it is not broken off; and, instead of the record that `pack` makes of it, an
-expression for what `test` prints of each."""
+what stands in it after `#: broken off`, and None where it is not broken off; and, instead of the record that `pack`
+makes of it, an expression for what `test` prints of each."""
 
 import collections
 import shutil
@@ -10,7 +10,8 @@ import tempfile
 
 import made_captures as made
 
-Row = collections.namedtuple("Row", "name capture options files status said broken judged", defaults=([], [], 0, [], None, None))
+FIELDS = "name capture options files status said broken judged"
+Row = collections.namedtuple("Row", FIELDS, defaults=([], [], 0, [], None, None))
 
 BEGIN, RESULT = "A 620d4801016c08a10602010102012d", "B 640a4901016c05a203020101"
 SECOND, OTHER_RESULT = "A 620d4801026c08a10602010102012e", "B 640a4901026c05a203020101"

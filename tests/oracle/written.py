@@ -1,12 +1,12 @@
-"""Writes messages of TCAP from words, by the tables of Q.773 and with the shortest lengths of X.690. It shares no code with
-what is tested. A line is the end, the kind of message with its IDs, and its parts, with semicolons between:
+"""Writes messages of TCAP from words, by the tables of Q.773 and with the shortest lengths of X.690. It shares no code
+with what is tested. A line is the end, the kind of message with its IDs, and its parts, with semicolons between:
 
     A Begin 1f000a01; AARQ 04000001001302; Invoke 1 59
     B Continue 2b000001 1f000a01; AARE 04000001001302; Invoke 1 60 linked 1; Result 1 59; Reject null general 0
 
-`AARE NAME RESULT DIAGNOSTIC` has the result and the user's diagnostic, 0 and 0 without them. Last may come what spoils the
-octets: `cut 2` leaves out the last two, `behind 0000` adds some, and `tag 63` changes the first. `octets ..` is a part as it
-stands. The line `Q` is a quiet mark."""
+`AARE NAME RESULT DIAGNOSTIC` has the result and the user's diagnostic, 0 and 0 without them. `octets 6c00` is a part of
+these octets. Last may come what spoils the message: `cut 2` leaves out the last two octets, `behind 0000` adds two, and
+`tag 63` changes the first. The line `Q` is a quiet mark."""
 
 DIALOGUE, UNIDIALOGUE = "060700118605010101", "060700118605010201"
 KINDS = {"Unidirectional": "61", "Begin": "62", "End": "64", "Continue": "65", "Abort": "67"}
@@ -32,7 +32,8 @@ def pdu(name, *words):
         content = element("60", VERSION, context)
     elif name == "AARE":
         result, diagnostic = words[1:] or (0, 0)
-        content = element("61", VERSION, context, element("a2", integer(result)), element("a3", element("a1", integer(diagnostic))))
+        outcome = element("a2", integer(result)), element("a3", element("a1", integer(diagnostic)))
+        content = element("61", VERSION, context, *outcome)
     else:
         content = element("64", integer(words[0], "80"))
     return element("6b", element("28", UNIDIALOGUE if name == "AUDT" else DIALOGUE, element("a0", content)))
