@@ -3,6 +3,7 @@ rules."""
 
 import collections
 
+import signalling
 from capture_frames import Fault
 
 PARTS = "pc", "ssn", "gt"
@@ -123,7 +124,7 @@ class Answers:
         if message.fault:
             return
         sender, receiver = message.sender.name, message.receiver.name
-        if message.tag is None:
+        if not (message.otid or message.dtid or message.tag == signalling.UNIDIRECTIONAL):
             self.unread.add((sender, receiver))
         if message.dtid and not self.words.apart:
             self.settle(message, sender, receiver)

@@ -114,7 +114,7 @@ def first_end(pair, ends, wanted):
             return None
         pair.notes.append("no end of it is the one that --a asks for: A is the end that begins first")
     for message in pair.messages:
-        if message.tag in (signalling.UNIDIRECTIONAL, signalling.BEGIN):
+        if message.tag == signalling.UNIDIRECTIONAL or message.tag == signalling.BEGIN and message.otid:
             return ends.find(message.sender)
     return ends.find(pair.messages[0].sender) if pair.messages else None
 

@@ -24,7 +24,7 @@ NAMES = {0x09: "UDT", 0x11: "XUDT", 0x13: "LUDT", 0x0A: "UDTS", 0x12: "XUDTS", 0
 # The tags of the messages of TCAP (Q.773 4.2.1), of those with an originating and with a destination transaction ID,
 # and of these IDs, which have 1 to 4 octets; and the tags of ANSI TCAP.
 UNIDIRECTIONAL, BEGIN = 0x61, 0x62
-MESSAGES, WITH_OTID, WITH_DTID = {0x61, 0x62, 0x64, 0x65, 0x67}, {0x62, 0x65}, {0x64, 0x65, 0x67}
+MESSAGES = {0x61, 0x62, 0x64, 0x65, 0x67}
 OTID, DTID, LONGEST_ID = 0x48, 0x49, 4
 ANSI = {0xE1, 0xE2, 0xE3, 0xE4, 0xE5, 0xE6, 0xF6}
 
@@ -273,28 +273,40 @@ def end_of(octets):
             return at
 
 
-def id_at(content, at, tag):
-    """Returns the transaction ID that begins there, and where it ends."""
-    if content[at : at + 1] != bytes([tag]):
-        raise Refused("element", "no transaction ID with its tag")
-    begin, length = header(content, at)
-    if length is None or not 1 <= length <= LONGEST_ID:
-        raise Refused("element", "a transaction ID of another length than 1 to 4 octets")
-    return part(content, begin, length, "element", "a transaction ID"), begin + length
+def outer_content(octets):
+    """Returns the content of the outer element. If that is not whole, returns all there is of its content."""
+    begin, length = header(octets, 0)
+    if length is not None:
+        return octets[begin : begin + length]
+    try:
+        return octets[begin : end_of(octets) - 2]
+    except Refused:
+        return octets[begin:]
+
+
+def elements_of(octets):
+    """Yields the first octet of the tag of each element, and its content, up to the first element that is not whole."""
+    try:
+        while octets and octets[0] != 0:
+            end, (begin, length) = end_of(octets), header(octets, 0)
+            yield octets[0], octets[begin : end if length is not None else end - 2]
+            octets = octets[end:]
+    except Refused:
+        return
 
 
 def ids_of(octets):
     """Returns the tag of a message and its originating and destination transaction ID, with None for those that it does
-    not have. They are read as `test` reads them: all are None if the octets do not begin with a whole element that has
-    the tag of a message, or if an ID can't be read. What comes after the IDs does not matter."""
-    otid, dtid, at = None, None, 0
+    not have. They are read as `test` reads them: the tag is None if no message has it; the IDs are those of the whole
+    elements of the content, in any order; both are None if two of one sort differ, or of a Unidirectional."""
+    tag = octets[0] if octets and octets[0] in MESSAGES else None
+    ids = {OTID: set(), DTID: set()}
     try:
-        end, (begin, length) = end_of(octets), header(octets, 0)
-        content = octets[begin : end if length is not None else end - 2]
-        if octets[0] in WITH_OTID:
-            otid, at = id_at(content, at, OTID)
-        if octets[0] in WITH_DTID:
-            dtid, at = id_at(content, at, DTID)
+        for sort, content in elements_of(outer_content(octets)):
+            if sort in ids and 1 <= len(content) <= LONGEST_ID:
+                ids[sort].add(content)
     except Refused:
-        return None, None, None
-    return octets[0] if octets[0] in MESSAGES else None, otid, dtid
+        return tag, None, None
+    if tag == UNIDIRECTIONAL or max(map(len, ids.values())) > 1:
+        return tag, None, None
+    return tag, *(next(iter(ids[sort]), None) for sort in (OTID, DTID))

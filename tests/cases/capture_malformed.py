@@ -7,9 +7,9 @@ from capture_carried import TITLES, Sua
 from capture_rows import BEGIN, DIALOGUE, END, GOES_ON, LONG, OPEN, RESULT, SECOND, Row, Wire, frames_of, over
 from capture_rows import segments, swapped
 
-# Octets that end too early: nothing of them is read. And octets behind a message, whose IDs can be read.
-CUT, MORE = SECOND[:-2], SECOND + "00"
-PASSES, NO_MESSAGE = ": pass; ", ": error: no entry has the tag of a message; "
+# Octets that end too early, but after the ID; octets after a message; and octets that end within the ID.
+CUT, MORE, NO_ID = SECOND[:-2], SECOND + "00", GOES_ON[:8]
+PASSES = ": pass; "
 
 
 def fails(end, entry, line):
@@ -26,7 +26,7 @@ def octets():
         "one octet": "A 62",
         "octets behind the message": MORE,
         "an element after the message": SECOND + "3003020100",
-        "no ending": "A 62804801016c80",
+        "no ending": "A 62804801026c80",
         "another element": "A 3003020100",
         "a tag of two octets": "A 7f2203480102",
         "no element at all": "A ffffffff",
@@ -83,13 +83,12 @@ def dialogues():
     frames = frames_of((asked, BEGIN), (answering, RESULT + "00"))
     yield Row("another title answers, with octets behind", frames, [], [[BEGIN, RESULT + "00"]], judged=wanted)
     cut = RESULT[:-2]
-    parts, wanted = [[BEGIN], ["A" + cut[1:]]], [PASSES, NO_MESSAGE]
     frames = frames_of((asked, BEGIN), (answering, cut))
-    yield Row("another title answers, and is cut", frames, [], parts, judged=wanted)
+    yield Row("another title answers, and is cut", frames, [], [[BEGIN, cut]], judged=wanted)
     begun, wire = "B 62034801", Wire()
     frames = over(wire.all([begun, BEGIN, RESULT]))
     yield Row("a cut Begin names no end A", frames, [], [[begun, BEGIN, RESULT]], judged=[fails("B", 0, 5)])
-    yield Row("a cut Begin alone", over(Wire().all([begun])), [], [[swapped(begun)]], judged=[NO_MESSAGE])
+    yield Row("a cut Begin alone", over(Wire().all([begun])), [], [[swapped(begun)]], judged=[fails("A", 0, 5)])
 
 
 def of_unread_ids():
@@ -99,9 +98,9 @@ def of_unread_ids():
     asked, answered = "A 6203480102", "B 6506480107490102"
     turns = [(one, OPEN), (other, asked), (other, answered), (one, END)]
     yield Row("an ID of another register", frames_of(*turns), [], [[OPEN, asked, answered, END]])
-    turns.insert(1, (one, GOES_ON[:-2]))
+    turns.insert(1, (one, NO_ID))
     wanted = ["FAULT answer, frame 5 of capture", "gt=491702, to the ID 07", "--join"]
-    parts = [[OPEN, GOES_ON[:-2]], [asked, answered]]
+    parts = [[OPEN, NO_ID], [asked, answered]]
     broken, judged = [", 1 message missing", ""], [fails("B", 0, 7), ": error: line 9: the trace was broken off"]
     name = "an ID of another register, or one that can't be read"
     yield Row(name, frames_of(*turns), [], parts, 3, wanted, broken, judged)
