@@ -135,5 +135,6 @@ pub(crate) fn is_sound(alloc: Global, octets: &[u8], message: &str, id: &str) ->
         Some(id) => format!(in alloc; "{id}").ok()?,
         None => format!(in alloc; "-").ok()?,
     };
-    Some(writer.into_inner() == wanted && number == id)
+    let written = writer.into_inner();
+    Some(written.as_slice() == wanted.as_slice() && number.as_str() == id)
 }
