@@ -95,6 +95,8 @@ def unnamed(count):
 def blocks_of(text, name):
     """Returns the lines of the text on each dialogue of a trace that it names, by the dialogue's number."""
     blocks = re.split(f"^(?={re.escape(name)}: )", text, flags=re.MULTILINE)
+    # What comes before the first line of this trace is of others.
+    blocks = [block for block in blocks if block.startswith(f"{name}: ")]
     found = [(re.match(r"dialogue (\d+)", block[len(name) + 2 :]), block) for block in blocks]
     return {int(number[1]): block for number, block in found if number}
 

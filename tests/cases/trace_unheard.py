@@ -120,7 +120,7 @@ PASSING = [
         {(0, "B"): {}},
         words="--of B",
     ),
-    Passing("a Unidirectional has no ID, and nobody has to answer it", ["A 610A6C08A10602010102012D"], []),
+    Passing("a Unidirectional has no ID, and nobody has to answer it", ["A 610A6C08A106020101020130"], []),
 ]
 
 

@@ -385,6 +385,7 @@ ONE = [
 ]
 
 # What `--ids once` says of SHORT's ID, which is begun again in line 3.
+UNDECIDED = "it is not found how it can have sent its part, and no entry of it is blamed"
 ONCE = "; A uses its ID 01 again at line 3, and by --ids once no ID is free before the next quiet mark"
 
 SAID = [
@@ -494,10 +495,10 @@ SAID = [
         [*SHORT, SHORT[0], f"B {end('01', trace_rows.result('05'))}"],
         {},
         [
-            f"  A: inconc: it is not found how it can have sent its part, and no entry of it is blamed{ONCE}",
-            f"  B: inconc: it is not found how it can have sent its part, and no entry of it is blamed{ONCE}",
+            f"  A: inconc: {UNDECIDED}{ONCE}; the search stopped at A's Begin at entry 2 of the dialogue, line 3",
+            f"  B: inconc: {UNDECIDED}{ONCE}; the search stopped at B's End at entry 3 of the dialogue, line 4",
         ],
-        f"A: it is not found how it can have sent its part, and no entry of it is blamed{ONCE}",
+        f"A: {UNDECIDED}{ONCE}; the search stopped at A's Begin at entry 2 of the dialogue, line 3",
         "--ids once",
     ),
     Said(
