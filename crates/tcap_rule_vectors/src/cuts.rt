@@ -5,7 +5,7 @@ use std::collections::BTreeSet;
 use std::fmt::Write;
 use tcap_ber::Counted;
 use tcap_dialogues::{CompleteDialogue, Cut, HeadingView, Reuse, sound_part};
-use tcap_msg::{Kind, TransactionId, encode};
+use tcap_msg::{Kind, Message, TransactionId, encode};
 use tcap_record::End;
 
 /// Returns the kind of message that this letter means.
@@ -122,19 +122,29 @@ pub(crate) fn is_cut(alloc: Global, linger: &str, entries: &str, wanted: &[&str]
     Some(text == wanted)
 }
 
+/// Returns whether a message is written as these octets.
+fn is_written(alloc: Global, message: &Message, digits: &str) -> Option<bool> {
+    let mut writer = Counted::new(Vec::new(alloc));
+    encode(message, &mut writer).ok()?;
+    let wanted = hex::decode(alloc, digits).ok()?;
+    Some(writer.into_inner().as_slice() == wanted.as_slice())
+}
+
+/// Returns whether an invoke ID has this text; a dash stands for none.
+fn is_id(alloc: Global, id: Option<i8>, wanted: &str) -> Option<bool> {
+    match id {
+        Some(id) => Some(format!(in alloc; "{id}").ok()?.as_str() == wanted),
+        None => Some(wanted == "-"),
+    }
+}
+
 /// Checks a row of `sound parts`: octets; the message that is their sound part, as octets; and the invoke ID of the
 /// malformed component. A dash stands for what is not there.
 pub(crate) fn is_sound(alloc: Global, octets: &[u8], message: &str, id: &str) -> Option<bool> {
-    let Some(sound) = sound_part(alloc, octets).ok()? else {
-        return Some(message == "-" && id == "-");
-    };
-    let mut writer = Counted::new(Vec::new(alloc));
-    encode(&sound.message, &mut writer).ok()?;
-    let wanted = hex::decode(alloc, message).ok()?;
-    let number = match sound.invoke_id {
-        Some(id) => format!(in alloc; "{id}").ok()?,
-        None => format!(in alloc; "-").ok()?,
-    };
-    let written = writer.into_inner();
-    Some(written.as_slice() == wanted.as_slice() && number.as_str() == id)
+    match sound_part(alloc, octets).ok()? {
+        Some(sound) => Some(
+            is_written(alloc, &sound.message, message)? && is_id(alloc, sound.invoke_id, id)?,
+        ),
+        None => Some(message == "-" && id == "-"),
+    }
 }
