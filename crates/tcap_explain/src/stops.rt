@@ -20,6 +20,7 @@ use tcap_judge::Ends;
 use tcap_msg::{Kind, Message, MessageParts};
 use tcap_parts::ComponentView;
 use tcap_record::{Body, End, Record, push_view};
+use tcap_refute::is_limit;
 
 /// The most halves, or numbers, that are listed.
 const MOST: usize = 8;
@@ -60,15 +61,10 @@ fn push_reason(text: &mut String, reason: Reason) -> Result<(), AllocError> {
 /// Appends advice on octets that are no message.
 fn push_bad(text: &mut String, fault: Fault) -> Result<(), AllocError> {
     text.push_str("`tcapjudge show --why RECORD` says what is wrong with them\n")?;
-    if is_limit(fault.reason.number()) {
+    if is_limit(fault.reason) {
         text.push_str("it is a limit of this profile: no end is blamed for it\n")?;
     }
     Ok(())
-}
-
-/// Returns whether octets are refused for this reason only because of a limit of this profile.
-fn is_limit(number: u8) -> bool {
-    matches!(number, 2..=4 | 12 | 13 | 16..=18)
 }
 
 /// Returns the half over which a message is sent. Its name is the own ID if the end knows it or the message is a Begin,

@@ -28,7 +28,7 @@ pub(crate) enum EntryResult {
 }
 
 /// Returns whether a reason is a limit of this profile, and not of the standard.
-pub(crate) fn is_limit(reason: Reason) -> bool
+pub fn is_limit(reason: Reason) -> bool
     ensures { result ≡ is_limit reason }
 {
     matches!(

@@ -17,6 +17,7 @@ mod sent_with_invoke_id;
 pub mod worked;
 
 pub use first_kinds::{faulty_component, first_kind, kind_of_reason};
+pub use judging::is_limit;
 pub use kind::{Kind, Refutation};
 pub use refuting::{SearchFault, refute};
 pub use sent_from_id::FromId;
