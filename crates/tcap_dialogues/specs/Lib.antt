@@ -2,6 +2,7 @@ pub mod Part
 pub mod DialoguesOfList
 pub mod Course
 pub mod HeadingReading
+pub mod IdsInPlace
 pub mod SoundPart
 pub mod CutDialogues
 pub mod CutState

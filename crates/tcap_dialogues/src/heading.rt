@@ -6,10 +6,11 @@ ghost use Rattle.tcap_ber.specs.Reading.{element, span};
 ghost use Rattle.tcap_msg.specs.declared.message.Message.{Message as Meant};
 ghost use Rattle.tcap_msg.specs.Message.{Spells};
 ghost use Rattle.tcap_dialogues.specs.Course.{heading_of};
+ghost use Rattle.tcap_dialogues.specs.IdsInPlace.{after_id, after_ids, after_placed, are_its_ids, dialogue_after_ids, has_dialogue};
 ghost use Rattle.tcap_dialogues.specs.HeadingReading.{agreed, elements_in, heading_at, heading_read, id_under, ids_among, ids_of, kind_at, kind_of_tag, outer_content, whole_next};
 
 use tcap_ber::{Tlv, Window, content_so_far, required_any};
-use tcap_msg::tags::{ABORT, BEGIN, CONTINUE, DTID, END, OTID, UNIDIRECTIONAL};
+use tcap_msg::tags::{ABORT, BEGIN, CONTINUE, DIALOGUE_PORTION, DTID, END, OTID, UNIDIRECTIONAL};
 use tcap_msg::{Kind, MessageParts, TransactionIdView};
 use tcap_record::End;
 
@@ -203,4 +204,74 @@ pub fn read_heading(sender: End, octets: &[u8]) -> HeadingView<'_>
         under_way: false,
         known: false,
     }
+}
+
+/// Returns the window after the transaction ID with this tag, if a window begins with one.
+fn after_id(tag: u8, window: Window) -> Option<Window>
+    ensures { option_map span result ≡ after_id tag (span window.entry) }
+{
+    let (found, rest) = whole_next(window)?;
+    if id_under(tag, found).is_some() {
+        Some(rest)
+    } else {
+        None
+    }
+}
+
+/// Returns the window after the IDs of a message of this kind, if a window begins with them.
+fn after_ids(kind: Option<Kind>, content: Window) -> Option<Window>
+    ensures { option_map span result ≡ after_ids kind (span content.entry) }
+{
+    match kind {
+        Some(Kind::Begin) => after_id(OTID, content),
+        Some(Kind::Continue) => after_id(DTID, after_id(OTID, content)?),
+        Some(Kind::End | Kind::Abort) => after_id(DTID, content),
+        _ => None,
+    }
+}
+
+/// Returns whether these IDs are of the sorts that a message of this kind has, and of no other.
+fn are_its_ids(kind: Option<Kind>, ids: Ids) -> bool
+    ensures { result ≡ are_its_ids kind
+        (option_map (λ id. id.octets.now) ids.entry.0, option_map (λ id. id.octets.now) ids.entry.1) }
+{
+    let (otid, dtid) = ids;
+    match kind {
+        Some(Kind::Begin) => otid.is_some() && dtid.is_none(),
+        Some(Kind::Continue) => otid.is_some() && dtid.is_some(),
+        Some(Kind::End | Kind::Abort) => otid.is_none() && dtid.is_some(),
+        _ => false,
+    }
+}
+
+/// Returns the window after the IDs of a content of this kind, if the IDs are in place.
+fn after_placed(kind: Option<Kind>, content: Option<Window>) -> Option<Window>
+    ensures { option_map span result ≡ after_placed kind (option_map span content.entry) }
+{
+    let content = content?;
+    if are_its_ids(kind, ids_of(kind, Some(content))) {
+        after_ids(kind, content)
+    } else {
+        None
+    }
+}
+
+/// Returns whether the first whole element of a window is a dialogue portion.
+fn has_dialogue(window: Window) -> bool
+    ensures { result ≡ has_dialogue (span window.entry) }
+{
+    match whole_next(window) {
+        Some((found, _)) => found.tag.is(DIALOGUE_PORTION),
+        None => false,
+    }
+}
+
+/// Returns whether a dialogue portion follows the transaction IDs of octets that need not be a message (Q.773 4.2.1).
+/// Returns `None` if the IDs are not in place: the elements at the front of the content must be the IDs that the kind of
+/// message has, in their order, and no other ID may be read.
+pub fn dialogue_after_ids(octets: &[u8]) -> Option<bool>
+    ensures { result ≡ dialogue_after_ids octets.now }
+{
+    let after = after_placed(kind_at(octets), outer_content(octets))?;
+    Some(has_dialogue(after))
 }

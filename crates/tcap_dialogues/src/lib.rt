@@ -15,6 +15,6 @@ mod reuse;
 
 pub use complete_dialogue::CompleteDialogue;
 pub use cut::Cut;
-pub use heading::{HeadingView, heading_of_message, read_heading};
+pub use heading::{HeadingView, dialogue_after_ids, heading_of_message, read_heading};
 pub use malformed::{SoundPart, sound_part};
 pub use reuse::Reuse;
