@@ -1,0 +1,3 @@
+pub mod Malformed
+pub mod Reactions
+pub mod Readings
