@@ -1,6 +1,7 @@
 pub mod JudgingLaws
 pub mod ShownLaws
 mod ResultLaws
+mod ReactionLaws
 mod TraceEntriesLaws
 mod TraceMeaningLaws
 mod TraceLaws
@@ -18,6 +19,8 @@ pub mod CaseFacts
 pub mod DialogueFacts
 pub mod SegmentLaws
 pub mod SegmentState
+mod LateResults
+mod LateReactions
 pub mod StableVerdicts
 pub mod TraceStateLaws
 mod FirstAbove

@@ -22,8 +22,7 @@ use Rattle.tcap_traces.specs.declared.end_result.Circumstances.{Circumstances}
 use Rattle.tcap_traces.specs.declared.end_result.Doubt.{Doubt}
 use Rattle.tcap_traces.specs.declared.end_result.EndResult.{EndResult}
 use Rattle.tcap_traces.specs.declared.end_result.EndResult.TheVariants as end_results
-use Rattle.tcap_traces.specs.ResultMeaning.{IsTrueResult, MayHaveSentUnheard}
-use Rattle.tcap_traces.specs.TraceMeaning.{blamed_by}
+use Rattle.tcap_traces.specs.ResultMeaning.{IsTrueResult}
 use Rattle.tcap_traces.specs.Verdict.{doubt_of, fails, found_before, is_of, no_message_at, passes, result_before, result_by, result_of}
 use Rattle.tcap_traces.proofs.ShownLaws.{IsEarlier, said_so}
 
@@ -40,7 +39,7 @@ module _ (side : Side) (table : Table) where
   found_by entries count None (Err fault) is = tt
 
   -- The finding on an end holds.
-  found_holds : (entries : List Entry) → IsFound side table entries (finding table entries side)
+  pub found_holds : (entries : List Entry) → IsFound side table entries (finding table entries side)
   found_holds entries = found_by entries (items_before (map item_of entries)) (blamed table side entries) _ refl
 
   before_holds : (entries : List Entry) (n : ℕ) (is_all : Bool) → (n == length entries) ≡ is_all
@@ -55,20 +54,6 @@ module _ (side : Side) (table : Table) where
       (λ n is.
       subst (λ f. IsEarlier side table entries (length entries) (found_before table entries side (no_message_at f (length entries))) n) (sym is)
       (before_holds entries n (n == length entries) refl))
-
-  -- ---- an end that is blamed
-
-  pub blamed_so : (entries : List Entry) (r : Refutation) (said : EndResult) → IsTrueResult side table entries said
-      → blamed_by said ≡ Some r → IsAtFaultOf table side entries r
-  blamed_so entries r (end_results.Fail at) so is = let same : at ≡ r = cc in subst (IsAtFaultOf table side entries) same so
-  blamed_so entries r (end_results.Doubtful at doubt) so is = let same : at ≡ r = cc in subst (IsAtFaultOf table side entries) same so
-  blamed_so entries r said so is = cc
-
-  -- ---- an end that passes
-
-  pub passes_so : (entries : List Entry) (unheard : ℕ) (said : EndResult) → IsTrueResult side table entries said
-      → said ≡ end_results.Pass unheard → MayHaveSentUnheard side table entries unheard
-  passes_so entries unheard said so is = subst (IsTrueResult side table entries) is so
 
 -- No circumstance keeps an end that passes from it.
 pub record IsSure (c : Circumstances) (unheard : ℕ) : Type 0 where
@@ -94,7 +79,7 @@ module _ (c : Circumstances) (u : ℕ) where
   sure_by false false false false false true unheard is = cc
   sure_by false false false false false false unheard is = let same : unheard ≡ u = cc in (refl, refl, refl, refl, same)
 
-  passes_sure : (unheard : ℕ) → passes c unheard ≡ end_results.Pass u → IsSure c u
+  pub passes_sure : (unheard : ℕ) → passes c unheard ≡ end_results.Pass u → IsSure c u
   passes_sure unheard is =
       let (not_cut, sure, over, heard, same) =
       sure_by c.under_way c.early_mark c.cut c.unsure c.open (c.heard && nat_lt 0 unheard) unheard is in

@@ -29,7 +29,7 @@ use Rattle.tcap_traces.proofs.JudgingLaws.{counted, no_message, number_in, or_be
 
 -- ---- blame
 
-abbrev named_in : Finding → Option Refutation
+abbrev pub named_in : Finding → Option Refutation
 named_in (Blamed r) = Some r
 named_in found = None
 
@@ -39,7 +39,7 @@ named_by_all side count all (Some r) replay = refl
 named_by_all side count all None (Ok events) = refl
 named_by_all side count all None (Err fault) = refl
 
-named_is : (table : Table) (entries : List Entry) (side : Side)
+pub named_is : (table : Table) (entries : List Entry) (side : Side)
     → named_in (finding table entries side) ≡ blamed table side entries
 named_is table entries side =
     named_by_all side (items_before (map item_of entries)) (length entries) (blamed table side entries)

@@ -21,14 +21,19 @@ use Rattle.tcap_traces.specs.declared.verdict.Verdict.{Verdict}
 use Rattle.tcap_traces.specs.declared.verdict.Verdict.TheVariants as verdicts
 use Rattle.tcap_traces.specs.Pieces.{Entry, TraceEntry, pieces_of}
 use Rattle.tcap_traces.specs.TableChoice.{Choice, choice}
-use Rattle.tcap_traces.specs.Dialogue.{Dialogue, EndAfter, circumstances, ends_by, ends_on, entry_of, is_marked, is_open, judged_entries, most, quiet_mark, verdict_by}
+use Rattle.tcap_traces.specs.Dialogue.{Dialogue, EndAfter, circumstances, ends_by, ends_on, entry_of, is_marked, is_open, judged_ends, judged_entries, most, quiet_mark, verdict_by}
 use Rattle.tcap_traces.specs.Segments.{Before, Segment, before_next, courses_in, dialogue_of, empty, nothing_before, segments_of}
+use Rattle.tcap_faults.specs.BlameMeaning.{IsAtFaultOf}
+use Rattle.tcap_traces.specs.declared.end_result.Taken.{Taken}
+use Rattle.tcap_traces.specs.Reaction.{judged_result}
+use Rattle.tcap_traces.specs.ReactionMeaning.{IsTrueJudgement, MayHaveReacted}
 use Rattle.tcap_traces.specs.ResultMeaning.{MayHaveSentUnheard}
 use Rattle.tcap_traces.specs.ResultOfEnd.{result_at}
-use Rattle.tcap_traces.specs.Verdict.{rank, result_of, verdict_asked, verdict_of, worse}
+use Rattle.tcap_traces.specs.Verdict.{rank, verdict_asked, verdict_of, worse}
 use Rattle.tcap_traces.specs.JudgedTrace.{Asked, JudgedDialogue, all_in, breaks_off, end_of, is_reported, judged, judged_trace, readable_in, reported_from, reported_in, verdict_on, worst}
-use Rattle.tcap_traces.specs.TraceMeaning.{IsAtFaultIn, MayHaveSentPart, MeansFail, MeansPass, all_entries, blamed_by}
-use Rattle.tcap_traces.proofs.ResultLaws.{blamed_so, of_sure, passes_so, result_holds}
+use Rattle.tcap_traces.specs.TraceMeaning.{IsAtFaultIn, IsFailure, MayHaveSentPart, MeansFail, MeansPass, all_entries, blamed_by}
+use Rattle.tcap_traces.proofs.ReactionLaws.{IsSureIfPass, judged_true}
+use Rattle.tcap_traces.proofs.ResultLaws.{IsSure}
 use Rattle.tcap_traces.proofs.TraceEntriesLaws.{IsReadable, IsReportedIn, are_whole, from_segment, in_segment, in_some, some_readable}
 
 -- ---- the worst verdict
@@ -129,29 +134,21 @@ has_results : (of : Option Side) (ends : Option Ends) (said : Verdict) → (said
 has_results of None said other is = absurd (other (sym is))
 has_results of (Some results) said other is = (results, refl, is)
 
-is_pass : (said : EndResult) → verdict_of said ≡ verdicts.Pass → (unheard : ℕ) × (said ≡ end_results.Pass unheard)
-is_pass (end_results.Pass unheard) is = (unheard, refl)
-is_pass said is = cc
-
-is_failure : (said : EndResult) → verdict_of said ≡ verdicts.Fail → (r : Refutation) × (said ≡ end_results.Fail r)
-is_failure (end_results.Fail r) is = (r, refl)
-is_failure said is = cc
-
 -- ---- the results of a dialogue
 
 -- the result for an end is that of the table that the entries choose
-of_table : (o : Option NamedTable) (c : Circumstances) (entries : List JudgedEntry) (ends : Ends)
-    → ends_by (option_map (λ table. table.table) o) c entries ≡ Some ends → (side : Side)
-    → (table : NamedTable) × (o ≡ Some table) × (result_at side ends ≡ result_of table.table c entries side)
-of_table None c entries ends is side = cc
-of_table (Some table) c entries ends is side =
-    let same : record { a = result_of table.table c entries sides.A; b = result_of table.table c entries sides.B } ≡ ends = cc in
+of_table : (o : Option NamedTable) (c : Circumstances) (sent : List TraceEntry) (entries : List JudgedEntry) (ends : Ends)
+    → ends_by (option_map (λ table. table.table) o) c sent entries ≡ Some ends → (side : Side)
+    → (table : NamedTable) × (o ≡ Some table) × (result_at side ends ≡ judged_result table.table c sent entries side)
+of_table None c sent entries ends is side = cc
+of_table (Some table) c sent entries ends is side =
+    let same : both ≡ ends = cc in
     (table, refl, by side same)
   where
     both : Ends
-    both = record { a = result_of table.table c entries sides.A; b = result_of table.table c entries sides.B }
+    both = judged_ends table.table c sent entries
 
-    by : (s : Side) → both ≡ ends → result_at s ends ≡ result_of table.table c entries s
+    by : (s : Side) → both ≡ ends → result_at s ends ≡ judged_result table.table c sent entries s
     by sides.A same = sym (ap (result_at sides.A) same)
     by sides.B same = sym (ap (result_at sides.B) same)
 
@@ -179,46 +176,84 @@ module _ (asked : Asked) (d : Dialogue) where
   abbrev under : Circumstances
   under = circumstances asked.question found d
 
+  -- the result for an end is true
+  abbrev IsTrueFor : NamedTable → Side → EndResult → Type 0
+  IsTrueFor table side said = IsTrueJudgement side table.table d.entries (judged_entries d) said × IsSureIfPass under said
+
+  true_for : (ends : Ends) (side : Side) → ends_on asked.tables asked.question d ≡ Some ends
+      → (table : NamedTable) × (found.table ≡ Some table) × IsTrueFor table side (result_at side ends)
+  true_for ends side is =
+      let (table, chosen, said) = of_table found.table under d.entries (judged_entries d) ends is side in
+      (table, chosen, subst (IsTrueFor table side) (sym said) (judged_true side table.table d.entries under (judged_entries d)))
+
   -- an end that is blamed is at fault
+  blame_so : (table : NamedTable) → found.table ≡ Some table → (side : Side) (r : Refutation) (said : EndResult)
+      → IsTrueFor table side said → blamed_by said ≡ Some r → IsAtFaultIn asked d side r
+  blame_so table chosen side r (end_results.Fail at) so is =
+      let same : at ≡ r = cc in
+      record { table = table; chosen = chosen; at_fault = subst (IsAtFaultOf table.table side (judged_entries d)) same so.0 }
+  blame_so table chosen side r (end_results.Doubtful at doubt) so is =
+      let same : at ≡ r = cc in
+      record { table = table; chosen = chosen; at_fault = subst (IsAtFaultOf table.table side (judged_entries d)) same so.0 }
+  blame_so table chosen side r said so is = cc
+
   pub is_at_fault : (ends : Ends) (side : Side) (r : Refutation) → ends_on asked.tables asked.question d ≡ Some ends
       → blamed_by (result_at side ends) ≡ Some r → IsAtFaultIn asked d side r
   is_at_fault ends side r is blames =
-      let (table, chosen, said) = of_table found.table under (judged_entries d) ends is side in
-      record {
-        table = table;
-        chosen = chosen;
-        at_fault = blamed_so side table.table (judged_entries d) r (result_of table.table under (judged_entries d) side)
-            (result_holds side table.table under (judged_entries d)) (sym (ap blamed_by said) ∙ blames);
-      }
+      let (table, chosen, so) = true_for ends side is in blame_so table chosen side r (result_at side ends) so blames
+
+  -- an end that fails is at fault, or its reaction is
+  failure_so : (table : NamedTable) → found.table ≡ Some table → (side : Side) (said : EndResult)
+      → IsTrueFor table side said → verdict_of said ≡ verdicts.Fail → IsFailure asked d side said
+  failure_so table chosen side (end_results.Fail r) so is = record { table = table; chosen = chosen; at_fault = so.0 }
+  failure_so table chosen side (end_results.FailBy fault) so is = record { table = table; chosen = chosen; faulty = so.0 }
+  failure_so table chosen side said so is = cc
+
+  pub is_failure : (ends : Ends) (side : Side) → ends_on asked.tables asked.question d ≡ Some ends
+      → verdict_of (result_at side ends) ≡ verdicts.Fail → IsFailure asked d side (result_at side ends)
+  is_failure ends side is fails =
+      let (table, chosen, so) = true_for ends side is in failure_so table chosen side (result_at side ends) so fails
 
   none_below : (n : ℕ) → nat_lt 0 n ≡ false → n ≡ 0
   none_below n is = let few = ltb-false 0 n is in omega (few, arith)
 
+  -- the end may have sent its part of these entries, or of a reading of them
+  abbrev IsSent : Side → NamedTable → ℕ → List JudgedEntry → Type 0
+  IsSent side table unheard entries = MayHaveSentUnheard side table.table entries unheard
+      ⊎ ((taken : Taken) × MayHaveReacted side table.table d.entries entries taken unheard)
+
   part_by : (entries : List JudgedEntry) → entries ≡ all_entries d → (side : Side) (table : NamedTable)
       → (choice asked.tables entries).table ≡ Some table → (choice asked.tables entries).unsure ≡ false
-      → (unheard : ℕ) → MayHaveSentUnheard side table.table entries unheard → (asked.question.heard && nat_lt 0 unheard) ≡ false
+      → (unheard : ℕ) → IsSent side table unheard entries → (asked.question.heard && nat_lt 0 unheard) ≡ false
       → (asked.question.complete && is_open d (choice asked.tables entries).table) ≡ false → MayHaveSentPart asked d side
   part_by entries is side table chosen sure unheard sent heard over = record {
     table = table;
     chosen = subst (λ es. (choice asked.tables es).table ≡ Some table) is chosen;
     sure = subst (λ es. (choice asked.tables es).unsure ≡ false) is sure;
     unheard = unheard;
-    sent = subst (λ es. MayHaveSentUnheard side table.table es unheard) is sent;
+    sent = subst (IsSent side table unheard) is sent;
     heard = λ should. none_below unheard (sym (ap (λ b. b && nat_lt 0 unheard) should) ∙ heard);
     complete = λ should. sym (ap (λ b. b && is_open d (Some table)) should) ∙ sym (ap (λ t. asked.question.complete && is_open d t) chosen) ∙ over;
   }
 
   -- an end that passes may have sent its part
-  pub is_lawful : (ends : Ends) (side : Side) (unheard : ℕ) → ends_on asked.tables asked.question d ≡ Some ends
-      → result_at side ends ≡ end_results.Pass unheard → MayHaveSentPart asked d side
-  is_lawful ends side unheard is passes =
-      let (table, chosen, said) = of_table found.table under (judged_entries d) ends is side in
-      let sure = of_sure under unheard table.table (judged_entries d) side (sym said ∙ passes) in
+  pass_so : (table : NamedTable) → found.table ≡ Some table → (side : Side) (unheard : ℕ) → IsSure under unheard
+      → IsSent side table unheard (judged_entries d) → MayHaveSentPart asked d side
+  pass_so table chosen side unheard sure sent =
       part_by (judged_entries d) (all_judged d.entries (is_marked d.after) most sure.not_cut) side table chosen sure.sure
-      unheard
-      (passes_so side table.table (judged_entries d) unheard (result_of table.table under (judged_entries d) side)
-      (result_holds side table.table under (judged_entries d)) (sym said ∙ passes))
-      sure.heard sure.over
+      unheard sent sure.heard sure.over
+
+  lawful_so : (table : NamedTable) → found.table ≡ Some table → (side : Side) (said : EndResult)
+      → IsTrueFor table side said → verdict_of said ≡ verdicts.Pass → MayHaveSentPart asked d side
+  lawful_so table chosen side (end_results.Pass unheard) so is = pass_so table chosen side unheard so.1 (inl so.0)
+  lawful_so table chosen side (end_results.PassBy taken unheard) so is =
+      pass_so table chosen side unheard so.1 (inr (taken, so.0))
+  lawful_so table chosen side said so is = cc
+
+  pub is_lawful : (ends : Ends) (side : Side) → ends_on asked.tables asked.question d ≡ Some ends
+      → verdict_of (result_at side ends) ≡ verdicts.Pass → MayHaveSentPart asked d side
+  is_lawful ends side is passes =
+      let (table, chosen, so) = true_for ends side is in lawful_so table chosen side (result_at side ends) so passes
 
 -- ---- the dialogues of a trace
 
@@ -280,8 +315,7 @@ module _ (asked : Asked) where
         → is_judged asked.question.of side ≡ true → MayHaveSentPart asked j.dialogue side
     each_lawful j side so is asked_of =
         let (ends, has, said) = has_results asked.question.of j.ends verdicts.Pass pass_other is in
-        let (unheard, passes) = is_pass (result_at side ends) (asked_passes asked.question.of ends said side asked_of) in
-        is_lawful asked j.dialogue ends side unheard (sym so ∙ has) passes
+        is_lawful asked j.dialogue ends side (sym so ∙ has) (asked_passes asked.question.of ends said side asked_of)
 
     abbrev all_segments : List Segment
     all_segments = segments_of EndAfter (pieces_of octets).pieces
@@ -326,15 +360,12 @@ module _ (asked : Asked) where
         let (j, has, fails) = some_fails asked (judged_trace asked octets).dialogues all in
         let (ends, results, said) = has_results asked.question.of j.ends verdicts.Fail fail_other fails in
         let (side, asked_of, failed) = asked_fails asked.question.of ends said in
-        let (r, is_fail) = is_failure (result_at side ends) failed in
         record {
           judged = j;
           has = has;
           side = side;
           is_asked = asked_of;
-          fault = r;
           ends = ends;
           results = results;
-          fails = is_fail;
-          at_fault = each_at_fault j ends side r has results (ap blamed_by is_fail);
+          fails = is_failure asked j.dialogue ends side (sym (is_judged_so j has) ∙ results) failed;
         }

@@ -21,7 +21,8 @@ use Rattle.tcap_traces.specs.declared.verdict.Verdict.{Verdict}
 use Rattle.tcap_traces.specs.declared.verdict.Verdict.TheVariants as verdicts
 use Rattle.tcap_traces.specs.Pieces.{TraceEntry}
 use Rattle.tcap_traces.specs.TableChoice.{Choice, choice}
-use Rattle.tcap_traces.specs.Verdict.{result_of, verdict_asked}
+use Rattle.tcap_traces.specs.Reaction.{judged_result}
+use Rattle.tcap_traces.specs.Verdict.{verdict_asked}
 
 -- What comes after the entries of a dialogue: it is over, so that what follows does not matter; a quiet mark; the end
 -- of the trace; or a fault of the trace's form, which ends the trace.
@@ -168,11 +169,17 @@ circumstances q c d = record {
 
 -- ---- its verdict
 
+-- the result for each end, judged by this table
+abbrev pub judged_ends : Table → Circumstances → List TraceEntry → List Entry → Ends
+judged_ends table c sent entries = record {
+  a = judged_result table c sent entries sides.A;
+  b = judged_result table c sent entries sides.B;
+}
+
 -- the result for each end, judged by the table; None if the dialogue has no table
-abbrev pub ends_by : Option Table → Circumstances → List Entry → Option Ends
-ends_by None c entries = None
-ends_by (Some table) c entries =
-    Some (record { a = result_of table c entries sides.A; b = result_of table c entries sides.B })
+abbrev pub ends_by : Option Table → Circumstances → List TraceEntry → List Entry → Option Ends
+ends_by None c sent entries = None
+ends_by (Some table) c sent entries = Some (judged_ends table c sent entries)
 
 -- the worse verdict on the judged ends; an error if there is no table
 abbrev pub verdict_by : Option Side → Option Ends → Verdict
@@ -181,7 +188,7 @@ verdict_by of (Some ends) = verdict_asked of ends.a ends.b
 
 -- the result for each end, given the choice of the table
 abbrev pub ends_with : Question → Choice → Dialogue → Option Ends
-ends_with q c d = ends_by (option_map (λ table. table.table) c.table) (circumstances q c d) (judged_entries d)
+ends_with q c d = ends_by (option_map (λ table. table.table) c.table) (circumstances q c d) d.entries (judged_entries d)
 
 -- the result for each end, by the tables of this set
 abbrev pub ends_on : List NamedTable → Question → Dialogue → Option Ends

@@ -1,6 +1,8 @@
 pub mod Verdict
+pub mod Reaction
 pub mod ResultOfEnd
 pub mod ResultMeaning
+pub mod ReactionMeaning
 pub mod WorkedVerdicts
 pub mod IdsBeforeMarks
 pub mod Directive

@@ -34,7 +34,8 @@ MayHaveSent side table entries = (unheard : ℕ) × MayHaveSentUnheard side tabl
 
 -- The result is true. If the end fails or is doubtful, the entry is at fault, no matter what its peer
 -- sends or what follows. If it passes or is `Unheard`, it may have sent its part with this many unheard messages. If
--- only other circumstances keep it from passing, it may have sent its part with some number of unheard messages.
+-- only other circumstances keep it from passing, it may have sent its part with some number of unheard messages. It is no
+-- result of a reaction to a malformed message.
 abbrev pub IsTrueResult : Side → Table → List Entry → EndResult → Type 0
 IsTrueResult side table entries (end_results.Pass unheard) = MayHaveSentUnheard side table entries unheard
 IsTrueResult side table entries (end_results.Fail r) = IsAtFaultOf table side entries r
@@ -47,6 +48,7 @@ IsTrueResult side table entries end_results.TooLong = MayHaveSent side table ent
 IsTrueResult side table entries end_results.UnsureTable = MayHaveSent side table entries
 IsTrueResult side table entries end_results.Open = MayHaveSent side table entries
 IsTrueResult side table entries (end_results.Unheard unheard) = MayHaveSentUnheard side table entries unheard
+IsTrueResult side table entries said = ⊥
 
 -- the finding on the entries before this one, if there is one, holds
 abbrev pub IsFoundBefore : Side → Table → List Entry → Option ℕ → Option Finding → Type 0

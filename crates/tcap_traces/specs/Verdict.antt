@@ -226,7 +226,9 @@ result_of table c entries side =
 -- the verdict on an end: pass, fail, or inconclusive
 abbrev pub verdict_of : EndResult → Verdict
 verdict_of (end_results.Pass unheard) = verdicts.Pass
+verdict_of (end_results.PassBy taken unheard) = verdicts.Pass
 verdict_of (end_results.Fail r) = verdicts.Fail
+verdict_of (end_results.FailBy fault) = verdicts.Fail
 verdict_of said = verdicts.Inconclusive
 
 -- the rank of a verdict, from best to worst

@@ -7,11 +7,12 @@ ghost use Rattle.tcap_record.specs.Ends.{is_entry_of};
 ghost use Rattle.tcap_traces.specs.Case.{after_of, chosen_as, dialogue_in, earlier_of, number_of, question_in};
 ghost use Rattle.tcap_traces.specs.Segments.{may_go_on, sends_one};
 ghost use Rattle.tcap_traces.specs.TableChoice.{choice};
-ghost use Rattle.tcap_traces.specs.Dialogue.{began, begun_by, body_of, circumstances, comes_again, ends_by, ends_on, entry_of, first_after, first_heading, goes_to_one, heading_in, is_after_directive, is_long, is_marked, is_open, judged_entries, most, verdict_by, verdict_on};
+ghost use Rattle.tcap_traces.specs.Dialogue.{began, begun_by, body_of, circumstances, comes_again, ends_by, ends_on, entry_of, first_after, first_heading, goes_to_one, heading_in, is_after_directive, is_long, is_marked, is_open, judged_ends, judged_entries, most, verdict_by, verdict_on};
 
 use crate::before_marks::InUse;
 use crate::end_result::Circumstances;
 use crate::judging::{Ends, judge_dialogue};
+use crate::reaction::judge_reaction;
 use crate::table_choice::{ChosenTable, choose};
 use crate::verdict::Verdict;
 use std::alloc::{AllocError, Global};
@@ -19,6 +20,7 @@ use std::marker::Model;
 use tcap_ber::{Fault, Reason};
 use tcap_books::{Book, NamedTable};
 use tcap_dialogues::{CompleteDialogue, HeadingView, read_heading};
+use tcap_end::Table;
 use tcap_msg::{DecodeFault, Kind as Form, MessageParts, decode};
 use tcap_record::{Body, End, Entry, Record};
 
@@ -410,20 +412,43 @@ pub fn sent_by(record: &Record, end: End) -> usize
         .count()
 }
 
+/// Returns the result for each end. Leaves the entries as they are.
+fn judge_ends(
+    alloc: Global,
+    sent: &[TraceEntry],
+    read: &mut Record,
+    table: &Table,
+    circumstances: Circumstances,
+) -> Result<Ends, AllocError>
+    requires few { length read.old.entries.items ≤ 100000 }
+    ensures said { IfOk result (λ ends. ends
+        ≡ judged_ends table.now circumstances sent.now read.old.entries.items) }
+    ensures stays { OnOk result (read.new.entries.items ≡ read.old.entries.items) }
+{
+    let ends = judge_dialogue(alloc, read, table, circumstances)?;
+    let a = judge_reaction(alloc, sent, &read.entries, table, circumstances, End::A)?;
+    let b = judge_reaction(alloc, sent, &read.entries, table, circumstances, End::B)?;
+    Ok(Ends {
+        a: a.unwrap_or(ends.a),
+        b: b.unwrap_or(ends.b),
+    })
+}
+
 /// Returns the result for each end, or None if there is no table. Leaves the entries as they are.
 fn ends_of(
     alloc: Global,
+    sent: &[TraceEntry],
     read: &mut Record,
     table: Option<&NamedTable>,
     circumstances: Circumstances,
 ) -> Result<Option<Ends>, AllocError>
     requires few { length read.old.entries.items ≤ 100000 }
     ensures said { IfOk result (λ ends. ends
-        ≡ ends_by (option_map (λ table. table.now.table) table.entry) circumstances read.old.entries.items) }
+        ≡ ends_by (option_map (λ table. table.now.table) table.entry) circumstances sent.now read.old.entries.items) }
     ensures stays { OnOk result (read.new.entries.items ≡ read.old.entries.items) }
 {
     match table {
-        Some(table) => Ok(Some(judge_dialogue(alloc, read, table.table(), circumstances)?)),
+        Some(table) => Ok(Some(judge_ends(alloc, sent, read, table.table(), circumstances)?)),
         None => Ok(None),
     }
 }
@@ -461,7 +486,13 @@ pub fn judge<'a>(
     let mut record = case.record(alloc)?;
     let chosen = choose(alloc, book, &record.entries)?;
     let circumstances = case.circumstances(&record.entries, &chosen);
-    let ends = ends_of(alloc, &mut record, chosen.table, circumstances)?;
+    let ends = ends_of(
+        alloc,
+        &case.entries,
+        &mut record,
+        chosen.table,
+        circumstances,
+    )?;
     Ok(JudgedDialogue {
         record,
         context: chosen.context,

@@ -249,7 +249,7 @@ fn may_be_over(read: &Record, table: &Table, end: End, at: Refutation) -> bool
 }
 
 /// Returns whether an entry is the first of these or a later one.
-fn is_from(first: Option<u64>, number: u64) -> bool
+pub(crate) fn is_from(first: Option<u64>, number: u64) -> bool
     ensures { result ≡ is_from first number }
 {
     match first {
@@ -259,7 +259,7 @@ fn is_from(first: Option<u64>, number: u64) -> bool
 }
 
 /// Returns whether the peer of an end began the dialogue, given the end whose Begin began it.
-fn is_begun_by_peer(began: Option<End>, end: End) -> bool
+pub(crate) fn is_begun_by_peer(began: Option<End>, end: End) -> bool
     ensures { result ≡ is_begun_by_peer began «end» }
 {
     match began {

@@ -4,6 +4,7 @@ ghost use Rattle.std.specs.Prelude.{◌≡◌};
 ghost use Rattle.tcap_traces.specs.Verdict.{verdict_of};
 
 use crate::verdict::Verdict;
+use tcap_readings::Way;
 use tcap_record::End;
 use tcap_refute::Refutation;
 
@@ -58,6 +59,41 @@ pub enum EndResult {
     Open,
     /// The end may have sent its part, but it did not hear this many messages of its peer, and should have heard each.
     Unheard(u64),
+    /// The end may have sent its part if it took a malformed message of its peer in this way, with this many unheard
+    /// messages.
+    PassBy(Taken, u64),
+    /// The end broke the rules in its reaction to a malformed message of its peer.
+    FailBy(ReactionFault),
+    /// The end broke the rules in its reaction to a malformed message of its peer, unless the doubt is justified.
+    DoubtfulBy(ReactionFault, Doubt),
+    /// The peer sent several malformed messages. These are the first two.
+    SeveralMalformed(u64, u64),
+    /// The end may have sent its part only if an Abort answers this malformed message of its peer that Q.774 does not
+    /// name for it, or after which the end goes on.
+    UnlikelyAnswer(u64),
+    /// By some way of taking this malformed message of its peer, it is open if the end may have sent its part, or its
+    /// blame is in doubt. It may have sent its part by no other way.
+    UnclearReading(u64),
+    /// The end goes on as if this malformed entry of its peer had been a message.
+    AsIfMessage(u64),
+}
+
+/// The way in which an end took a malformed message of its peer.
+#[derive(Clone, Copy, Debug, PartialEq, Eq)]
+pub struct Taken {
+    /// The number of the malformed message in the dialogue, counted from 0.
+    pub entry: u64,
+    /// The way.
+    pub way: Way,
+}
+
+/// A fault of an end in its reaction to a malformed message of its peer.
+#[derive(Clone, Copy, Debug, PartialEq, Eq)]
+pub enum ReactionFault {
+    /// The end is blamed no matter how it took the message. This is the last of its faults.
+    Wrong(Refutation),
+    /// The end aborts the transaction of the message in the entry `answer`, and goes on with it in `entry`.
+    GoesOn { answer: u64, entry: u64 },
 }
 
 /// The circumstances of a dialogue, besides its entries.
@@ -94,8 +130,8 @@ impl EndResult {
         ensures { result ≡ verdict_of self }
     {
         match self {
-            EndResult::Pass(_) => Verdict::Pass,
-            EndResult::Fail(_) => Verdict::Fail,
+            EndResult::Pass(_) | EndResult::PassBy(..) => Verdict::Pass,
+            EndResult::Fail(_) | EndResult::FailBy(_) => Verdict::Fail,
             _ => Verdict::Inconclusive,
         }
     }

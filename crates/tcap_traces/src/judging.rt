@@ -6,16 +6,17 @@ ghost use Rattle.std.specs.List.{list_any};
 ghost use Rattle.tcap_record.specs.declared.entry.End.TheVariants as sides;
 ghost use Rattle.tcap_judge.specs.BlameOutcome.{IsFound, finding};
 ghost use Rattle.tcap_traces.specs.ResultMeaning.{IsFoundBefore, IsTrueResult};
-ghost use Rattle.tcap_traces.specs.Verdict.{found_before, is_of, no_message_at, passes, result_before, result_by, result_of, verdict_asked};
+ghost use Rattle.tcap_traces.specs.Verdict.{fails, found_before, is_of, no_message_at, passes, result_before, result_by, result_of, verdict_asked};
 
 use crate::doubts::doubt_of;
-use crate::end_result::{Circumstances, EndResult};
+use crate::end_result::{Circumstances, Doubt, EndResult};
 use crate::verdict::Verdict;
 use std::alloc::{AllocError, Global};
 use tcap_end::Table;
 use tcap_faults::laws;
 use tcap_judge::{Ends as Found, Finding, blame_record};
 use tcap_record::{End, Entry, Record};
+use tcap_refute::Refutation;
 
 /// The results for both ends of a dialogue.
 #[derive(Clone, Copy, Debug, PartialEq, Eq)]
@@ -51,8 +52,18 @@ impl Ends {
     }
 }
 
+/// Returns the result for an end that is blamed: it fails, or is doubtful.
+pub(crate) fn fails(at: Refutation, doubt: Option<Doubt>) -> EndResult
+    ensures { result ≡ fails at doubt }
+{
+    match doubt {
+        None => EndResult::Fail(at),
+        Some(doubt) => EndResult::Doubtful(at, doubt),
+    }
+}
+
 /// Returns the result for an end that may have sent its part: it passes, unless a circumstance makes it inconclusive.
-fn passes(circumstances: Circumstances, unheard: u64) -> EndResult
+pub(crate) fn passes(circumstances: Circumstances, unheard: u64) -> EndResult
     ensures { result ≡ passes circumstances unheard }
 {
     if circumstances.under_way {
@@ -83,7 +94,7 @@ fn is_of(end: End, entry: &Entry) -> bool
 }
 
 /// Returns whether the end sent one of these entries.
-fn has_own(end: End, entries: &[Entry]) -> bool
+pub(crate) fn has_own(end: End, entries: &[Entry]) -> bool
     ensures { result ≡ list_any (is_of end) entries.now }
 {
     for entry in entries {
@@ -218,10 +229,9 @@ fn result_by(
         said ≡ result_by table.now circumstances end read.now.entries.items found earlier) }
 {
     match found {
-        Finding::Blamed(at) => match doubt_of(alloc, read, table, circumstances, end, at)? {
-            None => Ok(EndResult::Fail(at)),
-            Some(doubt) => Ok(EndResult::Doubtful(at, doubt)),
-        },
+        Finding::Blamed(at) => {
+            Ok(fails(at, doubt_of(alloc, read, table, circumstances, end, at)?))
+        }
         Finding::Lawful(_, unheard) => Ok(passes(circumstances, unheard)),
         Finding::NotBlamed(count) => Ok(result_before(read, circumstances, end, count, earlier)),
     }

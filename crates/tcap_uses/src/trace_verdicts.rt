@@ -3,12 +3,12 @@
 ghost use Rattle.std.specs.Prelude.{◌≡◌, ℕ, List, true, Contains};
 ghost use Rattle.tcap_record.specs.declared.entry.End.{End as Side};
 ghost use Rattle.tcap_certificate.specs.Replay.{is_judged};
-ghost use Rattle.tcap_refute.specs.declared.kind.Refutation.{Refutation};
+ghost use Rattle.tcap_traces.specs.declared.end_result.EndResult.{EndResult};
 ghost use Rattle.tcap_traces.specs.declared.verdict.Verdict.TheVariants as verdicts;
 ghost use Rattle.tcap_traces.specs.Pieces.{Entry, TraceEntry, pieces_of};
 ghost use Rattle.tcap_traces.specs.Dialogue.{Dialogue};
 ghost use Rattle.tcap_traces.specs.JudgedTrace.{Asked, judged_trace};
-ghost use Rattle.tcap_traces.specs.TraceMeaning.{IsAtFaultIn, MayHaveSentPart};
+ghost use Rattle.tcap_traces.specs.TraceMeaning.{IsFailure, MayHaveSentPart};
 
 use tcap_traces::laws;
 
@@ -22,11 +22,12 @@ pub fn entry_of_pass()
     laws::pass_is_lawful();
 }
 
-/// Shows that a judged end is at fault in some dialogue of a trace that fails.
+/// Shows that a judged end is at fault in some dialogue of a trace that fails: in an entry, or in its reaction to a
+/// malformed message.
 pub fn end_of_fail()
     ensures { (asked : Asked) (octets : List ℕ) → (judged_trace asked octets).verdict ≡ verdicts.Fail
-        → (d : Dialogue) × (side : Side) × (r : Refutation) × (is_judged asked.question.of side ≡ true)
-        × IsAtFaultIn asked d side r }
+        → (d : Dialogue) × (side : Side) × (said : EndResult) × (is_judged asked.question.of side ≡ true)
+        × IsFailure asked d side said }
 {
     laws::fail_is_at_fault();
 }
