@@ -43,7 +43,8 @@ def heads_of(it):
     for end in "AB":
         said = it.get(end, {"verdict": "pass"})
         if said["verdict"] != "pass":
-            place = f" at line {said['line']}, {said['kind']}" if "kind" in said else ""
+            place = f" at line {said['line']}" if "line" in said else ""
+            place += f", {said['kind']}" if "kind" in said else ""
             why = said.get("text", said.get("reason", "")).strip().partition("\n")[0]
             doubt = f" (in doubt: {said['doubt']})" if "doubt" in said else ""
             yield f"{where}, {end}: {said['verdict']}{place}: {why}{doubt}"

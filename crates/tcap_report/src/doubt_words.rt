@@ -2,6 +2,7 @@
 //!
 //! Each function that returns `AllocError` does so if memory runs out.
 
+use crate::reaction_words::push_unsure_reaction;
 use crate::used_again::push_used_again;
 use std::alloc::{AllocError, Global};
 use std::collections::BTreeSet;
@@ -83,6 +84,10 @@ pub(crate) fn push_said(
             "the dialogue is open at the quiet mark after it",
         )?,
         EndResult::Unheard(unheard) => push_unheard(text, unheard)?,
+        EndResult::SeveralMalformed(..)
+        | EndResult::UnlikelyAnswer(_)
+        | EndResult::UnclearReading(_)
+        | EndResult::AsIfMessage(_) => push_unsure_reaction(alloc, text, case, said)?,
         _ => text.push_str(undecided_words(said))?,
     }
     push_used_again(alloc, text, case)

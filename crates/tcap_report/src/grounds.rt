@@ -126,7 +126,12 @@ impl Grounds {
 /// Returns the entry that the result for an end is about.
 fn named_by(said: EndResult) -> Option<u64> {
     match said {
-        EndResult::AfterBadEntry(number) => Some(number),
+        EndResult::AfterBadEntry(number)
+        | EndResult::SeveralMalformed(_, number)
+        | EndResult::UnlikelyAnswer(number)
+        | EndResult::UnclearReading(number)
+        | EndResult::AsIfMessage(number) => Some(number),
+        EndResult::PassBy(taken, _) => Some(taken.entry),
         _ => blamed_by(said),
     }
 }

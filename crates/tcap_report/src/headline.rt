@@ -6,6 +6,7 @@ use crate::awaited_answers::push_first_wait;
 use crate::doubt_words::{line_of, push_doubt, push_said};
 use crate::grounds::Grounds;
 use crate::order::{in_order, is_asked};
+use crate::reaction_words::{fault_entry, push_reaction_fault};
 use crate::reason::push_alternative;
 use crate::text::{no_table_words, push_shown_by_run};
 use std::alloc::{AllocError, Global};
@@ -54,6 +55,16 @@ fn push_end(
         EndResult::Fail(at) => push_blame(text, case, judged, end, at, grounds),
         EndResult::Doubtful(at, doubt) => {
             push_blame(text, case, judged, end, at, grounds)?;
+            text.push_str("; inconclusive: ")?;
+            push_doubt(alloc, text, case, doubt)
+        }
+        EndResult::FailBy(fault) => {
+            push_line(text, case, fault_entry(fault))?;
+            push_reaction_fault(alloc, text, case, judged, end, fault)
+        }
+        EndResult::DoubtfulBy(fault, doubt) => {
+            push_line(text, case, fault_entry(fault))?;
+            push_reaction_fault(alloc, text, case, judged, end, fault)?;
             text.push_str("; inconclusive: ")?;
             push_doubt(alloc, text, case, doubt)
         }

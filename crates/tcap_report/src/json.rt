@@ -11,6 +11,7 @@ use crate::grounds::Grounds;
 use crate::messages::push_messages;
 use crate::order::{is_asked, last_open};
 use crate::places::push_spot;
+use crate::reaction_words::{fault_entry, push_reaction_fault, way_name};
 use crate::reason::{push_alternative, push_reason};
 use crate::reason_codes::reason_code;
 use crate::sinks::TraceSummary;
@@ -21,7 +22,7 @@ use tcap_evidence::{Evidence, push_fact};
 use tcap_page::{push_flag, push_named, push_numbers, push_octets, push_text};
 use tcap_record::{End, push_hex};
 use tcap_refute::Refutation;
-use tcap_traces::{Case, EndResult, JudgedDialogue, NextItem, Verdict, sent_by};
+use tcap_traces::{Case, EndResult, JudgedDialogue, NextItem, ReactionFault, Verdict, sent_by};
 
 /// Appends the IDs of an end.
 fn push_ids(json: &mut String, case: &Case, end: End) -> Result<(), AllocError> {
@@ -159,6 +160,48 @@ fn shown_name(said: EndResult) -> &'static str {
     }
 }
 
+/// Appends the number of unheard messages of an end that passes, the `last` of them, the number of messages that the end
+/// sent and, if it sent none, the Begin that it did not answer.
+fn push_pass(
+    alloc: Global,
+    json: &mut String,
+    case: &Case,
+    judged: &JudgedDialogue,
+    end: End,
+    unheard: u64,
+    last: Option<u64>,
+) -> Result<(), AllocError> {
+    let sent = sent_by(&judged.record, end);
+    write!(json, ",\"unheard\":{unheard},\"sent\":{sent}")?;
+    push_spot(alloc, json, "last_unheard", case, last)?;
+    if sent == 0 {
+        let begin = unanswered_by(alloc, judged, end)?;
+        push_spot(alloc, json, "unanswered", case, begin)?;
+    }
+    Ok(())
+}
+
+/// Appends the entry, the line and the words of a fault in the reaction of an end.
+fn push_reaction(
+    alloc: Global,
+    json: &mut String,
+    case: &Case,
+    judged: &JudgedDialogue,
+    end: End,
+    fault: ReactionFault,
+) -> Result<(), AllocError> {
+    let entry = fault_entry(fault);
+    let line = line_of(case, entry);
+    write!(json, ",\"entry\":{entry},\"line\":{line}")?;
+    let comment = comment_of(alloc, case, entry)?;
+    if !comment.is_empty() {
+        push_named(json, "comment", &comment)?;
+    }
+    let mut text = String::new(alloc);
+    push_reaction_fault(alloc, &mut text, case, judged, end, fault)?;
+    push_named(json, "text", &text)
+}
+
 /// Appends the result for an end.
 fn push_end(
     alloc: Global,
@@ -176,14 +219,23 @@ fn push_end(
         push_named(json, "reason", code)?;
     }
     match said {
+        EndResult::FailBy(fault) => push_reaction(alloc, json, case, judged, end, fault)?,
+        EndResult::DoubtfulBy(fault, doubt) => {
+            push_reaction(alloc, json, case, judged, end, fault)?;
+            let mut text = String::new(alloc);
+            push_doubt(alloc, &mut text, case, doubt)?;
+            push_named(json, "doubt", &text)?;
+        }
+        EndResult::PassBy(taken, unheard) => {
+            let entry = taken.entry;
+            push_pass(alloc, json, case, judged, end, unheard, None)?;
+            write!(json, ",\"reading\":{{\"entry\":{entry}")?;
+            push_named(json, "way", way_name(taken.way))?;
+            json.push_str("}")?;
+        }
         EndResult::Pass(unheard) => {
-            let sent = sent_by(&judged.record, end);
-            write!(json, ",\"unheard\":{unheard},\"sent\":{sent}")?;
-            push_spot(alloc, json, "last_unheard", case, grounds.shown_by_run(end))?;
-            if sent == 0 {
-                let begin = unanswered_by(alloc, judged, end)?;
-                push_spot(alloc, json, "unanswered", case, begin)?;
-            }
+            let last = grounds.shown_by_run(end);
+            push_pass(alloc, json, case, judged, end, unheard, last)?;
         }
         EndResult::Fail(at) => push_blamed(alloc, json, case, judged, end, at, grounds)?,
         EndResult::Doubtful(at, doubt) => {

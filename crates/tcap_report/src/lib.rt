@@ -23,6 +23,7 @@ mod order;
 mod page;
 mod passing;
 mod places;
+mod reaction_words;
 mod reason;
 mod reason_codes;
 mod run;

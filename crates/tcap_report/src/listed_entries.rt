@@ -2,12 +2,14 @@
 
 ghost use Rattle.std.specs.Prelude.{◌<◌, ◌≤◌, ◌+◌, ◌⊎◌, ◌↔◌, IsTrue};
 
+use crate::reaction_words::fault_entry;
 use tcap_traces::{EndResult, JudgedDialogue};
 
 /// Returns the number of the entry at which an end is at fault.
 pub(crate) fn blamed_by(said: EndResult) -> Option<u64> {
     match said {
         EndResult::Fail(at) | EndResult::Doubtful(at, _) => Some(at.entry),
+        EndResult::FailBy(fault) | EndResult::DoubtfulBy(fault, _) => Some(fault_entry(fault)),
         _ => None,
     }
 }

@@ -6,9 +6,10 @@ use crate::awaited_answers::push_unanswered;
 use crate::grounds::Grounds;
 use crate::order::is_asked;
 use crate::places::push_message_place;
+use crate::reaction_words::push_taken;
 use std::alloc::{AllocError, Global};
 use tcap_record::End;
-use tcap_traces::{Case, EndResult, JudgedDialogue, sent_by};
+use tcap_traces::{Case, EndResult, JudgedDialogue, Taken, sent_by};
 
 /// Appends the last message that an end may not have heard, and how many of the `unheard` ones come before it.
 fn push_unheard(
@@ -63,6 +64,21 @@ fn push_end(
     text.push_str("\n")
 }
 
+/// Appends the line of an end that passes if it took a malformed message of its peer in this way.
+pub(crate) fn push_end_by(
+    alloc: Global,
+    text: &mut String,
+    case: &Case,
+    end: End,
+    taken: Taken,
+) -> Result<(), AllocError> {
+    text.push_str("  ")?;
+    text.push_str(end.letter())?;
+    text.push_str(": pass: ")?;
+    push_taken(alloc, text, case, taken)?;
+    text.push_str("\n")
+}
+
 /// Appends a line for each end that is asked and did not hear all, or sent nothing.
 pub(crate) fn push_passing(
     alloc: Global,
@@ -77,6 +93,9 @@ pub(crate) fn push_passing(
     };
     for end in [End::A, End::B] {
         match ends.of(end) {
+            EndResult::PassBy(taken, _) if is_asked(of, end) => {
+                push_end_by(alloc, text, case, end, taken)?;
+            }
             EndResult::Pass(unheard) if is_asked(of, end) => {
                 push_end(alloc, text, case, judged, end, unheard, grounds)?;
             }

@@ -20,8 +20,9 @@ fn doubt_code(doubt: Doubt) -> &'static str {
 /// Returns the code of the reason why a result is inconclusive, if it is.
 pub(crate) fn reason_code(said: EndResult) -> Option<&'static str> {
     match said {
-        EndResult::Pass(_) | EndResult::Fail(_) => None,
-        EndResult::Doubtful(_, doubt) => Some(doubt_code(doubt)),
+        EndResult::Pass(_) | EndResult::PassBy(..) => None,
+        EndResult::Fail(_) | EndResult::FailBy(_) => None,
+        EndResult::Doubtful(_, doubt) | EndResult::DoubtfulBy(_, doubt) => Some(doubt_code(doubt)),
         EndResult::Undecided => Some("undecided"),
         EndResult::AfterBadEntry(_) => Some("after_bad_entry"),
         EndResult::UnderWay => Some("under_way"),
@@ -30,5 +31,9 @@ pub(crate) fn reason_code(said: EndResult) -> Option<&'static str> {
         EndResult::UnsureTable => Some("unsure_table"),
         EndResult::Open => Some("open"),
         EndResult::Unheard(_) => Some("unheard"),
+        EndResult::SeveralMalformed(..) => Some("several_malformed"),
+        EndResult::UnlikelyAnswer(_) => Some("unlikely_answer"),
+        EndResult::UnclearReading(_) => Some("unclear_reading"),
+        EndResult::AsIfMessage(_) => Some("as_if_message"),
     }
 }

@@ -9,8 +9,9 @@ use crate::end_names::EndNames;
 use crate::grounds::Grounds;
 use crate::listed_entries::{is_near, last_listed};
 use crate::order::{in_order, is_asked, last_open};
-use crate::passing::push_passing;
+use crate::passing::{push_end_by, push_passing};
 use crate::places::{push_entry_place, push_message_place, push_place};
+use crate::reaction_words::{fault_entry, push_reaction_fault};
 use crate::reason::{push_alternative, push_reason};
 use std::alloc::{AllocError, Global};
 use tcap_books::NamedTable;
@@ -19,7 +20,7 @@ use tcap_msg::MessageParts;
 use tcap_page::push_component;
 use tcap_record::{Body, End, Entry, push_head, push_hex};
 use tcap_refute::Refutation;
-use tcap_traces::{Case, EndResult, JudgedDialogue, Verdict};
+use tcap_traces::{Case, EndResult, JudgedDialogue, ReactionFault, Verdict};
 
 /// The number of entries listed at the beginning of a dialogue, and (`BEFORE`) before the last one at fault.
 const FIRST: usize = 8;
@@ -140,6 +141,26 @@ pub(crate) fn push_undecided(
     text.push_str("\n")
 }
 
+/// Appends the line of an end whose reaction to a malformed message is at fault, without its end.
+fn push_reaction(
+    alloc: Global,
+    text: &mut String,
+    case: &Case,
+    judged: &JudgedDialogue,
+    end: End,
+    verdict: Verdict,
+    fault: ReactionFault,
+) -> Result<(), AllocError> {
+    text.push_str("  ")?;
+    text.push_str(end.letter())?;
+    text.push_str(": ")?;
+    text.push_str(verdict.word())?;
+    text.push_str(" at ")?;
+    push_entry_place(alloc, text, case, fault_entry(fault))?;
+    text.push_str(": ")?;
+    push_reaction_fault(alloc, text, case, judged, end, fault)
+}
+
 /// Appends the result for an end, unless it passes.
 fn push_end(
     alloc: Global,
@@ -152,6 +173,17 @@ fn push_end(
 ) -> Result<(), AllocError> {
     match said {
         EndResult::Pass(_) => Ok(()),
+        EndResult::PassBy(taken, _) => push_end_by(alloc, text, case, end, taken),
+        EndResult::FailBy(fault) => {
+            push_reaction(alloc, text, case, judged, end, said.verdict(), fault)?;
+            text.push_str("\n")
+        }
+        EndResult::DoubtfulBy(fault, doubt) => {
+            push_reaction(alloc, text, case, judged, end, said.verdict(), fault)?;
+            text.push_str("\n  that is inconclusive: ")?;
+            push_doubt(alloc, text, case, doubt)?;
+            text.push_str("\n")
+        }
         EndResult::Fail(at) => {
             push_blamed(alloc, text, case, judged, end, said.verdict(), at, grounds)?;
             push_reason(alloc, text, case, judged, end, at, grounds)

@@ -11,8 +11,8 @@ const MOST: u64 = 20;
 /// Returns whether an end passes but missed a message of its peer, or sent nothing.
 fn is_silent(judged: &JudgedDialogue, end: End, said: EndResult) -> bool {
     match said {
-        EndResult::Pass(0) => sent_by(&judged.record, end) == 0,
-        EndResult::Pass(_) => true,
+        EndResult::Pass(0) | EndResult::PassBy(_, 0) => sent_by(&judged.record, end) == 0,
+        EndResult::Pass(_) | EndResult::PassBy(..) => true,
         _ => false,
     }
 }
