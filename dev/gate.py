@@ -44,6 +44,7 @@ TESTS = {
     "fault_kinds": "faults that are read anew",
     "facts": "faults at entries in words",
     "planted": "dialogues with a planted fault",
+    "malformed": "dialogues with a malformed message",
     "pages": "examples and commands of pages",
     "rules": "examples of rules",
     "theorem": "parts of the page of theorems",

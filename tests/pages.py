@@ -24,7 +24,7 @@ import tempfile
 
 from tested import PROGRAM
 
-LIBRARIES = ["ber", "parts", "msg", "record", "end", "books", "model", "dialogues", "certificate_text", "check", "refute", "faults", "evidence", "search", "lines", "judge", "diagnostics", "explain", "traces", "command_line"]
+LIBRARIES = ["ber", "parts", "msg", "record", "end", "books", "model", "dialogues", "readings", "certificate_text", "check", "refute", "faults", "evidence", "search", "lines", "judge", "diagnostics", "explain", "traces", "command_line"]
 PAGES = {f"crates/tcap_{name}/README.md": [name] for name in LIBRARIES}
 PAGES["docs/LIBRARY.md"] = ["judge"]
 RUST = re.compile(r"^```rust\n(.*?)^```$", re.DOTALL | re.MULTILINE)

@@ -16,7 +16,7 @@ from evidence import WORDS
 from tested import PROGRAM
 from trace_junit import MOST_UNHEARD, OPEN, OPEN_AT_MARK, VERDICTS, blocks_of, in_order, is_unheard, look_at_junit, unnamed
 from trace_page import lines_in, look_at_page, sum_of
-from trace_rows import CAME_AGAIN, OPERATIONS
+from trace_rows import CAME_AGAIN, OPERATIONS, REACTION
 
 with contextlib.suppress(ImportError):
     import jsonschema
@@ -28,6 +28,15 @@ with contextlib.suppress(ImportError):
 STATUS = {"pass": 0, "fail": 1, "inconc": 2, "error": 3}
 # The most entries of a dialogue that are checked by the schema.
 MOST_LOOKED_AT = 1000
+# How an end that passes took a malformed message of its peer: the words before the message and after it.
+TAKEN = {
+    "dropped": ("it discards ", ""),
+    "closed": ("its transaction ends with ", ""),
+    "in part": ("it takes the sound part of ", ""),
+    "rejected": ("it takes the sound part of ", ", and rejects the rest"),
+    "aborted": ("it answers ", ", with an Abort"),
+    "refused": ("it refuses the transaction of ", ", with an Abort"),
+}
 # The codes of the reasons why an end is inconclusive, with a part of the words for each.
 CODES = {
     "under_way": "dialogues may have been under way when it began",
@@ -44,6 +53,10 @@ CODES = {
     "too_long": "more than 100,000 entries",
     "open": "the dialogue is open at the",
     "unheard": "in the run that was found",
+    "several_malformed": "only one malformed message can be judged",
+    "unlikely_answer": "Q.774 names another answer, or the end goes on",
+    "unclear_reading": "it is open if it kept the rules",
+    "as_if_message": "had been a message",
 }
 
 
@@ -131,6 +144,17 @@ def schema():
 
 
 SCHEMA = schema()
+
+
+# How an end took a malformed message of its peer: what comes before the entry, and after it.
+WAYS = {
+    "dropped": ("it discards ", ""),
+    "closed": ("its transaction ends with ", ""),
+    "in part": ("it takes the sound part of ", ""),
+    "rejected": ("it takes the sound part of ", ", and rejects the rest"),
+    "aborted": ("it answers ", ", with an Abort"),
+    "refused": ("it refuses the transaction of ", ", with an Abort"),
+}
 
 
 def worst(verdicts):
@@ -251,12 +275,12 @@ def open_words(it):
 
 def look_at_texts(checks, dialogues):
     """Checks that a dialogue has a text of its own if it is an error, or if an end is open; and that the verdict on
-    the later of two faults names the other end."""
+    the later of two faults names the other end if it has a kind."""
     for it in dialogues:
         is_open = any(it.get(end, {}).get("text") == f"{open_words(it)}\n" for end in "AB")
         checks.same("a text of the dialogue", "text" in it, is_open or it["verdict"] == "error")
-        blamed = [end for end in in_order(it) if "kind" in it.get(end, {})]
-        is_later = len({it[end]["entry"] for end in blamed}) > 1
+        blamed = [end for end in in_order(it) if "entry" in it.get(end, {})]
+        is_later = len({it[end]["entry"] for end in blamed}) > 1 and "kind" in it[blamed[1]]
         found = {end: it[end]["may_follow"] for end in "AB" if "may_follow" in it.get(end, {})}
         checks.same("what may follow", found, {blamed[1]: blamed[0]} if is_later else {})
 
@@ -268,6 +292,32 @@ def look_at_reasons(checks, dialogues):
         code, words = said.get("reason"), said.get("doubt", said.get("text", ""))
         checks.same("a code", code is not None, said["verdict"] == "inconc")
         checks.holds(f"the code {code}: {words}", code is None or CODES[code] in words)
+
+
+def line_on_reaction(it, end):
+    """Returns the line on an end that passes by a reading, or is at fault in its reaction, as a pattern; None for
+    another end."""
+    said = it[end]
+
+    def place(entry):
+        line = it["lines"][entry]
+        return re.escape(f"entry {entry} of the dialogue" + (f", line {line}" if line else "")) + r"(?: \(.*\))?"
+
+    if "reading" in said:
+        before, after = WAYS[said["reading"]["way"]]
+        return f"  {end}: pass: {before}{place(said['reading']['entry'])}, which is no message{after}"
+    if "entry" in said and "kind" not in said:
+        return f"  {end}: {said['verdict']} at {place(said['entry'])}: {re.escape(said['text'])}"
+    return None
+
+
+def look_at_reactions(checks, report, name, dialogues):
+    """Checks the line on the reaction of each end of a dialogue that does not pass."""
+    blocks = blocks_of(report.text, name)
+    for it in dialogues:
+        lines = blocks[it["dialogue"]].splitlines() if it["verdict"] != "pass" else []
+        for wanted in filter(None, (line_on_reaction(it, end) for end in "AB" if end in it and lines)):
+            checks.same(f"a line as {wanted}: {lines}", sum(bool(re.fullmatch(wanted, line)) for line in lines), 1)
 
 
 def look_at_trace(checks, trace, dialogues):
@@ -317,7 +367,12 @@ def as_printed(text):
 
 
 def line_of_passing(end, said):
-    """Returns the line on an end that passes unheard or unanswered, as a pattern: JSON has no kind of a message."""
+    """Returns the line on an end that passes unheard or unanswered, or by a reading, as a pattern: JSON has no kind of a
+    message."""
+    if "reading" in said:
+        before, after = TAKEN[said["reading"]["way"]]
+        entry = re.escape(f"  {end}: pass: {before}entry {said['reading']['entry']} of the dialogue")
+        return f"{entry}(, line .*)?{re.escape(f', which is no message{after}')}"
     line = f"  {end}: pass"
     if said["unheard"]:
         last, others = said["last_unheard"], said["unheard"] - 1
@@ -338,7 +393,7 @@ def look_at_passing(checks, report, name, trace, dialogues):
     named = [number for number, block in blocks.items() if block.split("\n")[0].endswith(": pass")]
     checks.same("the named ones that pass", named, [it["dialogue"] for it in passing][:MOST_UNHEARD])
     for it in passing[:MOST_UNHEARD]:
-        ends = [end for end in "AB" if end in it and (it[end]["unheard"] or not it[end]["sent"])]
+        ends = [end for end in "AB" if end in it and ("reading" in it[end] or it[end]["unheard"] or not it[end]["sent"])]
         wanted = [line_of_passing(end, it[end]) for end in ends]
         wanted += [re.escape(f"  note: {note['text']}") for note in it.get("notes", [])[:8]]
         found = blocks[it["dialogue"]].splitlines()[1:]
@@ -350,13 +405,15 @@ def look_at_passing(checks, report, name, trace, dialogues):
 
 
 def look_at_spots(checks, dialogues):
-    """Checks which ends have an entry that their run shows, and that its line is that of the entry."""
+    """Checks which ends have an entry that their run shows, and that its line is that of the entry. No run is shown of
+    an end whose peer sent a malformed message."""
     for it in dialogues:
         lines = [*it["lines"], *it.get("mark", [])[1:]]
         for end in "AB":
             said = it.get(end, {})
             is_passing, reason = said.get("verdict") == "pass", said.get("reason")
-            checks.same("a last unheard one", "last_unheard" in said, (is_passing and said["unheard"] > 0) or reason == "unheard")
+            is_named = "reading" not in said and ((is_passing and said["unheard"] > 0) or reason == "unheard")
+            checks.same("a last unheard one", "last_unheard" in said, is_named)
             checks.same("a stop", "stopped_at" in said, reason == "undecided")
             checks.holds("what is unanswered", "unanswered" not in said or (is_passing and said["sent"] == 0))
             for spot in [said[key] for key in ("last_unheard", "stopped_at", "unanswered") if key in said]:
@@ -395,6 +452,7 @@ def agree(checks, report):
         look_at_reasons(checks, report.dialogues[name])
         look_at_spots(checks, report.dialogues[name])
         look_at_passing(checks, report, name, trace, report.dialogues[name])
+        look_at_reactions(checks, report, name, report.dialogues[name])
     verdicts = [it["verdict"] for it in report.traces.values()]
     checks.same("status", report.status, STATUS[worst(verdicts)])
     front, *rest = report.text.splitlines()[-1].split(";")
@@ -405,14 +463,15 @@ def agree(checks, report):
 
 
 def end_of(it):
-    """Returns the verdict on an end as a text: with the count of unheard messages, or with the entry, the kind and the
-    reason."""
+    """Returns the verdict on an end as a text: with the count of unheard messages, and the way and the entry of a reading;
+    or with the entry, the kind and the reason. A fault in a reaction has REACTION in place of a kind."""
     if it is None:
         return None
     if it["verdict"] == "pass":
-        return f"pass {it['unheard']}"
-    if "kind" in it:
-        return f"{it['verdict']} {it['entry']} {it['kind']} {it.get('doubt', '')}".strip()
+        reading = it.get("reading")
+        return f"pass {it['unheard']}" + (f" {reading['way']} {reading['entry']}" if reading else "")
+    if "entry" in it:
+        return f"{it['verdict']} {it['entry']} {it.get('kind', REACTION)} {it.get('doubt', '')}".strip()
     return f"{it['verdict']} {it.get('text', '')}"
 
 
@@ -420,7 +479,7 @@ def is_end(found, wanted):
     """Returns whether the verdict on an end is the wanted one, as trace_rows.py spells it."""
     if wanted is None or found is None:
         return found == wanted
-    blamed = re.match(r"inconc (\d+ F\d+) ", wanted)
+    blamed = re.match(rf"inconc (\d+ (?:F\d+|{REACTION})) ", wanted)
     if blamed:
         return found.startswith(blamed[0]) and wanted[blamed.end() :] in found
     if wanted.startswith("inconc"):

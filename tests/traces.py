@@ -4,12 +4,14 @@ trace_outputs.py of written files, trace_messages.py of the messages of dialogue
 fault, trace_waits.py of what an open dialogue waits for, trace_unheard.py of dialogues that pass unheard and of notes,
 and trace_testcases.py of the testcases of JUnit XML. Then
 come traces of random dialogues: for each dialogue, as trace_cut.py cuts it, `test` must give the verdict that `blame`
-gives for the record of that dialogue alone. And nobody may fail in the traces of lawful_traces.py, whose ends keep the
+gives for the record of that dialogue alone; or that of oracle/malformed.py, for an end whose peer sent a malformed
+message before it is blamed. And nobody may fail in the traces of lawful_traces.py, whose ends keep the
 rules. All JSON is checked against docs/report.schema.json if python's jsonschema is installed, and all JUnit XML with
 junitparser if that is installed."""
 
 import collections
 import concurrent.futures
+import json
 import random
 import re
 import sys
@@ -31,8 +33,10 @@ import trace_testcases
 import trace_unheard
 import trace_waits
 import trace_words
+from judgement import Judge, entry_of
+from oracle import malformed
 from trace_cut import Segment
-from trace_rows import BEHIND, UNDECIDED, lines
+from trace_rows import AS_IF_MESSAGE, BEHIND, REACTION, SEVERAL, UNCLEAR, UNDECIDED, UNLIKELY, lines
 from traced import Checks, Report, agree, in_order, is_unheard, look_at_end, look_at_messages, missing, put, run, worst
 
 RANDOM_TRACES, SIDE_BY_SIDE = 30, 4
@@ -135,14 +139,14 @@ def look_at_text(checks, row, report, path):
 
 
 def look_at_order(checks, it, block):
-    """Checks the order of blamed ends: the lower entry comes first, and the text says that the other comes later. The
-    line of each has the sentence that is the first line of the reasons in JSON."""
-    blamed = [end for end in in_order(it) if "kind" in it.get(end, {})]
-    found = re.findall("^  ([AB]): [a-z]+ at entry .*, (F[0-9]+)(.*)$", block, re.MULTILINE)
-    is_later = len({it[end]["entry"] for end in blamed}) > 1
+    """Checks the order of blamed ends: the lower entry comes first, and the text says that the other comes later if it
+    has a kind. The line of each has the sentence that is the first line of the reasons in JSON."""
+    blamed = [end for end in in_order(it) if "entry" in it.get(end, {})]
+    found = re.findall("^  ([AB]): [a-z]+ at entry .*?(?:, (F[0-9]+))?: (.*)$", block, re.MULTILINE)
+    is_later = len({it[end]["entry"] for end in blamed}) > 1 and "kind" in it[blamed[1]]
     clauses = ["", f"; it comes later, and may follow from that of {blamed[0]}" if is_later else ""]
     sentences = [it[end]["text"].split("\n")[0].strip() for end in blamed]
-    wanted = [(end, it[end]["kind"], f": {said}{clause}") for end, said, clause in zip(blamed, sentences, clauses)]
+    wanted = [(end, it[end].get("kind", ""), said + clause) for end, said, clause in zip(blamed, sentences, clauses)]
     checks.same("the order of the ends", found, wanted)
 
 
@@ -216,16 +220,18 @@ def begins(headings):
 
 class Alone:
     """A dialogue of a random trace as a separate record, with the quiet mark after it if the dialogue is not over
-    there."""
+    there. `judge` judges by the table of the trace."""
 
-    def __init__(self, folder, table, headed, cut, is_marked, is_settled):
-        self.table, self.cut, self.is_settled = table, cut, is_settled
+    def __init__(self, folder, table, judge, headed, cut, is_marked, is_settled):
+        self.table, self.judge, self.cut, self.is_settled = table, judge, cut, is_settled
         mine = [headed[number] for number in cut.numbers]
         self.headings, octets = [heading for heading, _ in mine], octets_of(mine)
         is_live = bool(cut.ids) and not cut.is_over
         # With a table with prearranged ends it may have ended in silence before the mark.
         self.is_open = is_live and not (is_marked and table.prearranged)
         self.record = b"".join(octets) + b"Q" * (is_marked and is_live)
+        read = [entry_of(heading.end, bytes.fromhex(digits)) for heading, digits in mine]
+        self.entries = read + [None] * (is_marked and is_live)
         self.said = blamed(folder, self.record)
         # Nothing after an entry that is no message is looked at.
         looked_at = [it[1] for it in self.said.values() if it[0] == "not blamed" and it[1] < len(octets)]
@@ -244,7 +250,7 @@ class Alone:
         return not {("blamed", 0, "F1"), ("not blamed", 0)} & set(self.said.values())
 
     def doubt(self, end, entry, kind):
-        """Returns why it is inconclusive that an end is blamed, or None."""
+        """Returns why it is inconclusive that an end is blamed for an entry, or None."""
         if self.was_open:
             return self.was_open
         if kind == "F15":
@@ -253,21 +259,52 @@ class Alone:
         if kind == "F3" and here.kind == "Begin":
             if self.table.prearranged or not is_heard(self.headings[:entry], end, here.otid):
                 return trace_rows.GIVEN_UP
+        return self.general_doubt(end) or self.unread_before(entry)
+
+    def general_doubt(self, end):
+        """Returns why it is inconclusive that an end is blamed, for any entry, or None."""
+        if self.was_open:
+            return self.was_open
         # A dialogue without a Begin continues an earlier one: no ID came again there, and nothing has settled.
         has_settled = self.is_settled and begins(self.headings) and not self.cut.unsettled
         if self.cut.again and not has_settled:
             return trace_rows.CAME_AGAIN
         if self.cut.late and begins(self.headings) and self.headings[0].end != end and not self.is_settled:
             return trace_doubts.USED_BEFORE
-        if self.cut.unread is not None and self.cut.numbers[entry] > self.cut.unread:
-            return trace_rows.UNREAD
         return None
 
-    def passes(self, unheard):
-        return f"inconc {self.was_open}" if self.was_open else f"pass {unheard}"
+    def unread_before(self, entry):
+        """Returns that an unreadable entry before this one may be one of the dialogue, or None."""
+        is_so = self.cut.unread is not None and self.cut.numbers[entry] > self.cut.unread
+        return trace_rows.UNREAD if is_so else None
+
+    def passes(self, *words):
+        return f"inconc {self.was_open}" if self.was_open else " ".join(map(str, ("pass", *words)))
+
+    def fails_in_reaction(self, end, entry):
+        doubt = self.general_doubt(end) or self.unread_before(entry)
+        return f"inconc {entry} {REACTION} {doubt}" if doubt else f"fail {entry} {REACTION}"
+
+    def wanted_by(self, end, found):
+        """Returns the verdict that an end must have by a rule of malformed.py, without the doubts of other
+        dialogues."""
+        if found.rule == 2:
+            return self.fails_in_reaction(end, found.entry)
+        if found.rule == 3:
+            number = malformed.first_malformed(self.entries, end)
+            return self.passes(found.unheard, found.way, number) if found.way else f"inconc {BEHIND}"
+        if found.rule in (1, 4):
+            return f"inconc {SEVERAL if found.rule == 1 else UNLIKELY}"
+        # A reading of which the blame is inconclusive decides nothing.
+        if found.rule == 5 or self.general_doubt(end):
+            return f"inconc {UNCLEAR}"
+        return self.fails_in_reaction(end, found.entry) if found.rule == 6 else f"inconc {AS_IF_MESSAGE}"
 
     def wanted(self, end):
         """Returns the verdict that an end must have."""
+        found = malformed.verdict_on(self.judge, end, self.entries)
+        if found.rule > 0:
+            return self.wanted_by(end, found)
         verdict, *found = self.said[end]
         if verdict == "lawful":
             return self.passes(found[0])
@@ -289,6 +326,7 @@ class RandomTrace:
     def __init__(self, rng):
         maker = random_traces.Maker(rng)
         self.table, (self.headed, is_marked) = maker.table, maker.trace()
+        self.judge = Judge(json.loads(runs.table_text(self.table)))
         self.marked = [True] * (len(self.headed) - 1) + [is_marked]
         self.first, self.at, self.text, self.segments = [], [], [], []
         for headed, marked in zip(self.headed, self.marked):
@@ -317,7 +355,7 @@ class RandomTrace:
         cuts = trace_cut.cut(self.segments, "once" in flags, linger)
         for first, headed, marked, dialogues in zip(self.first, self.headed, self.marked, cuts):
             for cut in dialogues:
-                alone = Alone(folder, self.table, headed, cut, marked, flags == SETTLED)
+                alone = Alone(folder, self.table, self.judge, headed, cut, marked, flags == SETTLED)
                 ids = {end: sorted(id.hex() for of, id in cut.ids if of == end) for end in "AB"}
                 ends = {end: alone.wanted(end) for end in "AB"}
                 yield [first + number for number in cut.numbers], ids, cut, alone.is_open, ends, alone.record

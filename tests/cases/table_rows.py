@@ -137,7 +137,7 @@ BOOKS = [
     ('{"tables":[{"operations":[],"name":5}]}', 'FAULT 31 0\n  why: table 0: "name" is no text\n', "", 3),
     (
         '{"tables":[{"operations":[]},{"operations":[],"contexts":["2a0"]}]}',
-        'FAULT 31 0\n  why: table 1: "contexts" is no list of hex digits, two for each octet\n',
+        'FAULT 31 0\n  why: table 1: "contexts" is no list of hex digits, two for each octet, or dotted numbers\n',
         "",
         3,
     ),
@@ -204,6 +204,19 @@ BOOKS = [
         "table 0\nop=1 class=1\ntable 1\nop=2 class=1 linked=g:2a,42\nop=g:2a class=1\ntable 2\nop=2 class=1 linked=1\n",
         unlisted("table 1, row 1", 42) + unlisted("table 2, row 0", 1),
         0,
+    ),
+    # Contexts in dotted numbers (X.690 8.19).
+    (
+        '{"tables":[{"contexts":["0.4.0.0.1.0.21.2","2.999","1.3.6.1.4.1.311"],"operations":[]},{"contexts":["04000001001502"],"operations":[]}]}',
+        "table 0\ncontext=04000001001502\ncontext=8837\ncontext=2b060104018237\ntable 1\ncontext=04000001001502\n",
+        same_context("table 0", "table 1"),
+        3,
+    ),
+    (
+        '{"tables":[{"operations":[],"contexts":["0.4.00"]}]}',
+        'FAULT 31 0\n  why: table 0: "contexts" is no list of hex digits, two for each octet, or dotted numbers\n',
+        "",
+        3,
     ),
     # Two tables with one context: the first that shares one with a later table, and the first such. A beginning of a context is another.
     (

@@ -4,6 +4,7 @@ or by the directive that they are broken off. trace_directives.py has what a dir
 from trace_rows import (
     BACK,
     CAME_AGAIN,
+    DROPPED,
     INVOKE,
     IS_OPEN,
     LONG,
@@ -73,13 +74,13 @@ ROWS = [
         "with a line feed it is an entry, which is no message",
         "",
         lines(SHORT[0], WRONG_END, SHORT[0][:-2]),
-        [Wanted([0, 1], "01", "", "pass", "fail 1 F5"), Wanted([2], "", "", "fail 0 F1", open=None)],
+        [Wanted([0, 1], "01", "", "pass", "fail 1 F5"), Wanted([2], "", "", "fail 0 F1", DROPPED, open=None)],
     ),
     Row(
         "octets after a message make it none, also in a last line without a line feed",
         "",
         lines(*SHORT, f"A {begin('02')}00")[:-1],
-        [Wanted([0, 1], "01", ""), Wanted([2], "02", "", "fail 0 F1", open=True)],
+        [Wanted([0, 1], "01", ""), Wanted([2], "02", "", "fail 0 F1", DROPPED, open=True)],
     ),
     *(
         Row(

@@ -3,11 +3,13 @@ dialogues that were under way before the trace or at a quiet mark, entries that 
 be the dialogue's."""
 
 from trace_rows import (
+    AS_IF_MESSAGE,
     BACK,
     BAD_CONTINUE,
     BAD_LENGTH,
     BARE,
     BEHIND,
+    DROPPED,
     CAME_AGAIN,
     FIVE_OCTETS,
     GIVEN_UP,
@@ -122,7 +124,7 @@ UNDER_WAY_ROWS = [
         "so is one whose first entry is no message",
         "",
         lines(MAY_BE_UNDER_WAY, "", f"A {BAD_CONTINUE}"),
-        [Wanted([0], "01", "07", "fail 0 F1", open=True)],
+        [Wanted([0], "01", "07", "fail 0 F1", DROPPED, open=True)],
         has_directives=True,
     ),
     Row(
@@ -337,15 +339,15 @@ UNREAD_ROWS = [
             lines(SHORT[0], f"A {digits}", WRONG_END, f"B {begin('05')}", f"A {end('05', RESULT)}", f"A {end('0A')}"),
             [
                 Wanted([0, 2], "01", "", "pass", f"inconc 1 F5 {UNREAD}"),
-                Wanted([1], "", "", found, open=None),
+                Wanted([1], "", "", *found, open=None),
                 Wanted([3, 4], "", "05", "fail 1 F5"),
                 Wanted([5], "", "0a", f"inconc 0 F2 {UNREAD}"),
             ],
         )
-        for digits, found in [
-            (OTHER_TAG, "fail 0 F1"),
-            (NO_OCTETS, "fail 0 F1"),
-            (FIVE_OCTETS, "fail 0 F1"),
+        for digits, *found in [
+            (OTHER_TAG, "fail 0 F1", DROPPED),
+            (NO_OCTETS, "fail 0 F1", DROPPED),
+            (FIVE_OCTETS, "fail 0 F1", DROPPED),
             (BAD_LENGTH, f"inconc {BEHIND}"),
         ]
     ),
@@ -354,7 +356,8 @@ UNREAD_ROWS = [
             f"no message, {digits}: {name}",
             "",
             lines(f"A {digits}", f"B {end('01')}"),
-            [Wanted([0, 1], "01", peer, "fail 0 F1", f"inconc {BEHIND}")],
+            # B ends a dialogue that nothing else began.
+            [Wanted([0, 1], "01", peer, "fail 0 F1", f"inconc {AS_IF_MESSAGE}")],
             # A record has no such entries: its entries are whole elements.
             has_directives=is_cut,
         )
@@ -373,7 +376,7 @@ UNREAD_ROWS = [
             f"no message, {digits}: {name}",
             "",
             lines(SHORT[0], f"A {digits}", SHORT[1]),
-            [Wanted([0, 2], "01", ""), Wanted([1], "", "", "fail 0 F1", open=None)],
+            [Wanted([0, 2], "01", ""), Wanted([1], "", "", "fail 0 F1", DROPPED, open=None)],
             has_directives=is_cut,
         )
         for name, digits, is_cut in [
@@ -389,7 +392,7 @@ UNREAD_ROWS = [
         "a tag alone is of a message, so that the trace is judged",
         "",
         lines("A 6200"),
-        [Wanted([0], "", "", "fail 0 F1", open=None)],
+        [Wanted([0], "", "", "fail 0 F1", DROPPED, open=None)],
     ),
     Row(
         "a fault before it is one all the same, and behind a mark it is over",
@@ -398,7 +401,7 @@ UNREAD_ROWS = [
         [
             Wanted([0, 1], "01", "", "pass", "fail 1 F5"),
             Wanted([2], "", "0a", "fail 0 F2"),
-            Wanted([3], "", "", "pass", "fail 0 F1"),
+            Wanted([3], "", "", DROPPED, "fail 0 F1"),
             Wanted([5, 6], "01", "", "pass", "fail 1 F5"),
             Wanted([7], "", "0a", "fail 0 F2"),
         ],
@@ -409,9 +412,9 @@ UNREAD_ROWS = [
             "",
             lines(*before, SHORT[0], BACK, f"A {OTHER_TAG}", f"B {end('01', result('02'))}"),
             [
-                *(Wanted([at], "", "", "fail 0 F1", open=None) for at in range(len(before))),
+                *(Wanted([at], "", "", "fail 0 F1", DROPPED, open=None) for at in range(len(before))),
                 Wanted([at + len(before) for at in (0, 1, 3)], "01", "07", "pass", f"inconc 2 F5 {UNREAD}"),
-                Wanted([2 + len(before)], "", "", "fail 0 F1", open=None),
+                Wanted([2 + len(before)], "", "", "fail 0 F1", DROPPED, open=None),
             ],
         )
         for before in ([], [f"A {OTHER_TAG}"], [f"A {OTHER_TAG}"] * 2)
@@ -421,9 +424,9 @@ UNREAD_ROWS = [
         "",
         lines(f"A {OTHER_TAG}", SHORT[0], WRONG_CONTINUE, f"A {OTHER_TAG}"),
         [
-            Wanted([0], "", "", "fail 0 F1", open=None),
+            Wanted([0], "", "", "fail 0 F1", DROPPED, open=None),
             Wanted([1, 2], "01", "07", "pass", "fail 1 F5", open=True),
-            Wanted([3], "", "", "fail 0 F1", open=None),
+            Wanted([3], "", "", "fail 0 F1", DROPPED, open=None),
         ],
     ),
     Row(
@@ -437,10 +440,10 @@ UNREAD_ROWS = [
             f"A {OTHER_TAG}",
         ),
         [
-            Wanted([0], "", "", "pass", "fail 0 F1", open=None),
+            Wanted([0], "", "", DROPPED, "fail 0 F1", open=None),
             Wanted([1], "02", "08", f"inconc 0 F2 {UNREAD}", "pass 1", open=True),
             Wanted([2, 3], "", "05", "fail 1 F5"),
-            Wanted([4], "", "", "fail 0 F1", open=None),
+            Wanted([4], "", "", "fail 0 F1", DROPPED, open=None),
         ],
     ),
 ]

@@ -36,7 +36,7 @@ def in_order(it):
     """Returns the ends of a dialogue in the order of their verdicts: if both are blamed, the lower entry comes
     first."""
     ends = [end for end in "AB" if end in it]
-    both = all("kind" in it[end] for end in ends)
+    both = all("entry" in it[end] for end in ends)
     return sorted(ends, key=lambda end: (it[end]["entry"] if both else 0, end))
 
 
@@ -57,8 +57,8 @@ def headline_of(it, end):
     # The mark that ends a dialogue is the last of its entries.
     line = 0 if at is None else [*it["lines"], *it.get("mark", [])[1:]][at]
     place = f"line {line}" if line else f"entry {at} of the dialogue"
-    if "kind" in said:
-        words = f"{said['kind']}: {words.strip()}"
+    if "entry" in said:
+        words = f"{said['kind']}: {words.strip()}" if "kind" in said else words
         words += f"; inconclusive: {said['doubt']}" if "doubt" in said else ""
     elif behind:
         words = f"which {behind[2]}"

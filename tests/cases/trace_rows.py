@@ -103,9 +103,9 @@ OTHER_TAG, NO_OCTETS, FIVE_OCTETS, BAD_LENGTH = "6303040101", "62024800", "64074
 @dataclass
 class Wanted:
     """A dialogue: the numbers of its entries in the trace, the IDs of A and of B, and of each of these ends what is
-    said: `pass` and how many messages are unheard, 0 where that is left out; `fail ENTRY KIND`; `inconc ENTRY KIND
-    WORDS` or `inconc WORDS`, with words that the reason has. The entry is counted in the dialogue. None stands for an
-    end of which nothing is said."""
+    said: `pass` and how many messages are unheard, 0 where that is left out; `pass COUNT WAY ENTRY` by a reading, which
+    takes that entry in this way; `fail ENTRY KIND`; `inconc ENTRY KIND WORDS` or `inconc WORDS`, with words that the
+    reason has. The entry is counted in the dialogue. None stands for an end of which nothing is said."""
 
     entries: list
     a_ids: str
@@ -145,6 +145,11 @@ GIVEN_UP, MARK, CAME_AGAIN, LACKS = "given up", "quiet mark", "earlier", "table 
 UNDER_WAY, MAY_BE_UNDER_WAY = "never sent in the trace", "#: under way"
 UNREAD, BEHIND, IS_OPEN, UNDECIDED = "can't be read", "no message", "inconc open", "no entry of it is blamed"
 NO_TAG = "no entry has the tag of a message"
+# What is said of the reaction to a malformed message; the first stands for the kind of a fault in it.
+REACTION, SEVERAL, UNLIKELY = "reaction", "only one malformed message can be judged", "only if an Abort answers entry"
+AS_IF_MESSAGE, UNCLEAR = "it goes on as if entry", "it is open if it kept the rules"
+# An end whose peer sent octets that are no message alone discards these.
+DROPPED = "pass 1 dropped 0"
 
 # A dialogue that A begins and B ends; one that goes to and fro.
 SHORT = [f"A {begin('01')}", f"B {end('01')}"]
@@ -224,7 +229,7 @@ ROWS = [
         "F1, an empty component portion",
         "",
         lines("A 62054801016C00"),
-        [Wanted([0], "01", "", "fail 0 F1", open=True)],
+        [Wanted([0], "01", "", "fail 0 F1", DROPPED, open=True)],
     ),
     Row(
         "F2, to an ID that was never sent",
@@ -419,13 +424,13 @@ ROWS = [
         "F1, and the other end passes",
         "",
         lines(*LONG[:2], f"A {BAD_CONTINUE}"),
-        [Wanted([0, 1, 2], "01", "07", "fail 2 F1", open=True)],
+        [Wanted([0, 1, 2], "01", "07", "fail 2 F1", "pass 1 dropped 2", open=True)],
     ),
     Row(
-        "F1, and the other end sent something behind it",
+        "F1, and the other end, which discards it, ends the dialogue",
         "",
         lines(*LONG[:2], f"A {BAD_CONTINUE}", f"B {end('01')}"),
-        [Wanted([0, 1, 2, 3], "01", "07", "fail 2 F1", f"inconc {BEHIND}")],
+        [Wanted([0, 1, 2, 3], "01", "07", "fail 2 F1", "pass 1 dropped 2")],
     ),
     Row(
         "F1, and the other end was at fault before it",
@@ -433,11 +438,27 @@ ROWS = [
         lines(LONG[0], WRONG_CONTINUE, f"A {BAD_CONTINUE}"),
         [Wanted([0, 1, 2], "01", "07", "fail 2 F1", "fail 1 F5", open=True)],
     ),
+    *(
+        Row(
+            f"F1 of a Begin, and the other end {name}",
+            "",
+            lines(f"A {BAD_BEGIN}", *sent),
+            [Wanted([*range(1 + len(sent))], "01", own, "fail 0 F1", found, open=is_open)],
+        )
+        for name, sent, own, found, is_open in [
+            ("aborts, and goes on", [f"B {abort('01', '02')}", BACK], "07", f"fail 2 {REACTION}", False),
+            ("aborts twice", [f"B {abort('01', '02')}"] * 2, "", f"fail 2 {REACTION}", False),
+            ("says that its kind is unknown", [f"B {abort('01', '00')}"], "", f"fail 1 {REACTION}", False),
+            ("aborts, though all but the components is sound", [f"B {abort('01', '02')}"], "", f"inconc {UNLIKELY}", False),
+            ("hears two of them", [f"A {BAD_BEGIN}"], "", f"inconc {SEVERAL}", True),
+        ]
+    ),
     Row(
         "F1 of a Begin, and another dialogue goes on",
         "",
         lines(f"A {BAD_BEGIN}", f"B {begin('05')}", f"B {end('01')}", f"A {end('05', RESULT)}"),
-        [Wanted([0, 2], "01", "", "fail 0 F1", f"inconc {BEHIND}"), Wanted([1, 3], "", "05", "fail 1 F5")],
+        # B ends what the Begin, without its components, began.
+        [Wanted([0, 2], "01", "", "fail 0 F1", "pass 0 in part 0"), Wanted([1, 3], "", "05", "fail 1 F5")],
     ),
     Row(
         "a limit of the profile is nobody's fault",

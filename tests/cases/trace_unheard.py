@@ -83,10 +83,10 @@ PASSING = [
     ),
     Passing("an end that is not asked may not have heard it", CROSSED, [], words="--of A"),
     Passing(
-        "B goes on behind A's End, and then sends octets that are no message: A is judged by what comes before them",
+        "B goes on behind A's End, and then sends octets that are no message: no run is shown of A, which discards them",
         [*LONG, BACK, BAD],
-        ["dialogue 0, A 01, B 07: pass", "  A: pass, and may not have heard B's Continue at entry 3 of the dialogue, line 4"],
-        {(0, "A"): {"last_unheard": {"entry": 3, "line": 4}}},
+        ["dialogue 0, A 01, B 07: pass", "  A: pass: it discards entry 4 of the dialogue, line 5, which is no message"],
+        {(0, "A"): {"reading": {"entry": 4, "way": "dropped"}}},
         words="--of A",
     ),
     Passing(
@@ -133,7 +133,7 @@ def without_place(text, fields):
     """Returns the text and the fields of a trace that is a record: it has no lines and no comments."""
     for number in range(12, 0, -1):
         text = text.replace(f", line {number} (frame 812)", "").replace(f", line {number} (frame 9)", "").replace(f", line {number}", "")
-    return text, {of: {key: {"entry": it["entry"], "line": 0} for key, it in said.items()} for of, said in fields.items()}
+    return text, {of: {key: it if key == "reading" else {"entry": it["entry"], "line": 0} for key, it in said.items()} for of, said in fields.items()}
 
 
 def look_at_passing(checks, report, path, case, has_lines):
