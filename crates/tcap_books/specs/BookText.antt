@@ -11,6 +11,7 @@ use Rattle.tcap_end.specs.Table.{Table}
 use Rattle.tcap_end.specs.TableText.{IsJson, code_in, count_items, table_in, then_ok}
 use Rattle.tcap_books.specs.declared.fault.BookFault.{BookFault}
 use Rattle.tcap_books.specs.declared.fault.BookFault.TheVariants as faults
+use Rattle.tcap_books.specs.DottedContext.{dotted, has_dot}
 use Rattle.tcap_books.specs.Book.{NamedTable}
 
 -- the largest number of tables
@@ -78,9 +79,13 @@ abbrev pub octets_of : Result (List ℕ) FromHexError → Option (List ℕ)
 octets_of (Ok octets) = Some octets
 octets_of (Err e) = None
 
--- the octets of a string of hex digits
+-- the octets of a text: of dotted numbers if it has a dot, else of hex digits
+abbrev pub context_of : List ℕ → Option (List ℕ)
+context_of text = cond (has_dot text) (dotted text) (octets_of (decode_of text))
+
+-- the octets of a string
 abbrev pub context_in : Data → Option (List ℕ)
-context_in (string digits) = octets_of (decode_of digits)
+context_in (string text) = context_of text
 context_in _ = None
 
 -- the contexts, with those of a list added
@@ -103,18 +108,18 @@ named table row found code (Some None) = Ok found
 named table row found None (Some (Some name)) = Ok found
 named table row found (Some code) (Some (Some name)) = Ok (found ++ (code, name) ∷ [])
 
--- the names, with that of a row added
+-- these names and that of one more row, if it has a code and a name; or the fault of its name
 abbrev pub with_name : ℕ → ℕ → List (Code × List ℕ) → Data → Result (List (Code × List ℕ)) BookFault
 with_name table row found d =
     named table row found (option_and_then code_in (get (codes "code") d)) (name_in (get (codes "name") d))
 
--- the names, with those of the rows from number `row` on added
+-- these names and those of the rows from number `row` on; or the first fault of a name
 abbrev pub names_with : ℕ → ℕ → List (Code × List ℕ) → Items → Result (List (Code × List ℕ)) BookFault
 names_with table row found no_items = Ok found
 names_with table row found (item d more) = then_ok (with_name table row found d)
     (λ next. names_with table (suc row) next more)
 
--- the names of the operations of a table
+-- the names of the operations of a table, or the first fault of a name
 abbrev pub names_in : ℕ → Option Data → Result (List (Code × List ℕ)) BookFault
 names_in table (Some (array rows)) = names_with table 0 [] rows
 names_in table _ = Ok []

@@ -11,11 +11,12 @@ ghost use Rattle.tcap_end.specs.TableText.{IsJson, IsTableOf, code_in, global_of
 ghost use Rattle.tcap_books.specs.declared.fault.BookFault.TheVariants as BookFault;
 ghost use Rattle.tcap_books.specs.Book.{NamedTable as Meant};
 ghost use Rattle.tcap_books.specs.declared.fault.BookFault.{BookFault as Fault};
-ghost use Rattle.tcap_books.specs.BookText.{IsBookOf, IsPlain, bare_table, book_in, context_in, contexts_in, contexts_with, name_in, named_table_in};
+ghost use Rattle.tcap_books.specs.BookText.{IsBookOf, IsPlain, bare_table, book_in, context_in, context_of, contexts_in, contexts_with, name_in, named_table_in};
 ghost use Rattle.tcap_books.specs.BookText.{has_one_key, names_in, names_with, plain, refused_table, tables_in, tables_with, with_name};
 
 use crate::bare::bare_table;
 use crate::book::{Book, Context, NamedTable};
+use crate::dotted::{dotted_in, has_dot};
 use crate::fault::BookFault;
 use crate::names::Names;
 use hex::FromHexError;
@@ -42,17 +43,30 @@ fn name_in(alloc: Global, value: Option<&Value>) -> Result<Option<Option<String>
     }
 }
 
-/// Reads octets from a string of hex digits.
+/// Reads the octets of a text: of dotted numbers if it has a dot, else of hex digits.
+fn context_of(alloc: Global, text: &str) -> Result<Option<Vec<u8>>, AllocError>
+    ensures { IfOk result (λ octets. option_map (λ v. v.items) octets ≡ context_of text.now) }
+{
+    if has_dot(text) {
+        return dotted_in(alloc, text);
+    }
+    match hex::decode(alloc, text) {
+        Ok(octets) => Ok(Some(octets)),
+        Err(FromHexError::OutOfMemory) => Err(AllocError),
+        Err(_) => Ok(None),
+    }
+}
+
+/// Reads a context from a string.
 fn context_in(alloc: Global, value: &Value) -> Result<Option<Context>, AllocError>
     ensures { IfOk result (λ context. context ≡ context_in (view value.now)) }
 {
-    let Some(digits) = value.as_str() else {
+    let Some(text) = value.as_str() else {
         return Ok(None);
     };
-    match hex::decode(alloc, digits) {
-        Ok(octets) => Ok(Some(Context { octets })),
-        Err(FromHexError::OutOfMemory) => Err(AllocError),
-        Err(_) => Ok(None),
+    match context_of(alloc, text)? {
+        Some(octets) => Ok(Some(Context { octets })),
+        None => Ok(None),
     }
 }
 
@@ -305,7 +319,7 @@ fn read_book(alloc: Global, octets: &[u8]) -> Result<Book, BookFault>
 }
 
 impl Book {
-    /// Reads a book from a JSON text, whose shape FORMAT.md describes.
+    /// Reads a book from a JSON text, whose shape docs/TABLES.md describes.
     ///
     /// A text without a key `"tables"` is read as a single table.
     ///

@@ -22,9 +22,10 @@ pub enum BookFault {
     Table(u64, TableFault),
     /// The name of the table with this number is not a string.
     TableName(u64),
-    /// The contexts of the table with this number are not a list of strings of hex digits, two for each octet.
+    /// The contexts of the table with this number are not a list of strings of hex digits, two for each octet, or of
+    /// dotted numbers.
     Contexts(u64),
-    /// In the table with the first number, the name of the row with the second number is not a string.
+    /// The name of a row is not a string. The first number is that of the table, the second that of the row.
     RowName(u64, u64),
     /// Memory ran out.
     Memory,
@@ -68,7 +69,7 @@ impl fmt::Display for BookFault {
             BookFault::TableName(table) => write!(f, "table {table}: \"name\" is no text"),
             BookFault::Contexts(table) => write!(
                 f,
-                "table {table}: \"contexts\" is no list of hex digits, two for each octet"
+                "table {table}: \"contexts\" is no list of hex digits, two for each octet, or dotted numbers"
             ),
             BookFault::RowName(table, row) => {
                 write!(f, "table {table}, row {row}: \"name\" is no text")

@@ -5,6 +5,7 @@ mod bare;
 mod book;
 mod book_text;
 mod carried;
+mod dotted;
 mod fault;
 mod names;
 

@@ -1,2 +1,3 @@
 pub mod Devices
 pub mod Tables
+pub mod Texts

@@ -1,7 +1,8 @@
 //! A writer that remembers whether the last fault was a bad line, or a record with too many entries.
 
-ghost use Rattle.std.specs.Prelude.{◌≡◌};
-ghost use Rattle.tcap_diagnostics.specs.Devices.{fault_writer_inner};
+ghost use Rattle.std.specs.Prelude.{◌≡◌, false};
+ghost use Rattle.tcap_ber.specs.Device.{CountsFailure, Takes};
+ghost use Rattle.tcap_diagnostics.specs.Devices.{fault_writer_inner, is_too_many, notes_too_many};
 
 use tcap_ber::{Failed, Write};
 
@@ -23,7 +24,8 @@ pub struct FaultWriter<W> {
 impl<W> FaultWriter<W> {
     /// Creates a writer over `writer` to which nothing was written yet.
     pub fn new(writer: W) -> FaultWriter<W>
-        ensures { fault_writer_inner result ≡ writer }
+        ensures inner { fault_writer_inner result ≡ writer }
+        ensures nothing { notes_too_many result ≡ false }
     {
         FaultWriter {
             writer,
@@ -38,7 +40,9 @@ impl<W> FaultWriter<W> {
     }
 
     /// Returns whether the last octets written begin with the fault of a record with too many entries.
-    pub fn is_too_many(&self) -> bool {
+    pub fn is_too_many(&self) -> bool
+        ensures { result ≡ notes_too_many self.now }
+    {
         self.too_many
     }
 }
@@ -48,7 +52,13 @@ impl<W: Write> Write for FaultWriter<W> {
 
     ghost failures = { λ device. W.failures (fault_writer_inner device) };
 
-    fn write_all(&mut self, octets: &[u8]) -> Result<(), Failed> {
+    fn write_all(&mut self, octets: &[u8]) -> Result<(), Failed>
+        ensures takes { Takes (W.taken (fault_writer_inner self.old)) (W.taken (fault_writer_inner self.new)) result
+            octets.now }
+        ensures counts { CountsFailure (W.failures (fault_writer_inner self.old))
+            (W.failures (fault_writer_inner self.new)) result }
+        ensures noted { notes_too_many self.new ≡ is_too_many octets.now }
+    {
         self.bad_line = octets.starts_with(BAD_LINE);
         self.too_many = octets.starts_with(TOO_MANY);
         self.writer.write_all(octets)

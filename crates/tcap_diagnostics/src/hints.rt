@@ -299,8 +299,8 @@ fn write<W: Write>(octets: &[u8], writer: &mut W) -> Result<(), WriteFailed>
     writer.write_all(octets).map_err(|_| WriteFailed)
 }
 
-/// Writes a hint if a file that begins with `first` cannot be used in this role. The line names the path, if there is
-/// one, and comes after a fault.
+/// Writes a hint if a file that begins with `first` cannot be used in this role. The hint is a line, with the path
+/// if one is given. Callers write it after a line of fault.
 ///
 /// # Errors
 /// `WriteFailed` if the writer fails in this call.

@@ -1,8 +1,11 @@
 //! The rule that a line of digits breaks, and the column.
 
-ghost use Rattle.std.specs.Prelude.{◌≡◌, OnOk, OnErr};
+ghost use Rattle.std.specs.Prelude.{◌≡◌, ◌++◌, ℕ, List, Option, None, Ok, IfOk, IfSome, OnOk, OnErr, codes, string_bytes};
+ghost use Rattle.std.specs.Fmt.{decimal};
 ghost use Rattle.tcap_ber.specs.Device.{one_more};
+ghost use Rattle.tcap_record.specs.HexLines.{IsNoLine, StandsFor};
 ghost use Rattle.tcap_diagnostics.specs.Devices.{fault_writer_inner};
+ghost use Rattle.tcap_diagnostics.specs.Texts.{Extends, column_of};
 
 use crate::fault_writer::FaultWriter;
 use crate::line_reader::{LineReader, Tail};
@@ -10,7 +13,7 @@ use crate::names::name_of;
 use std::alloc::{AllocError, Global};
 use tcap_ber::{Outer, Reason, Write, outer};
 use tcap_lines::WriteFailed;
-use tcap_record::{LINE_LIMIT, LINES_LIMIT};
+use tcap_record::{LINE_LIMIT, LINES_LIMIT, LineFault, read_line};
 
 /// A rule for lines of digits.
 #[derive(Clone, Copy, Debug, PartialEq, Eq)]
@@ -81,23 +84,35 @@ fn after_octets(rule: Rule, count: u64) -> BrokenRule {
     broken_after(rule, before * 2 + 2)
 }
 
-/// Returns the rule that the digits after an end and a space break, if any.
-fn broken_digits(alloc: Global, digits: &[u8]) -> Result<Option<BrokenRule>, AllocError> {
+/// Returns the rule that the digits after an end and a space break, in a bad line.
+fn digits_rule(alloc: Global, digits: &[u8]) -> Result<BrokenRule, AllocError> {
     if let Some(at) = digits.iter().position(|digit| value_of(*digit).is_none()) {
-        return Ok(Some(broken_after(Rule::Digit, at.saturating_add(2))));
+        return Ok(broken_after(Rule::Digit, at.saturating_add(2)));
     }
     if digits.is_empty() {
-        return Ok(Some(broken_after(Rule::Digit, 2)));
+        return Ok(broken_after(Rule::Digit, 2));
     }
     if digits.len() % 2 == 1 {
-        return Ok(Some(broken_after(Rule::Count, digits.len().saturating_add(1))));
+        return Ok(broken_after(Rule::Count, digits.len().saturating_add(1)));
     }
     let octets = octets_of(alloc, digits)?;
     match outer(&octets) {
-        Ok(Outer::Whole(len)) if len == octets.len() => Ok(None),
-        Ok(Outer::Whole(len)) => Ok(Some(after_octets(Rule::Behind, len as u64))),
-        Ok(Outer::Need(_)) => Ok(Some(after_octets(Rule::Cut, octets.len() as u64))),
-        Err(fault) => Ok(Some(after_octets(Rule::Element(fault.reason), fault.place))),
+        Ok(Outer::Whole(len)) => Ok(after_octets(Rule::Behind, len as u64)),
+        Ok(Outer::Need(_)) => Ok(after_octets(Rule::Cut, octets.len() as u64)),
+        Err(fault) => Ok(after_octets(Rule::Element(fault.reason), fault.place)),
+    }
+}
+
+/// Returns the rule that a bad line breaks.
+fn rule_of(alloc: Global, content: &[u8]) -> Result<BrokenRule, AllocError> {
+    if content.len() > LINE_LIMIT {
+        return Ok(broken_after(Rule::Long, LINE_LIMIT));
+    }
+    match content {
+        [b'Q', ..] => Ok(broken_after(Rule::Mark, 1)),
+        [b'A' | b'B', b' ', digits @ ..] => digits_rule(alloc, digits),
+        [b'A' | b'B', ..] => Ok(broken_after(Rule::Space, 1)),
+        _ => Ok(broken_after(Rule::End, 0)),
     }
 }
 
@@ -106,16 +121,15 @@ fn broken_digits(alloc: Global, digits: &[u8]) -> Result<Option<BrokenRule>, All
 ///
 /// # Errors
 /// `AllocError` if memory runs out.
-pub fn broken_by(alloc: Global, content: &[u8]) -> Result<Option<BrokenRule>, AllocError> {
-    if content.len() > LINE_LIMIT {
-        return Ok(Some(broken_after(Rule::Long, LINE_LIMIT)));
-    }
-    match content {
-        [] | [b'#', ..] | [b'Q'] => Ok(None),
-        [b'Q', ..] => Ok(Some(broken_after(Rule::Mark, 1))),
-        [b'A' | b'B', b' ', digits @ ..] => broken_digits(alloc, digits),
-        [b'A' | b'B', ..] => Ok(Some(broken_after(Rule::Space, 1))),
-        _ => Ok(Some(broken_after(Rule::End, 0))),
+pub fn broken_by(alloc: Global, content: &[u8]) -> Result<Option<BrokenRule>, AllocError>
+    // A rule is returned exactly if the line is bad.
+    ensures bad { IfOk result (λ broken. IfSome broken (λ _. IsNoLine content.now)) }
+    ensures good { result ≡ Ok None → (line : Option (List ℕ)) × StandsFor content.now line }
+{
+    match read_line(alloc, content) {
+        Ok(_) => Ok(None),
+        Err(LineFault::Bad) => Ok(Some(rule_of(alloc, content)?)),
+        Err(LineFault::Memory) => Err(AllocError),
     }
 }
 
@@ -159,7 +173,9 @@ fn broken_in(alloc: Global, tail: &Tail) -> Result<Option<BrokenRule>, AllocErro
 }
 
 /// Appends the fault in words.
-fn push_rule(text: &mut String, rule: Rule) -> Result<(), AllocError> {
+fn push_rule(text: &mut String, rule: Rule) -> Result<(), AllocError>
+    ensures { OnOk result (Extends (string_bytes text.old) (string_bytes text.new)) }
+{
     match rule {
         Rule::End => text.push_str("no end"),
         Rule::Space => text.push_str("no space behind the end"),
@@ -181,7 +197,11 @@ fn push_rule(text: &mut String, rule: Rule) -> Result<(), AllocError> {
 ///
 /// # Errors
 /// `AllocError` if memory runs out.
-pub fn push_broken_rule(text: &mut String, broken: BrokenRule) -> Result<(), AllocError> {
+pub fn push_broken_rule(text: &mut String, broken: BrokenRule) -> Result<(), AllocError>
+    // The text continues with the rule in words, and then with the column.
+    ensures { OnOk result ((rule : List ℕ) × (string_bytes text.new
+        ≡ string_bytes text.old ++ rule ++ codes "; column " ++ decimal (column_of broken))) }
+{
     let column = broken.column;
     push_rule(text, broken.rule)?;
     write!(text, "; column {column}")
@@ -194,7 +214,8 @@ pub(crate) fn push_broken(text: &mut String, broken: BrokenRule) -> Result<(), A
     text.push_str("\n")
 }
 
-/// Returns the line on the rule that the last lines break, or no text if they break none.
+/// Returns the line that explains which rule the last lines break. It is empty if they break none, or if octets of them
+/// are missing because memory ran out.
 fn rule_line(alloc: Global, tail: &Tail) -> Result<String, AllocError> {
     let mut text = String::new(alloc);
     if !tail.lost {

@@ -38,7 +38,7 @@ fn keep_last(octets: &mut Vec<u8>, count: usize) {
     }
 }
 
-/// Returns the message of the entry at the front, which is the end of the held octets.
+/// Returns the message octets of the entry at the front. The held octets end with this entry.
 fn message_of<'a>(frames: &Frames, held: &'a [u8]) -> &'a [u8] {
     match &held[held.len().saturating_sub(frames.buffered())..] {
         [_, message @ ..] => message,
@@ -110,7 +110,7 @@ impl ShowState {
         Ok(taken)
     }
 
-    /// Writes the lines of the entry at the front and drops it, if it is whole. Returns whether it was.
+    /// Writes the lines of the entry at the front and drops the entry, if it is whole. Returns whether it was whole.
     fn show_front<W: Write>(&mut self, writer: &mut W) -> Result<bool, Stop>
         ensures write { result ≡ Err Stop.Write → W.failures writer.new ≡ one_more (W.failures writer.old) }
         ensures others { result ≢ Err Stop.Write → W.failures writer.new ≡ W.failures writer.old }
