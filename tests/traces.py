@@ -295,7 +295,7 @@ class Alone:
             return self.passes(found.unheard, found.way, number) if found.way else f"inconc {BEHIND}"
         if found.rule in (1, 4):
             return f"inconc {SEVERAL if found.rule == 1 else UNLIKELY}"
-        # A reading of which the blame is inconclusive decides nothing.
+        # If the blame in a reading is inconclusive, so is the result.
         if found.rule == 5 or self.general_doubt(end):
             return f"inconc {UNCLEAR}"
         return self.fails_in_reaction(end, found.entry) if found.rule == 6 else f"inconc {AS_IF_MESSAGE}"

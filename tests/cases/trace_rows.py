@@ -145,7 +145,7 @@ GIVEN_UP, MARK, CAME_AGAIN, LACKS = "given up", "quiet mark", "earlier", "table 
 UNDER_WAY, MAY_BE_UNDER_WAY = "never sent in the trace", "#: under way"
 UNREAD, BEHIND, IS_OPEN, UNDECIDED = "can't be read", "no message", "inconc open", "no entry of it is blamed"
 NO_TAG = "no entry has the tag of a message"
-# What is said of the reaction to a malformed message; the first stands for the kind of a fault in it.
+# Words for the reaction to a malformed message. The first one is used in place of the kind of a fault.
 REACTION, SEVERAL, UNLIKELY = "reaction", "only one malformed message can be judged", "only if an Abort answers entry"
 AS_IF_MESSAGE, UNCLEAR = "it goes on as if entry", "it is open if it kept the rules"
 # An end whose peer sent octets that are no message alone discards these.
